@@ -1,0 +1,250 @@
+-- Where an operation gives the exact value: a value that a format holds rounds to itself, and so does a product or a sum that the format holds. Assumes nothing.
+use mathlib.Core.Path.{_≡_, refl, sym, ap, _∙_, subst}
+use Prim.Native.Nat.{ℕ, zero, suc, _+_, _*_, _^_, _<_}
+use native.Mathlib.Nat.{le-refl, le-of-eq, le-of-lt, lt-of-le-of-lt, zero-lt-suc, zero-mul, mul-pos, mul-le-mul}
+use native.Mathlib.Omega.{arith}
+use mathlib.Core.Bool.{Bool, true, false, not}
+use lib.IntN.{ℤ, pos}
+use lib.Dec.{T, lit<}
+use lib.Pow.{pow-add}
+use lib.Ieee.{Float, nan, inf, fin, Format, binary32, binary64, up, down, unlike, round, add, sub, mul, neg, eq, fits, isNan, ofBits}
+use lib.Ieee.Fits.{up-pos, down-pos, round-fits}
+use lib.Ieee.Exact.{HasValue, round-exact}
+use lib.Ieee.Scale.{round-same}
+use Rattle.numbers.specs.Constants.{oneOf}
+use Rattle.numbers.specs.Narrow.{narrowOf}
+use Rattle.numbers.proofs.Differences.{scale-plus, scale-minus, sum-is, unlike-false, zero-of}
+use Rattle.numbers.proofs.Laws.Order.{plus, minus, eq-refl, eq-zeros}
+use Rattle.numbers.proofs.Held.{held, count, value-unique}
+
+-- ---- rounding
+-- A value that the format holds is what its own fraction rounds to.
+pub round-held : (f : Format) (s : Bool) (m : ℕ) (e : ℤ) → T (fits f (fin s m e)) → round f s (m * up e) (down e) ≡ fin s m e
+round-held f s m e p =
+    let h = held f s m e p in
+    value-unique f (round f s (m * up e) (down e)) (fin s m e) s (m * up e) (down e) (down-pos e) (round-fits f s (m * up e) (down e)) p
+    (round-exact f s (m * up e) (down e) (h .digits) (h .zeros) (down-pos e) (h .few) (h .fine) (h .value)) (refl, refl)
+
+-- It is what any fraction of its value rounds to.
+pub round-value : (f : Format) (v : Float) (s : Bool) (a c : ℕ) → 0 < c → T (fits f v) → HasValue v s a c → round f s a c ≡ v
+round-value f nan s a c C p h = absurd h
+round-value f (inf t) s a c C p h = absurd h
+round-value f (fin t m e) s a c C p h =
+    ap (λ (b : Bool). round f b a c) (sym (h .0)) ∙ round-same f t a c (m * up e) (down e) C (down-pos e) (sym (h .1)) ∙ round-held f t m e p
+
+-- A value of binary32 narrows to itself.
+pub narrow-held : (x : Float) → T (fits binary32 x) → narrowOf x ≡ x
+unfolding narrowOf
+narrow-held nan p = refl
+narrow-held (inf s) p = refl
+narrow-held (fin s m e) p = round-held binary32 s m e p
+
+-- ---- products
+-- A product whose exact value the format holds is that value.
+pub mul-held : (f : Format) (s : Bool) (m : ℕ) (e : ℤ) (t : Bool) (n : ℕ) (d : ℤ) (v : Float) → T (fits f v) → HasValue v (unlike s t) (m * up e * (n * up d)) (down e * down d)
+    → mul f (fin s m e) (fin t n d) ≡ v
+unfolding mul
+mul-held f s m e t n d v p h = round-value f v (unlike s t) (m * up e * (n * up d)) (down e * down d) (mul-pos (down-pos e) (down-pos d)) p h
+
+one-is : (f : Format) → oneOf f ≡ fin false 1 (pos 0)
+unfolding ofBits
+one-is binary32 = refl
+one-is binary64 = refl
+
+-- A value that the format holds, times 1, is itself.
+pub mul-by-one : (f : Format) (x : Float) → T (fits f x) → mul f x (oneOf f) ≡ x
+mul-by-one f x p = ap (mul f x) (one-is f) ∙ go x p
+  where
+    go : (x : Float) → T (fits f x) → mul f x (fin false 1 (pos 0)) ≡ x
+    go nan p = unfold mul in refl
+    go (inf s) p = unfold mul in ap inf (unlike-false s)
+    go (fin s m e) p = mul-held f s m e false 1 (pos 0) (fin s m e) p (sym (unlike-false s), turn (m * up e) (down e))
+      where
+        turn : (a c : ℕ) → a * (c * 1) ≡ a * (1 * 1) * c
+        turn a c = omega arith
+
+-- The product in binary64 of two finite values of binary32 is exact, so it is finite.
+pub mul-exact : (s : Bool) (m : ℕ) (e : ℤ) (t : Bool) (n : ℕ) (d : ℤ) → T (fits binary32 (fin s m e)) → T (fits binary32 (fin t n d))
+    → HasValue (mul binary64 (fin s m e) (fin t n d)) (unlike s t) (m * up e * (n * up d)) (down e * down d)
+unfolding mul
+mul-exact s m e t n d p q =
+    let h = held binary32 s m e p in
+    let k = held binary32 t n d q in
+    let z = h .zeros + k .zeros + 776 in
+    let same : h .digits * k .digits * 2 ^ z ≡ count binary32 m e h * count binary32 n d k * 2 ^ 776 = spread (h .digits) (k .digits) (h .zeros) (k .zeros) in
+    round-exact binary64 (unlike s t) (m * up e * (n * up d)) (down e * down d) (h .digits * k .digits) z (mul-pos (down-pos e) (down-pos d))
+    (lt-of-le-of-lt (mul-le-mul (le-of-lt (h .few)) (le-of-lt (k .few))) (lit< tt))
+    (lt-of-le-of-lt (le-of-eq same) (lt-of-le-of-lt (mul-le-mul (mul-le-mul (le-of-lt (h .fine)) (le-of-lt (k .fine))) (le-refl (2 ^ 776))) (lit< tt)))
+    (whole (m * up e) (n * up d) (count binary32 m e h) (count binary32 n d k) (down e) (down d) (2 ^ 149) (2 ^ 776) (h .value) (k .value)
+    ∙ ap (λ (x : ℕ). x * (down e * down d)) (sym same))
+  where
+    spread : (x y i j : ℕ) → x * y * 2 ^ (i + j + 776) ≡ x * 2 ^ i * (y * 2 ^ j) * 2 ^ 776
+    spread x y i j =
+        ap (λ (z : ℕ). x * y * z) (pow-add 2 (i + j) 776 ∙ ap (λ (z : ℕ). z * 2 ^ 776) (pow-add 2 i j)) ∙ regroup x y (2 ^ i) (2 ^ j) (2 ^ 776)
+      where
+        regroup : (x y p q r : ℕ) → x * y * (p * q * r) ≡ x * p * (y * q) * r
+        regroup x y p q r = omega arith
+
+    whole : (a b A B c g L R : ℕ) → a * L ≡ A * c → b * L ≡ B * g → a * b * (L * L * R) ≡ A * B * R * (c * g)
+    whole a b A B c g L R e h = one a b L R ∙ ap (λ (x : ℕ). x * (b * L) * R) e ∙ ap (λ (x : ℕ). A * c * x * R) h ∙ two A B c g R
+      where
+        one : (a b L R : ℕ) → a * b * (L * L * R) ≡ a * L * (b * L) * R
+        one a b L R = omega arith
+
+        two : (A B c g R : ℕ) → A * c * (B * g) * R ≡ A * B * R * (c * g)
+        two A B c g R = omega arith
+
+-- ---- sums
+-- x + y = v, as whole numbers over the product of the three denominators: what is positive on either side and negative on the other
+abbrev pub Adds : Float → Float → Float → Type 0
+Adds nan y v = ⊥
+Adds (inf s) y v = ⊥
+Adds (fin s m e) nan v = ⊥
+Adds (fin s m e) (inf t) v = ⊥
+Adds (fin s m e) (fin t n d) nan = ⊥
+Adds (fin s m e) (fin t n d) (inf u) = ⊥
+Adds (fin s m e) (fin t n d) (fin u k g) =
+    let a = m * up e * down d * down g in
+    let b = n * up d * down e * down g in
+    let r = k * up g * (down e * down d) in
+    plus s a + plus t b + minus u r ≡ plus u r + minus s a + minus t b
+
+-- the sum as `add` has it, and the value v = ±R / p, agree
+agree : (s : Bool) (a : ℕ) (t : Bool) (b : ℕ) (u : Bool) (R : ℕ) (c p : ℕ) (w : Bool) (r : ℕ)
+    → plus s (a * p) + plus t (b * p) + minus u (R * c) ≡ plus u (R * c) + minus s (a * p) + minus t (b * p)
+    → plus w r + minus s a + minus t b ≡ minus w r + plus s a + plus t b
+    → plus w r * p + minus u R * c ≡ plus u R * c + minus w r * p
+agree s a t b u R c p w r h k =
+    omega (arith, ap (λ (x : ℕ). x * p) k, scale-plus s a p, scale-plus t b p, scale-minus s a p, scale-minus t b p, scale-plus u R c, scale-minus u R c)
+
+signs : (u : Bool) (R c p : ℕ) (w : Bool) (r : ℕ) → 0 < R * c → plus w r * p + minus u R * c ≡ plus u R * c + minus w r * p → (u ≡ w) × (R * c ≡ r * p)
+signs false R c p false r P h = (refl, omega arith)
+signs true R c p true r P h = (refl, omega arith)
+signs true R c p false r P h = absurd (no (r * p) (R * c) P h)
+  where
+    no : (x y : ℕ) → 0 < y → x + y ≡ 0 * c + 0 * p → ⊥
+    no x y P h = omega arith
+signs false R c p true r P h = absurd (no (r * p) (R * c) P h)
+  where
+    no : (x y : ℕ) → 0 < y → 0 * p + 0 * c ≡ y + x → ⊥
+    no x y P h = omega arith
+
+-- A sum that is exactly a value of the format other than zero is that value.
+pub add-exact : (f : Format) (x y : Float) (u : Bool) (k : ℕ) (g : ℤ) → T (fits f (fin u (suc k) g)) → Adds x y (fin u (suc k) g) → add f x y ≡ fin u (suc k) g
+unfolding add
+add-exact f nan y u k g p h = absurd h
+add-exact f (inf s) y u k g p h = absurd h
+add-exact f (fin s m e) nan u k g p h = absurd h
+add-exact f (fin s m e) (inf t) u k g p h = absurd h
+add-exact f (fin s m e) (fin t n d) u k g p h =
+    let c = down e * down d in
+    let R = suc k * up g in
+    let a = m * up e * down d in
+    let b = n * up d * down e in
+    let w = sum-is f s a t b c in
+    let C : 0 < c = mul-pos (down-pos e) (down-pos d) in
+    let same = agree s a t b u R c (down g) (w .sign) (w .size) h (w .value) in
+    w .is ∙ round-value f (fin u (suc k) g) (w .sign) (w .size) c C p (signs u R c (down g) (w .sign) (w .size) (mul-pos (mul-pos (zero-lt-suc k) (up-pos g)) C) same)
+
+zero-fits : (f : Format) (s : Bool) → T (fits f (fin s 0 (pos 0)))
+unfolding fits
+zero-fits f s = tt
+
+no-size : (u w : Bool) (r p c R : ℕ) → R ≡ 0 → plus w r * p + minus u R * c ≡ plus u R * c + minus w r * p → r * p ≡ 0
+no-size true true r p c R z h = sym h' ∙ ap (λ (x : ℕ). x * c) z ∙ zero-mul c
+  where
+    h' : R * c ≡ r * p
+    h' = omega arith
+no-size false false r p c R z h = h' ∙ ap (λ (x : ℕ). x * c) z ∙ zero-mul c
+  where
+    h' : r * p ≡ R * c
+    h' = omega arith
+no-size true false r p c R z h = omega arith
+no-size false true r p c R z h = omega arith
+
+-- A sum that is exactly zero is a zero.
+pub add-exact-zero : (f : Format) (x y : Float) (u : Bool) (g : ℤ) → Adds x y (fin u 0 g) → (w : Bool) × (add f x y ≡ fin w 0 (pos 0))
+unfolding add
+add-exact-zero f nan y u g h = absurd h
+add-exact-zero f (inf s) y u g h = absurd h
+add-exact-zero f (fin s m e) nan u g h = absurd h
+add-exact-zero f (fin s m e) (inf t) u g h = absurd h
+add-exact-zero f (fin s m e) (fin t n d) u g h =
+    let c = down e * down d in
+    let R = 0 * up g in
+    let a = m * up e * down d in
+    let b = n * up d * down e in
+    let w = sum-is f s a t b c in
+    let C : 0 < c = mul-pos (down-pos e) (down-pos d) in
+    let z : w .size ≡ 0 = zero-of (w .size) (down g) (down-pos g) (no-size u (w .sign) (w .size) (down g) c R (zero-mul (up g)) (agree s a t b u R c (down g) (w .sign) (w .size) h (w .value))) in
+    (w .sign, w .is ∙ ap (λ (x : ℕ). round f (w .sign) x c) z ∙ round-value f (fin (w .sign) 0 (pos 0)) (w .sign) 0 c C (zero-fits f (w .sign)) (refl, ap (λ (x : ℕ). x * c) (zero-mul 1) ∙ zero-mul c ∙ sym (zero-mul 1)))
+
+-- ---- equality
+-- So a sum that is exactly a value of the format equals that value, a zero of either sign.
+pub add-exact-eq : (f : Format) (x y v : Float) → T (fits f v) → Adds x y v → T (eq (add f x y) v)
+add-exact-eq f nan y v p h = absurd h
+add-exact-eq f (inf s) y v p h = absurd h
+add-exact-eq f (fin s m e) nan v p h = absurd h
+add-exact-eq f (fin s m e) (inf t) v p h = absurd h
+add-exact-eq f (fin s m e) (fin t n d) nan p h = absurd h
+add-exact-eq f (fin s m e) (fin t n d) (inf u) p h = absurd h
+add-exact-eq f (fin s m e) (fin t n d) (fin u zero g) p h =
+    let z = add-exact-zero f (fin s m e) (fin t n d) u g h in
+    subst (λ (x : Float). T (eq x (fin u 0 g))) (sym (z .1)) (eq-zeros (z .0) (pos 0) u g)
+add-exact-eq f (fin s m e) (fin t n d) (fin u (suc k) g) p h =
+    subst (λ (x : Float). T (eq x (fin u (suc k) g))) (sym (add-exact f (fin s m e) (fin t n d) u k g p h)) (eq-refl (fin u (suc k) g) (unfold isNan in tt))
+
+-- ---- differences: x - y is v where v + y is x
+sub-adds : (x y v : Float) → Adds v y x → Adds x (neg y) v
+unfolding neg
+sub-adds x y nan h = absurd h
+sub-adds x y (inf s) h = absurd h
+sub-adds x nan (fin u k g) h = absurd h
+sub-adds x (inf t) (fin u k g) h = absurd h
+sub-adds nan (fin t n d) (fin u k g) h = absurd h
+sub-adds (inf s) (fin t n d) (fin u k g) h = absurd h
+sub-adds (fin s m e) (fin t n d) (fin u k g) h =
+    turned s (m * up e) (down e) t (n * up d) (down d) u (k * up g) (down g) h
+  where
+    turned : (s : Bool) (a p : ℕ) (t : Bool) (b q : ℕ) (u : Bool) (c r : ℕ)
+        → plus u (c * q * p) + plus t (b * r * p) + minus s (a * (r * q)) ≡ plus s (a * (r * q)) + minus u (c * q * p) + minus t (b * r * p)
+        → plus s (a * q * r) + plus (not t) (b * p * r) + minus u (c * (p * q)) ≡ plus u (c * (p * q)) + minus s (a * q * r) + minus (not t) (b * p * r)
+    turned s a p t b q u c r h =
+        moved s (a * q * r) (a * (r * q)) t (b * p * r) (b * r * p) u (c * (p * q)) (c * q * p) (omega arith) (omega arith) (omega arith) h
+      where
+        moved : (s : Bool) (a a' : ℕ) (t : Bool) (b b' : ℕ) (u : Bool) (c c' : ℕ) → a ≡ a' → b ≡ b' → c ≡ c'
+            → plus u c' + plus t b' + minus s a' ≡ plus s a' + minus u c' + minus t b'
+            → plus s a + plus (not t) b + minus u c ≡ plus u c + minus s a + minus (not t) b
+        moved s a a' true b b' u c c' x y z h = omega (arith, ap (plus s) x, ap (minus s) x, ap (plus u) z, ap (minus u) z)
+        moved s a a' false b b' u c c' x y z h = omega (arith, ap (plus s) x, ap (minus s) x, ap (plus u) z, ap (minus u) z)
+
+-- A difference that is exactly a value of the format other than zero is that value.
+pub sub-exact : (f : Format) (x y : Float) (u : Bool) (k : ℕ) (g : ℤ) → T (fits f (fin u (suc k) g)) → Adds (fin u (suc k) g) y x → sub f x y ≡ fin u (suc k) g
+unfolding sub
+sub-exact f x y u k g p h = add-exact f x (neg y) u k g p (sub-adds x y (fin u (suc k) g) h)
+
+-- So a difference that is exactly a value of the format equals that value, a zero of either sign.
+pub sub-exact-eq : (f : Format) (x y v : Float) → T (fits f v) → Adds v y x → T (eq (sub f x y) v)
+unfolding sub
+sub-exact-eq f x y v p h = add-exact-eq f x (neg y) v p (sub-adds x y v h)
+
+-- ---- sums with zero
+adds-zero : (s : Bool) (m : ℕ) (e : ℤ) (t : Bool) → Adds (fin s m e) (fin t 0 (pos 0)) (fin s m e)
+adds-zero s m e t = go s t (m * up e) (down e)
+  where
+    go : (s t : Bool) (a c : ℕ) → plus s (a * 1 * c) + plus t (0 * 1 * c * c) + minus s (a * (c * 1)) ≡ plus s (a * (c * 1)) + minus s (a * 1 * c) + minus t (0 * 1 * c * c)
+    go true true a c = omega arith
+    go true false a c = omega arith
+    go false true a c = omega arith
+    go false false a c = omega arith
+
+-- A value that the format holds, with a zero added, equals itself.
+pub add-zero-eq : (f : Format) (x : Float) (t : Bool) → T (fits f x) → T (not (isNan x)) → T (eq (add f x (fin t 0 (pos 0))) x)
+unfolding isNan
+add-zero-eq f nan t p n = absurd n
+add-zero-eq f (inf s) t p n = unfold add in eq-refl (inf s) (unfold isNan in tt)
+add-zero-eq f (fin s m e) t p n = add-exact-eq f (fin s m e) (fin t 0 (pos 0)) (fin s m e) p (adds-zero s m e t)
+
+-- One that is not zero is itself.
+pub add-zero-nonzero : (f : Format) (s : Bool) (m : ℕ) (e : ℤ) (t : Bool) → T (fits f (fin s (suc m) e)) → add f (fin s (suc m) e) (fin t 0 (pos 0)) ≡ fin s (suc m) e
+add-zero-nonzero f s m e t p = add-exact f (fin s (suc m) e) (fin t 0 (pos 0)) s m e p (adds-zero s (suc m) e t)

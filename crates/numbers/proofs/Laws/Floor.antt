@@ -1,0 +1,179 @@
+-- The floor of a float: what it is, that it grows with the value, and its bounds. Assumes nothing.
+use mathlib.Core.Path.{_≡_, sym, ap, _∙_, subst}
+use mathlib.Core.Bool.{Bool, true, false}
+use Prim.Native.Nat.{ℕ, zero, suc, _+_, _-_, _*_, _/_, _%_, _^_, _≤_, _<_, min, zero-le, suc-le-suc}
+use native.Mathlib.Nat.{zero-div, le-trans, le-of-eq, le-of-suc-le-suc, div-le-of-le-mul, div-lt-iff-lt-mul, div-add-mod', mod-lt, mul-comm, mul-pos, zero-mul}
+use native.Mathlib.Omega.{arith}
+use lib.Dec.{T, le→leb, leb→le, lit≤}
+use lib.IntN.{ℤ, pos, negsuc, negℤ, natAbs}
+use lib.Signed.{leZ, mag}
+use lib.Ieee.{Float, nan, inf, fin, up, down, le}
+use lib.Ieee.Fits.{up-pos, down-pos}
+use lib.Ieee.Nearest.{div-mono}
+use mir.Syntax.{w64}
+use mir.Val.{SFits}
+use Rattle.numbers.specs.Floor.{floorOf}
+use Rattle.numbers.proofs.Differences.{zero-of}
+use Rattle.numbers.proofs.Laws.Order.{AtMost, le→at-most}
+use Rattle.numbers.proofs.Flooring.{ceiling, ceiling-le, ceiling-mono, ceiling-suc, ceiling-zero, capped, capped-most}
+
+-- ---- what it is
+-- The floor of a value x that is not negative, and below 2 ^ 63, is a k with k ≤ x < k + 1.
+pub floor-plain : (m : ℕ) (e : ℤ) → m * up e < 2 ^ 63 * down e → (k : ℕ) × (floorOf (fin false m e) ≡ pos k) × (k * down e ≤ m * up e) × (m * up e < suc k * down e)
+unfolding floorOf
+floor-plain m e h =
+    let a = m * up e in
+    let c = down e in
+    let q = a / c in
+    let w = around a c q (a % c) (div-add-mod' a c) (mod-lt a (down-pos e)) in
+    (q, ap pos (capped q (div-lt-iff-lt-mul (down-pos e) .1 h)), w .0, w .1)
+  where
+    around : (a c q r : ℕ) → q * c + r ≡ a → r < c → (q * c ≤ a) × (a < suc q * c)
+    around a c q r e l = (omega arith, omega arith)
+
+-- The floor of a value x below 0, and not below -2 ^ 63, is a -(k + 1) with -(k + 1) ≤ x < -k.
+pub floor-minus : (m : ℕ) (e : ℤ) → 0 < m → m * up e ≤ 2 ^ 63 * down e → (k : ℕ) × (floorOf (fin true m e) ≡ negsuc k) × (k * down e < m * up e) × (m * up e ≤ suc k * down e)
+unfolding floorOf
+floor-minus m e p h =
+    let a = m * up e in
+    let c = down e in
+    let A : 0 < a = mul-pos p (up-pos e) in
+    let q = (a - 1) / c in
+    let w = around a c q ((a - 1) % c) A (div-add-mod' (a - 1) c) (mod-lt (a - 1) (down-pos e)) in
+    let n : ceiling a c ≡ suc q = ceiling-suc a c A (down-pos e) in (
+      q,
+      ap (λ (k : ℕ). negℤ (pos (min k 9223372036854775808))) n ∙ ap (λ (k : ℕ). negℤ (pos k)) (capped-most (suc q) (le-trans (le-of-eq (sym n)) (ceiling-le a c (2 ^ 63) (down-pos e) h))),
+      w .0,
+      w .1,
+    )
+  where
+    around : (a c q r : ℕ) → 0 < a → q * c + r ≡ a - 1 → r < c → (q * c < a) × (a ≤ suc q * c)
+    around a c q r A e l = (omega arith, omega arith)
+
+-- The floor of either zero is 0.
+pub floor-zero : (s : Bool) (e : ℤ) → floorOf (fin s 0 e) ≡ pos 0
+unfolding floorOf
+floor-zero true e = ap (λ (a : ℕ). negℤ (pos (min (ceiling a (down e)) 9223372036854775808))) (zero-mul (up e)) ∙ ap (λ (k : ℕ). negℤ (pos (min k 9223372036854775808))) (ceiling-zero (down e) (down-pos e))
+floor-zero false e = ap (λ (a : ℕ). pos (min (a / down e) 9223372036854775807)) (zero-mul (up e)) ∙ ap (λ (k : ℕ). pos (min k 9223372036854775807)) (zero-div (down e))
+
+-- ---- it grows with the value
+-- the order of two numbers, turned by a sign
+neg-pos : (j k : ℕ) → T (leZ (negℤ (pos j)) (pos k))
+neg-pos zero k = le→leb 0 k zero-le
+neg-pos (suc j) k = tt
+
+neg-neg : (j k : ℕ) → k ≤ j → T (leZ (negℤ (pos j)) (negℤ (pos k)))
+neg-neg zero zero h = tt
+neg-neg zero (suc k) h = absurd (no k h)
+  where
+    no : (k : ℕ) → suc k ≤ 0 → ⊥
+    no k h = omega arith
+neg-neg (suc j) zero h = tt
+neg-neg (suc j) (suc k) h = le→leb k j (le-of-suc-le-suc h)
+
+min-mono : (a b c : ℕ) → a ≤ b → min a c ≤ min b c
+min-mono a b c h = omega arith
+
+min-le : (a c : ℕ) → min a c ≤ c
+min-le a c = omega arith
+
+-- the ends of the range
+floor-least : (x : Float) → T (leZ (negsuc 9223372036854775807) (floorOf x))
+unfolding floorOf
+floor-least nan = tt
+floor-least (inf true) = tt
+floor-least (inf false) = tt
+floor-least (fin true m e) = neg-neg 9223372036854775808 (min (ceiling (m * up e) (down e)) 9223372036854775808) (min-le (ceiling (m * up e) (down e)) 9223372036854775808)
+floor-least (fin false m e) = tt
+
+floor-most : (x : Float) → T (leZ (floorOf x) (pos 9223372036854775807))
+unfolding floorOf
+floor-most nan = tt
+floor-most (inf true) = tt
+floor-most (inf false) = tt
+floor-most (fin true m e) = neg-pos (min (ceiling (m * up e) (down e)) 9223372036854775808) 9223372036854775807
+floor-most (fin false m e) = le→leb (min (m * up e / down e) 9223372036854775807) 9223372036854775807 (min-le (m * up e / down e) 9223372036854775807)
+
+-- The floor of a value is at most that of a larger one.
+pub floor-mono : (x y : Float) → T (le x y) → T (leZ (floorOf x) (floorOf y))
+unfolding floorOf le
+floor-mono nan y h = absurd h
+floor-mono (inf true) y h = floor-least y
+floor-mono (inf false) nan h = absurd h
+floor-mono (inf false) (inf true) h = absurd h
+floor-mono (inf false) (inf false) h = tt
+floor-mono (inf false) (fin t n d) h = absurd h
+floor-mono (fin s m e) nan h = absurd h
+floor-mono (fin s m e) (inf true) h = absurd h
+floor-mono (fin s m e) (inf false) h = floor-most (fin s m e)
+floor-mono (fin false m e) (fin false n d) h =
+    let q = m * up e / down e in
+    let r = n * up d / down d in
+    le→leb (min q 9223372036854775807) (min r 9223372036854775807)
+    (min-mono q r 9223372036854775807 (div-mono (m * up e) (down e) (n * up d) (down d) (down-pos e) (down-pos d) (plain (m * up e * down d) (n * up d * down e) (le→at-most false m e false n d h))))
+  where
+    plain : (a b : ℕ) → AtMost false a false b → a ≤ b
+    plain a b h = omega arith
+floor-mono (fin false m e) (fin true n d) h =
+    let z = none (m * up e * down d) (n * up d * down e) (le→at-most false m e true n d h) in
+    subst (λ (k : ℕ). T (leZ (floorOf (fin false k e)) (floorOf (fin true n d)))) (sym (zero-of m (up e) (up-pos e) (zero-of (m * up e) (down d) (down-pos d) (z .0))))
+    (subst (λ (k : ℕ). T (leZ (floorOf (fin false 0 e)) (floorOf (fin true k d)))) (sym (zero-of n (up d) (up-pos d) (zero-of (n * up d) (down e) (down-pos e) (z .1))))
+    (subst (λ (u : ℤ). T (leZ u (floorOf (fin true 0 d)))) (sym (floor-zero false e)) (subst (λ (u : ℤ). T (leZ (pos 0) u)) (sym (floor-zero true d)) tt)))
+  where
+    none : (a b : ℕ) → AtMost false a true b → (a ≡ 0) × (b ≡ 0)
+    none a b h = (omega arith, omega arith)
+floor-mono (fin true m e) (fin false n d) h = neg-pos (min (ceiling (m * up e) (down e)) 9223372036854775808) (min (n * up d / down d) 9223372036854775807)
+floor-mono (fin true m e) (fin true n d) h =
+    let q = ceiling (m * up e) (down e) in
+    let r = ceiling (n * up d) (down d) in
+    neg-neg (min q 9223372036854775808) (min r 9223372036854775808)
+    (min-mono r q 9223372036854775808 (ceiling-mono (n * up d) (down d) (m * up e) (down e) (down-pos d) (down-pos e) (plain (m * up e * down d) (n * up d * down e) (le→at-most true m e true n d h))))
+  where
+    plain : (a b : ℕ) → AtMost true a true b → b ≤ a
+    plain a b h = omega arith
+
+-- ---- bounds
+-- Every floor is an i64.
+pub floor-fits : (x : Float) → SFits w64 (floorOf x)
+floor-fits x = record { sfits = go (floorOf x) (floor-least x) (floor-most x) }
+  where
+    go : (z : ℤ) → T (leZ (negsuc 9223372036854775807) z) → T (leZ z (pos 9223372036854775807)) → mag z < 9223372036854775808
+    go (pos k) a b = under k (leb→le k 9223372036854775807 b)
+      where
+        under : (k : ℕ) → k ≤ 9223372036854775807 → k < 9223372036854775808
+        under k h = omega arith
+    go (negsuc k) a b = under k (leb→le k 9223372036854775807 a)
+      where
+        under : (k : ℕ) → k ≤ 9223372036854775807 → k < 9223372036854775808
+        under k h = omega arith
+
+-- A value of a size up to n has a floor of a size up to n.
+pub floor-size : (n : ℕ) (s : Bool) (m : ℕ) (e : ℤ) → m * up e ≤ n * down e → natAbs (floorOf (fin s m e)) ≤ n
+unfolding floorOf
+floor-size n true m e h = abs-neg (min (ceiling (m * up e) (down e)) 9223372036854775808) (least (ceiling (m * up e) (down e)) 9223372036854775808 (ceiling-le (m * up e) (down e) n (down-pos e) h))
+  where
+    abs-neg : (k : ℕ) → k ≤ n → natAbs (negℤ (pos k)) ≤ n
+    abs-neg zero l = l
+    abs-neg (suc k) l = l
+
+    least : (a b : ℕ) → a ≤ n → min a b ≤ n
+    least a b l = omega arith
+floor-size n false m e h = least (m * up e / down e) 9223372036854775807 (div-le-of-le-mul (down e) (le-trans h (le-of-eq (mul-comm n (down e)))))
+  where
+    least : (a b : ℕ) → a ≤ n → min a b ≤ n
+    least a b l = omega arith
+
+-- A value between two has a floor of a size up to that of theirs.
+pub floor-between : (lo x hi : Float) (n : ℕ) → T (le lo x) → T (le x hi) → natAbs (floorOf lo) ≤ n → natAbs (floorOf hi) ≤ n → natAbs (floorOf x) ≤ n
+floor-between lo x hi n h k a b = go (floorOf lo) (floorOf x) (floorOf hi) (floor-mono lo x h) (floor-mono x hi k) a b
+  where
+    go : (l z u : ℤ) → T (leZ l z) → T (leZ z u) → natAbs l ≤ n → natAbs u ≤ n → natAbs z ≤ n
+    go l (pos k) (pos j) h g a b = le-trans (leb→le k j g) b
+    go l (pos k) (negsuc j) h g a b = absurd g
+    go (pos i) (negsuc k) u h g a b = absurd h
+    go (negsuc i) (negsuc k) u h g a b = le-trans (suc-le-suc (leb→le k i h)) a
+
+-- A value from -(2 ^ 20 + 1) to 2 ^ 20 + 1 has a floor from -1048577 to 1048577.
+pub floor-cell : (x : Float) → T (le (fin true 1048577 (pos 0)) x) → T (le x (fin false 1048577 (pos 0))) → natAbs (floorOf x) ≤ 1048577
+unfolding floorOf
+floor-cell x h k = floor-between (fin true 1048577 (pos 0)) x (fin false 1048577 (pos 0)) 1048577 h k (lit≤ tt) (lit≤ tt)

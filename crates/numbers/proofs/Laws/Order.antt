@@ -1,0 +1,386 @@
+-- The order of floats: `le`, `lt` and `eq` over all that are no NaN, the infinities too, and what `neg` and `absOf` make of it. Assumes nothing.
+-- `T (not (isNan x))` says that x is no NaN. A comparison that holds says so of both of its operands.
+use mathlib.Core.Path.{_≡_, refl, sym, ap, _∙_, subst}
+use mathlib.Core.Logic.{_⊎_, inl, inr}
+use Prim.Native.Nat.{ℕ, _*_}
+use native.Mathlib.Nat.{zero-mul}
+use native.Mathlib.Omega.{arith}
+use mathlib.Core.Bool.{Bool, true, false, not, _||_, Bool·beq}
+use lib.IntN.{ℤ, pos}
+use lib.Dec.{T, not-T, eqb, eqb→eq}
+use lib.Ieee.{Float, nan, inf, fin, Format, up, down, neg, le, lt, eq, isNan, fits}
+use lib.Ieee.Fits.{up-pos, down-pos, and-l, and-r}
+use Rattle.numbers.specs.Select.{absOf}
+use Rattle.numbers.proofs.Held.{value-unique}
+use Rattle.numbers.proofs.Differences.{or-split, or-l, or-r, of-below, of-not-below, of-level, at-most, of-at-most, flip, nothing, through, zero-of}
+-- `AtMost s a t b` is ±a ≤ ±b of signed whole numbers, negative where s or t is true.
+pub use Rattle.numbers.proofs.Differences.{plus, minus, AtMost}
+
+-- 0 and 1
+abbrev pub nought : Float
+nought = fin false 0 (pos 0)
+
+abbrev pub one : Float
+one = fin false 1 (pos 0)
+
+-- neither a NaN nor an infinity
+abbrev pub finite : Float → Type 0
+finite nan = ⊥
+finite (inf s) = ⊥
+finite (fin s m e) = Unit
+
+-- A finite value is no NaN.
+pub finite-number : (x : Float) → finite x → T (not (isNan x))
+unfolding isNan
+finite-number (fin s m e) i = tt
+
+-- ---- two finite values compare as fractions
+-- The order of two finite values is that of their fractions, each over the other's denominator.
+pub le→at-most : (s : Bool) (m : ℕ) (e : ℤ) (t : Bool) (n : ℕ) (d : ℤ) → T (le (fin s m e) (fin t n d)) → AtMost s (m * up e * down d) t (n * up d * down e)
+unfolding le
+le→at-most s m e t n d h = at-most s (m * up e * down d) t (n * up d * down e) h
+
+-- The order of two fractions is that of the finite values.
+pub at-most→le : (s : Bool) (m : ℕ) (e : ℤ) (t : Bool) (n : ℕ) (d : ℤ) → AtMost s (m * up e * down d) t (n * up d * down e) → T (le (fin s m e) (fin t n d))
+unfolding le
+at-most→le s m e t n d h = of-at-most s (m * up e * down d) t (n * up d * down e) h
+
+-- ---- what a comparison says of its operands
+-- A value that is at most another is no NaN.
+pub number-left : (x y : Float) → T (le x y) → T (not (isNan x))
+unfolding le isNan
+number-left nan y h = h
+number-left (inf s) y h = tt
+number-left (fin s m e) y h = tt
+
+-- A value that another is at most is no NaN.
+pub number-right : (x y : Float) → T (le x y) → T (not (isNan y))
+unfolding le isNan
+number-right nan y h = absurd h
+number-right (inf s) nan h = h
+number-right (inf s) (inf t) h = tt
+number-right (inf s) (fin t n d) h = tt
+number-right (fin s m e) nan h = h
+number-right (fin s m e) (inf t) h = tt
+number-right (fin s m e) (fin t n d) h = tt
+
+-- ---- `le` is an order
+-- What is less is at most.
+pub le-of-lt : (x y : Float) → T (lt x y) → T (le x y)
+unfolding le
+le-of-lt x y h = or-l (lt x y) (eq x y) h
+
+-- What is equal is at most.
+pub le-of-eq : (x y : Float) → T (eq x y) → T (le x y)
+unfolding le
+le-of-eq x y h = or-r (lt x y) (eq x y) h
+
+-- Each value that is no NaN is at most itself.
+pub le-refl : (x : Float) → T (not (isNan x)) → T (le x x)
+unfolding le isNan
+le-refl nan n = absurd n
+le-refl (inf true) n = tt
+le-refl (inf false) n = tt
+le-refl (fin s m e) n = of-at-most s (m * up e * down e) s (m * up e * down e) (omega arith)
+
+-- What is not less is at least.
+pub le-of-not-lt : (x y : Float) → T (not (isNan x)) → T (not (isNan y)) → T (not (lt x y)) → T (le y x)
+unfolding le isNan
+le-of-not-lt nan y m n h = absurd m
+le-of-not-lt (inf s) nan m n h = absurd n
+le-of-not-lt (inf true) (inf true) m n h = tt
+le-of-not-lt (inf true) (inf false) m n h = absurd h
+le-of-not-lt (inf false) (inf true) m n h = tt
+le-of-not-lt (inf false) (inf false) m n h = tt
+le-of-not-lt (inf true) (fin t o d) m n h = absurd h
+le-of-not-lt (inf false) (fin t o d) m n h = tt
+le-of-not-lt (fin s k e) nan m n h = absurd n
+le-of-not-lt (fin s k e) (inf true) m n h = tt
+le-of-not-lt (fin s k e) (inf false) m n h = absurd h
+le-of-not-lt (fin s k e) (fin t o d) m n h = of-at-most t (o * up d * down e) s (k * up e * down d) (of-not-below s (k * up e * down d) t (o * up d * down e) h)
+
+-- What is less is not at least.
+pub lt-not-le : (x y : Float) → T (lt x y) → T (le y x) → ⊥
+unfolding le
+lt-not-le nan y h k = absurd h
+lt-not-le (inf s) nan h k = absurd h
+lt-not-le (inf true) (inf true) h k = absurd h
+lt-not-le (inf true) (inf false) h k = absurd k
+lt-not-le (inf false) (inf t) h k = absurd h
+lt-not-le (inf true) (fin t n d) h k = absurd k
+lt-not-le (inf false) (fin t n d) h k = absurd h
+lt-not-le (fin s m e) nan h k = absurd h
+lt-not-le (fin s m e) (inf true) h k = absurd h
+lt-not-le (fin s m e) (inf false) h k = absurd k
+lt-not-le (fin s m e) (fin t n d) h k = omega (arith, of-below s (m * up e * down d) t (n * up d * down e) h, at-most t (n * up d * down e) s (m * up e * down d) k)
+
+opposite : (a b : Bool) → (T a → T b → ⊥) → (T (not b) → T a) → a ≡ not b
+opposite true true h k = absurd (h tt tt)
+opposite true false h k = refl
+opposite false true h k = refl
+opposite false false h k = absurd (k tt)
+
+turn : (a b : Bool) → a ≡ not b → b ≡ not a
+turn true true e = e
+turn true false e = refl
+turn false true e = refl
+turn false false e = e
+
+-- At most is not greater.
+pub le-is-not-lt : (x y : Float) → T (not (isNan x)) → T (not (isNan y)) → le x y ≡ not (lt y x)
+le-is-not-lt x y m n = opposite (le x y) (lt y x) (λ h k. lt-not-le y x k h) (le-of-not-lt y x n m)
+
+-- Less is not at least.
+pub lt-is-not-le : (x y : Float) → T (not (isNan x)) → T (not (isNan y)) → lt x y ≡ not (le y x)
+lt-is-not-le x y m n = turn (le y x) (lt x y) (le-is-not-lt y x n m)
+
+-- Of two values that are no NaN one is at most the other.
+pub le-total : (x y : Float) → T (not (isNan x)) → T (not (isNan y)) → T (le x y) ⊎ T (le y x)
+le-total x y m n = go (lt x y) (le-of-lt x y) (le-of-not-lt x y m n)
+  where
+    go : (b : Bool) → (T b → T (le x y)) → (T (not b) → T (le y x)) → T (le x y) ⊎ T (le y x)
+    go true h k = inl (h tt)
+    go false h k = inr (k tt)
+
+-- -∞ is at most each value.
+pub inf-le : (x : Float) → T (not (isNan x)) → T (le (inf true) x)
+unfolding le isNan
+inf-le nan n = absurd n
+inf-le (inf true) n = tt
+inf-le (inf false) n = tt
+inf-le (fin s m e) n = tt
+
+-- Each value is at most ∞.
+pub le-inf : (x : Float) → T (not (isNan x)) → T (le x (inf false))
+unfolding le isNan
+le-inf nan n = absurd n
+le-inf (inf true) n = tt
+le-inf (inf false) n = tt
+le-inf (fin s m e) n = tt
+
+-- The order passes on.
+pub le-trans : (x y z : Float) → T (le x y) → T (le y z) → T (le x z)
+unfolding le
+le-trans nan y z h k = absurd h
+le-trans (inf true) y z h k = inf-le z (number-right y z k)
+le-trans (inf false) nan z h k = absurd h
+le-trans (inf false) (inf true) z h k = absurd h
+le-trans (inf false) (inf false) z h k = k
+le-trans (inf false) (fin t n d) z h k = absurd h
+le-trans (fin s m e) nan z h k = absurd h
+le-trans (fin s m e) (inf true) z h k = absurd h
+le-trans (fin s m e) (inf false) nan h k = absurd k
+le-trans (fin s m e) (inf false) (inf true) h k = absurd k
+le-trans (fin s m e) (inf false) (inf false) h k = tt
+le-trans (fin s m e) (inf false) (fin v o g) h k = absurd k
+le-trans (fin s m e) (fin t n d) nan h k = absurd k
+le-trans (fin s m e) (fin t n d) (inf true) h k = absurd k
+le-trans (fin s m e) (fin t n d) (inf false) h k = tt
+le-trans (fin s m e) (fin t n d) (fin v o g) h k =
+    of-at-most s (m * up e * down g) v (o * up g * down e)
+    (through s (m * up e) (down e) t (n * up d) (down d) v (o * up g) (down g) (down-pos d) (at-most s (m * up e * down d) t (n * up d * down e) h) (at-most t (n * up d * down g) v (o * up g * down d) k))
+
+-- What lies between two finite values is finite.
+pub between-finite : (lo x hi : Float) → finite lo → finite hi → T (le lo x) → T (le x hi) → finite x
+unfolding le
+between-finite (fin s m e) nan (fin t n d) i j h k = absurd k
+between-finite (fin s m e) (inf true) (fin t n d) i j h k = absurd h
+between-finite (fin s m e) (inf false) (fin t n d) i j h k = absurd k
+between-finite (fin s m e) (fin r o g) (fin t n d) i j h k = tt
+
+-- ---- `lt`
+-- What is not at most is greater.
+pub lt-of-not-le : (x y : Float) → T (not (isNan x)) → T (not (isNan y)) → T (not (le x y)) → T (lt y x)
+lt-of-not-le x y m n h = subst T (sym (lt-is-not-le y x n m)) h
+
+-- No value is less than itself.
+pub lt-irrefl : (x : Float) → T (lt x x) → ⊥
+lt-irrefl x h = lt-not-le x x h (le-of-lt x x h)
+
+-- At most, then less, is less.
+pub lt-of-le-of-lt : (x y z : Float) → T (le x y) → T (lt y z) → T (lt x z)
+lt-of-le-of-lt x y z h k = lt-of-not-le z x (number-right y z (le-of-lt y z k)) (number-left x y h) (not-T (le z x) (λ g. lt-not-le y z k (le-trans z x y g h)))
+
+-- Less, then at most, is less.
+pub lt-of-lt-of-le : (x y z : Float) → T (lt x y) → T (le y z) → T (lt x z)
+lt-of-lt-of-le x y z h k = lt-of-not-le z x (number-right y z k) (number-left x y (le-of-lt x y h)) (not-T (le z x) (λ g. lt-not-le x y h (le-trans y z x k g)))
+
+-- Less passes on.
+pub lt-trans : (x y z : Float) → T (lt x y) → T (lt y z) → T (lt x z)
+lt-trans x y z h k = lt-of-lt-of-le x y z h (le-of-lt y z k)
+
+-- ---- `eq`
+-- Two values that are at most each other are equal.
+pub eq-of-le-le : (x y : Float) → T (le x y) → T (le y x) → T (eq x y)
+unfolding le
+eq-of-le-le x y h k = elim (or-split (lt x y) (eq x y) h) [ inl l ↦ absurd (lt-not-le x y l k) | inr e ↦ e ]
+
+-- What is equal is at least.
+pub ge-of-eq : (x y : Float) → T (eq x y) → T (le y x)
+unfolding le
+ge-of-eq nan y h = absurd h
+ge-of-eq (inf s) nan h = absurd h
+ge-of-eq (inf true) (inf true) h = tt
+ge-of-eq (inf true) (inf false) h = absurd h
+ge-of-eq (inf false) (inf true) h = absurd h
+ge-of-eq (inf false) (inf false) h = tt
+ge-of-eq (inf s) (fin t n d) h = absurd h
+ge-of-eq (fin s m e) nan h = absurd h
+ge-of-eq (fin s m e) (inf t) h = absurd h
+ge-of-eq (fin s m e) (fin t n d) h = of-at-most t (n * up d * down e) s (m * up e * down d) (omega (arith, of-level s (m * up e * down d) t (n * up d * down e) h))
+
+-- Each value that is no NaN equals itself.
+pub eq-refl : (x : Float) → T (not (isNan x)) → T (eq x x)
+eq-refl x n = eq-of-le-le x x (le-refl x n) (le-refl x n)
+
+-- Equality goes both ways.
+pub eq-sym : (x y : Float) → T (eq x y) → T (eq y x)
+eq-sym x y h = eq-of-le-le y x (ge-of-eq x y h) (le-of-eq x y h)
+
+-- Equality passes on.
+pub eq-trans : (x y z : Float) → T (eq x y) → T (eq y z) → T (eq x z)
+eq-trans x y z h k = eq-of-le-le x z (le-trans x y z (le-of-eq x y h) (le-of-eq y z k)) (le-trans z y x (ge-of-eq y z k) (ge-of-eq x y h))
+
+-- Zeros of either sign are equal.
+pub eq-zeros : (s : Bool) (e : ℤ) (t : Bool) (d : ℤ) → T (eq (fin s 0 e) (fin t 0 d))
+eq-zeros s e t d = eq-of-le-le (fin s 0 e) (fin t 0 d) (zeros s e t d) (zeros t d s e)
+  where
+    none : (e d : ℤ) → 0 * up e * down d ≡ 0
+    none e d = ap (λ (z : ℕ). z * down d) (zero-mul (up e)) ∙ zero-mul (down d)
+
+    zeros : (s : Bool) (e : ℤ) (t : Bool) (d : ℤ) → T (le (fin s 0 e) (fin t 0 d))
+    zeros s e t d = at-most→le s 0 e t 0 d (nothing s (0 * up e * down d) t (0 * up d * down e) (none e d) (none d e))
+
+-- ---- `neg` and `absOf`
+not-not : (b : Bool) → not (not b) ≡ b
+not-not true = refl
+not-not false = refl
+
+-- `neg` undoes itself.
+pub neg-neg : (x : Float) → neg (neg x) ≡ x
+unfolding neg
+neg-neg nan = refl
+neg-neg (inf s) = ap inf (not-not s)
+neg-neg (fin s m e) = ap (λ (b : Bool). fin b m e) (not-not s)
+
+-- `neg` makes a NaN of nothing else.
+pub neg-number : (x : Float) → isNan (neg x) ≡ isNan x
+unfolding neg isNan
+neg-number nan = refl
+neg-number (inf s) = refl
+neg-number (fin s m e) = refl
+
+-- `neg` turns the order round.
+pub le-neg : (x y : Float) → T (le x y) → T (le (neg y) (neg x))
+unfolding le neg
+le-neg nan y h = absurd h
+le-neg (inf s) nan h = absurd h
+le-neg (inf true) (inf true) h = tt
+le-neg (inf true) (inf false) h = tt
+le-neg (inf false) (inf true) h = absurd h
+le-neg (inf false) (inf false) h = tt
+le-neg (inf true) (fin t n d) h = tt
+le-neg (inf false) (fin t n d) h = absurd h
+le-neg (fin s m e) nan h = absurd h
+le-neg (fin s m e) (inf true) h = absurd h
+le-neg (fin s m e) (inf false) h = tt
+le-neg (fin s m e) (fin t n d) h =
+    of-at-most (not t) (n * up d * down e) (not s) (m * up e * down d) (flip s (m * up e * down d) t (n * up d * down e) (at-most s (m * up e * down d) t (n * up d * down e) h))
+
+-- `neg` turns the strict order round.
+pub lt-neg : (x y : Float) → T (lt x y) → T (lt (neg y) (neg x))
+lt-neg x y h =
+    let k = le-neg x y (le-of-lt x y h) in
+    lt-of-not-le (neg x) (neg y) (number-right (neg y) (neg x) k) (number-left (neg y) (neg x) k)
+    (not-T (le (neg x) (neg y)) (λ g. lt-not-le x y h (subst (λ (z : Float). T (le z x)) (neg-neg y) (subst (λ (z : Float). T (le (neg (neg y)) z)) (neg-neg x) (le-neg (neg x) (neg y) g)))))
+
+-- A size has no sign.
+pub abs-neg : (x : Float) → absOf (neg x) ≡ absOf x
+unfolding neg absOf
+abs-neg nan = refl
+abs-neg (inf s) = refl
+abs-neg (fin s m e) = refl
+
+-- Taking the size makes a NaN of nothing else.
+pub abs-number : (x : Float) → isNan (absOf x) ≡ isNan x
+unfolding absOf isNan
+abs-number nan = refl
+abs-number (inf s) = refl
+abs-number (fin s m e) = refl
+
+-- A size is the value, or the value's negative.
+pub abs-is : (x : Float) → (absOf x ≡ x) ⊎ (absOf x ≡ neg x)
+unfolding neg absOf
+abs-is nan = inl refl
+abs-is (inf true) = inr refl
+abs-is (inf false) = inl refl
+abs-is (fin true m e) = inr refl
+abs-is (fin false m e) = inl refl
+
+-- A size is not negative.
+pub abs-not-negative : (x : Float) → T (not (isNan x)) → T (le nought (absOf x))
+unfolding le absOf isNan
+abs-not-negative nan n = absurd n
+abs-not-negative (inf s) n = tt
+abs-not-negative (fin s m e) n = of-at-most false (0 * 1 * down e) false (m * up e * 1) (omega (arith, zero-mul (down e)))
+
+-- A value is at most its size.
+pub le-abs : (x : Float) → T (not (isNan x)) → T (le x (absOf x))
+unfolding le absOf isNan
+le-abs nan n = absurd n
+le-abs (inf true) n = tt
+le-abs (inf false) n = tt
+le-abs (fin true m e) n = of-at-most true (m * up e * down e) false (m * up e * down e) (omega arith)
+le-abs (fin false m e) n = of-at-most false (m * up e * down e) false (m * up e * down e) (omega arith)
+
+-- What lies between -k and k has a size of at most k.
+pub abs-le : (x k : Float) → T (le (neg k) x) → T (le x k) → T (le (absOf x) k)
+abs-le x k h g = elim (abs-is x) [
+  | inl e ↦ subst (λ (z : Float). T (le z k)) (sym e) g
+  | inr e ↦ subst (λ (z : Float). T (le z k)) (sym e) (subst (λ (z : Float). T (le (neg x) z)) (neg-neg k) (le-neg (neg k) x h))
+]
+
+sized-number : (x k : Float) → T (le (absOf x) k) → T (not (isNan x))
+sized-number x k h = subst (λ (b : Bool). T (not b)) (abs-number x) (number-left (absOf x) k h)
+
+-- A value with a size of at most k is at most k.
+pub le-of-abs-le : (x k : Float) → T (le (absOf x) k) → T (le x k)
+le-of-abs-le x k h = le-trans x (absOf x) k (le-abs x (sized-number x k h)) h
+
+-- A value with a size of at most k is at least -k.
+pub ge-of-abs-le : (x k : Float) → T (le (absOf x) k) → T (le (neg k) x)
+ge-of-abs-le x k h = subst (λ (z : Float). T (le (neg k) z)) (neg-neg x) (le-neg (neg x) k (le-of-abs-le (neg x) k (subst (λ (z : Float). T (le z k)) (sym (abs-neg x)) h)))
+
+-- ---- equal values of one format
+-- Two equal values that one format holds are the same value, or both zeros.
+pub eq-held : (f : Format) (x y : Float) → T (fits f x) → T (fits f y) → T (eq x y) → (x ≡ y) ⊎ (T (eq x nought) × T (eq y nought))
+unfolding eq
+eq-held f nan y i j h = absurd h
+eq-held f (inf s) nan i j h = absurd h
+eq-held f (inf true) (inf true) i j h = inl refl
+eq-held f (inf true) (inf false) i j h = absurd h
+eq-held f (inf false) (inf true) i j h = absurd h
+eq-held f (inf false) (inf false) i j h = inl refl
+eq-held f (inf s) (fin t n d) i j h = absurd h
+eq-held f (fin s m e) nan i j h = absurd h
+eq-held f (fin s m e) (inf t) i j h = absurd h
+eq-held f (fin s m e) (fin t n d) i j h =
+    let a = m * up e * down d in
+    let b = n * up d * down e in
+    let k : a ≡ b = eqb→eq a b (and-l (eqb a b) (Bool·beq s t || eqb a 0) h) in
+    elim (or-split (Bool·beq s t) (eqb a 0) (and-r (eqb a b) (Bool·beq s t || eqb a 0) h)) [
+      | inl q ↦ inl (same s t q i j k)
+      | inr z ↦ inr (is-zero s m e d (eqb→eq a 0 z), is-zero t n d e (sym k ∙ eqb→eq a 0 z))
+    ]
+  where
+    held : (s : Bool) → T (fits f (fin s m e)) → T (fits f (fin s n d)) → m * up e * down d ≡ n * up d * down e → fin s m e ≡ fin s n d
+    held s i j k = value-unique f (fin s m e) (fin s n d) s (m * up e) (down e) (down-pos e) i j (refl, refl) (refl, sym k)
+
+    same : (s t : Bool) → T (Bool·beq s t) → T (fits f (fin s m e)) → T (fits f (fin t n d)) → m * up e * down d ≡ n * up d * down e → fin s m e ≡ fin t n d
+    same true true q i j k = held true i j k
+    same true false q i j k = absurd q
+    same false true q i j k = absurd q
+    same false false q i j k = held false i j k
+
+    is-zero : (s : Bool) (m : ℕ) (e d : ℤ) → m * up e * down d ≡ 0 → T (eq (fin s m e) nought)
+    is-zero s m e d z = subst (λ (k : ℕ). T (eq (fin s k e) nought)) (sym (zero-of m (up e) (up-pos e) (zero-of (m * up e) (down d) (down-pos d) z))) (eq-zeros s e false (pos 0))

@@ -1,0 +1,312 @@
+-- The square root's definition is the right one: it is the one value that is nearest to the root. Assumes nothing.
+use mathlib.Core.Path.{_≡_, refl, sym, ap, _∙_, subst}
+use mathlib.Core.Logic.{_⊎_, inl, inr}
+use Prim.Native.Nat.{ℕ, zero, suc, _+_, _-_, _*_, _/_, _%_, _^_, _≤_, _<_}
+use native.Mathlib.Nat.{le-trans, le-of-eq, le-of-lt, lt-of-lt-of-le, lt-of-le-of-lt, not-le-of-lt, lt-irrefl, zero-lt-suc, eq-or-lt-of-le, mul-assoc, one-mul, mul-comm, mul-mul-mul-comm, mul-pos, mul-le-mul, mul-le-mul-right, mul-lt-mul-of-pos-right, lt-of-mul-lt-mul-right, pow-succ'}
+use native.Mathlib.Omega.{arith}
+use mathlib.Core.Bool.{true, false, true≢false}
+use lib.IntN.{ℤ}
+use lib.Dec.{T, lit<}
+use lib.Pow.{pow-add, pow-pos, pow-mono, shl-lt}
+use lib.Ieee.{Float, nan, inf, fin, Format, binary64, up, down, size, units, fits}
+use lib.Ieee.Digits.{size-lt, size-le, size-reaches}
+use lib.Ieee.Fits.{up-pos, down-pos}
+use lib.Ieee.Exact.{HasValue, units-val}
+use lib.Ieee.Bits.{ofBits-fits}
+use Rattle.numbers.specs.Root.{sqrtOf, NearestRoot, MidpointAbove, MidpointBelow}
+use Rattle.numbers.proofs.Held.{held, count, value-unique}
+use Rattle.numbers.specs.Steps.{nearestRoot}
+use Rattle.numbers.proofs.Patterns.{pattern, pow-lt-back, size-gt, shifted}
+use Rattle.numbers.proofs.Compared.{le-or-lt}
+use Rattle.numbers.proofs.Roots.{bracket, four-pow}
+use Rattle.numbers.proofs.Rooting.{Wide, sqrt-units, nearest-wide, four-two}
+
+-- ---- x = N / L is M * 4 ^ k / L ^ 2, with an M of 105 or 106 digits
+record Square (N : ℕ) : Type 0 where
+  M : ℕ
+  k : ℕ
+  is : N * 2 ^ 1074 ≡ M * 4 ^ k
+  wide : Wide M
+  some : 1 ≤ k
+  few : k ≤ 2000
+
+square : (n j : ℕ) → 0 < n → n < 2 ^ 53 → j < 2098 → Square (n * 2 ^ j)
+square n j P F J = record {
+  M = n * 2 ^ c;
+  k = k;
+  is = mul-assoc n (2 ^ j) (2 ^ 1074)
+      ∙ ap (λ (x : ℕ). n * x) (sym (pow-add 2 j 1074) ∙ ap (λ (x : ℕ). 2 ^ x) (split z j zp zl) ∙ pow-add 2 c (k + k) ∙ ap (λ (x : ℕ). 2 ^ c * x) (sym (four-two k)))
+      ∙ sym (mul-assoc n (2 ^ c) (4 ^ k));
+  wide = (
+    le-trans (pow-mono (low-end z j zp zl)) (le-trans (le-of-eq (pow-add 2 (z - 1) c)) (mul-le-mul-right (2 ^ c) (size-reaches n (z - 1) (pred z zp)))),
+    lt-of-lt-of-le (shl-lt z c (size-lt n)) (pow-mono (high-end z j zp zl)),
+  );
+  some = at-least z j zp zl;
+  few = at-most z j zp zl J;
+}
+  where
+    z : ℕ
+    z = size n
+
+    c : ℕ
+    c = 105 - size n + (size n + 1 + j) % 2
+
+    k : ℕ
+    k = (j + 1074 - (105 - size n + (size n + 1 + j) % 2)) / 2
+
+    zp : 0 < size n
+    zp = size-gt n 0 P
+
+    zl : size n ≤ 53
+    zl = size-le n 53 F
+
+    pred : (z : ℕ) → 0 < z → z - 1 < z
+    pred z h = omega arith
+
+    split : (z j : ℕ) → 0 < z → z ≤ 53 → j + 1074 ≡ 105 - z + (z + 1 + j) % 2 + ((j + 1074 - (105 - z + (z + 1 + j) % 2)) / 2 + (j + 1074 - (105 - z + (z + 1 + j) % 2)) / 2)
+    split z j a b = omega arith
+
+    low-end : (z j : ℕ) → 0 < z → z ≤ 53 → 104 ≤ z - 1 + (105 - z + (z + 1 + j) % 2)
+    low-end z j a b = omega arith
+
+    high-end : (z j : ℕ) → 0 < z → z ≤ 53 → z + (105 - z + (z + 1 + j) % 2) ≤ 106
+    high-end z j a b = omega arith
+
+    at-least : (z j : ℕ) → 0 < z → z ≤ 53 → 1 ≤ (j + 1074 - (105 - z + (z + 1 + j) % 2)) / 2
+    at-least z j a b = omega arith
+
+    at-most : (z j : ℕ) → 0 < z → z ≤ 53 → j < 2098 → (j + 1074 - (105 - z + (z + 1 + j) % 2)) / 2 ≤ 2000
+    at-most z j a b h = omega arith
+
+-- ---- the steps from q * 2 ^ k, a number of 53 digits and k zeros, to the next values on its two sides
+-- a value with fewer zeros is smaller
+fewer : (n k j : ℕ) → n < 2 ^ 53 → j < k → n * 2 ^ j < 4503599627370496 * 2 ^ k
+fewer n k j F h = lt-of-lt-of-le (shl-lt 53 j F) (le-trans (pow-mono (more k j h)) (le-of-eq (pow-add 2 52 k)))
+  where
+    more : (k j : ℕ) → j < k → 53 + j ≤ 52 + k
+    more k j h = omega arith
+
+gap-above : (q k n j : ℕ) → 4503599627370496 ≤ q → n < 2 ^ 53 → q * 2 ^ k < n * 2 ^ j → suc q * 2 ^ k ≤ n * 2 ^ j
+gap-above q k n j Q F h = elim (le-or-lt k j) [
+  | inl g ↦ le-trans (mul-le-mul-right (2 ^ k) (lt-of-mul-lt-mul-right (2 ^ k) (lt-of-lt-of-le h (le-of-eq (shifted n k j g))))) (le-of-eq (sym (shifted n k j g)))
+  | inr g ↦ absurd (not-le-of-lt h (le-trans (le-of-lt (fewer n k j F g)) (mul-le-mul-right (2 ^ k) Q)))
+]
+
+gap-below : (q k n j : ℕ) → 4503599627370496 < q → n < 2 ^ 53 → n * 2 ^ j < q * 2 ^ k → n * 2 ^ j + 2 ^ k ≤ q * 2 ^ k
+gap-below q k n j Q F h = elim (le-or-lt k j) [
+  | inl g ↦
+      let a = n * 2 ^ (j - k) in
+      let l : suc a * 2 ^ k ≤ q * 2 ^ k = mul-le-mul-right (2 ^ k) (lt-of-mul-lt-mul-right (2 ^ k) (lt-of-le-of-lt (le-of-eq (sym (shifted n k j g))) h)) in
+      le-trans (le-of-eq (ap (λ (x : ℕ). x + 2 ^ k) (shifted n k j g))) (one-more a (2 ^ k) (q * 2 ^ k) l)
+  | inr g ↦ under (n * 2 ^ j) (2 ^ k) (q * 2 ^ k) (fewer n k j F g) (mul-le-mul-right (2 ^ k) Q)
+]
+  where
+    one-more : (a p x : ℕ) → suc a * p ≤ x → a * p + p ≤ x
+    one-more a p x h = omega arith
+
+    under : (b p x : ℕ) → b < 4503599627370496 * p → 4503599627370497 * p ≤ x → b + p ≤ x
+    under b p x h g = omega arith
+
+-- ---- the squares of the midpoints, in units
+above-units : (q p B M : ℕ) → 0 < p → suc q * p ≤ B → M * 4 < (2 * q + 1) * (2 * q + 1) → 4 * (M * (p * p)) < (q * p + B) * (q * p + B)
+above-units q p B M P g h =
+    let l : (2 * q + 1) * p ≤ q * p + B = omega arith in
+    lt-of-le-of-lt (le-of-eq (regroup M (p * p)))
+    (lt-of-lt-of-le (mul-lt-mul-of-pos-right h (mul-pos P P)) (le-trans (le-of-eq (sym (mul-mul-mul-comm (2 * q + 1) p (2 * q + 1) p))) (mul-le-mul l l)))
+  where
+    regroup : (M x : ℕ) → 4 * (M * x) ≡ M * 4 * x
+    regroup M x = omega arith
+
+below-units : (r p B M : ℕ) → 0 < p → B + p ≤ suc r * p → (2 * suc r - 1) * (2 * suc r - 1) < M * 4 + 1 → (suc r * p + B) * (suc r * p + B) < 4 * (M * (p * p))
+below-units r p B M P g h =
+    let l : suc r * p + B ≤ (2 * r + 1) * p = omega arith in
+    lt-of-le-of-lt (le-trans (mul-le-mul l l) (le-of-eq (mul-mul-mul-comm (2 * r + 1) p (2 * r + 1) p)))
+    (lt-of-lt-of-le (mul-lt-mul-of-pos-right (odd r M (subst (λ (x : ℕ). x * x < M * 4 + 1) (less r) h)) (mul-pos P P)) (le-of-eq (regroup M (p * p))))
+  where
+    less : (r : ℕ) → 2 * suc r - 1 ≡ 2 * r + 1
+    less r = omega arith
+
+    odd : (r M : ℕ) → (2 * r + 1) * (2 * r + 1) < M * 4 + 1 → (2 * r + 1) * (2 * r + 1) < M * 4
+    odd r M h = omega arith
+
+    regroup : (M x : ℕ) → M * 4 * x ≡ 4 * (M * x)
+    regroup M x = omega arith
+
+-- the step below a power of two is half as large
+below-half : (r p B M : ℕ) → 0 < p → 2 * B + p ≤ 2 * (suc r * p) → suc r * suc r ≤ M → (suc r * p + B) * (suc r * p + B) < 4 * (M * (p * p))
+below-half r p B M P g h =
+    let l : 2 * (suc r * p + B) ≤ (4 * r + 3) * p = omega arith in
+    quarter ((suc r * p + B) * (suc r * p + B)) (M * (p * p))
+    (lt-of-le-of-lt (le-trans (le-of-eq (twice (suc r * p + B))) (le-trans (mul-le-mul l l) (le-of-eq (mul-mul-mul-comm (4 * r + 3) p (4 * r + 3) p))))
+    (lt-of-lt-of-le (mul-lt-mul-of-pos-right (less r M h) (mul-pos P P)) (le-of-eq (mul-assoc 16 M (p * p)))))
+  where
+    less : (r M : ℕ) → suc r * suc r ≤ M → (4 * r + 3) * (4 * r + 3) < 16 * M
+    less r M h = omega arith
+
+    twice : (x : ℕ) → 4 * (x * x) ≡ 2 * x * (2 * x)
+    twice x = omega arith
+
+    quarter : (x y : ℕ) → 4 * x < 16 * y → x < 4 * y
+    quarter x y h = omega arith
+
+-- ---- from units to fractions: a / c is Q / L, b / d is B / L and num / den is N / L
+sum-units : (a c b d L Q B : ℕ) → a * L ≡ Q * c → b * L ≡ B * d → (a * d + b * c) * L ≡ (Q + B) * (c * d)
+sum-units a c b d L Q B e g = omega (arith, ap (λ (x : ℕ). x * d) e, ap (λ (x : ℕ). x * c) g)
+
+squared : (S L X w den : ℕ) → S * L ≡ X * w → S * S * den * (L * L) ≡ X * X * (w * w * den)
+squared S L X w den e = one S L den ∙ ap (λ (z : ℕ). z * z * den) e ∙ two X w den
+  where
+    one : (S L den : ℕ) → S * S * den * (L * L) ≡ S * L * (S * L) * den
+    one S L den = omega arith
+
+    two : (X w den : ℕ) → X * w * (X * w) * den ≡ X * X * (w * w * den)
+    two X w den = omega arith
+
+scaled : (num den L N w : ℕ) → num * L ≡ N * den → 4 * num * (w * w) * (L * L) ≡ 4 * (N * L) * (w * w * den)
+scaled num den L N w e = one num L w ∙ ap (λ (z : ℕ). 4 * z * L * (w * w)) e ∙ two N den L w
+  where
+    one : (num L w : ℕ) → 4 * num * (w * w) * (L * L) ≡ 4 * (num * L) * L * (w * w)
+    one num L w = omega arith
+
+    two : (N den L w : ℕ) → 4 * (N * den) * L * (w * w) ≡ 4 * (N * L) * (w * w * den)
+    two N den L w = omega arith
+
+module _ (a c b d num den L N Q B : ℕ) (C : 0 < c) (D : 0 < d) (E : 0 < den) (e : a * L ≡ Q * c) (g : b * L ≡ B * d) (h : num * L ≡ N * den) where
+  abbrev S : ℕ
+  S = a * d + b * c
+
+  W : 0 < c * d * (c * d) * den
+  W = mul-pos (mul-pos (mul-pos C D) (mul-pos C D)) E
+
+  left : S * S * den * (L * L) ≡ (Q + B) * (Q + B) * (c * d * (c * d) * den)
+  left = squared S L (Q + B) (c * d) den (sum-units a c b d L Q B e g)
+
+  right : 4 * num * (c * d * (c * d)) * (L * L) ≡ 4 * (N * L) * (c * d * (c * d) * den)
+  right = scaled num den L N (c * d) h
+
+  to-above : 4 * (N * L) < (Q + B) * (Q + B) → MidpointAbove a c b d num den
+  to-above l = lt-of-mul-lt-mul-right (L * L) (lt-of-le-of-lt (le-of-eq right) (lt-of-lt-of-le (mul-lt-mul-of-pos-right l W) (le-of-eq (sym left))))
+
+  to-below : (Q + B) * (Q + B) < 4 * (N * L) → MidpointBelow a c b d num den
+  to-below l = lt-of-mul-lt-mul-right (L * L) (lt-of-le-of-lt (le-of-eq left) (lt-of-lt-of-le (mul-lt-mul-of-pos-right l W) (le-of-eq (sym right))))
+
+-- of two fractions the smaller counts less
+less-units : (a c b d L Q B : ℕ) → 0 < L → a * L ≡ Q * c → b * L ≡ B * d → a * d < b * c → Q < B
+less-units a c b d L Q B P e g h =
+    lt-of-mul-lt-mul-right (c * d) (lt-of-le-of-lt (le-of-eq (one a c d L Q e)) (lt-of-lt-of-le (mul-lt-mul-of-pos-right h P) (le-of-eq (two b c d L B g))))
+  where
+    one : (a c d L Q : ℕ) → a * L ≡ Q * c → Q * (c * d) ≡ a * d * L
+    one a c d L Q e = omega (arith, ap (λ (x : ℕ). x * d) e)
+
+    two : (b c d L B : ℕ) → b * L ≡ B * d → b * c * L ≡ B * (c * d)
+    two b c d L B e = omega (arith, ap (λ (x : ℕ). x * c) e)
+
+-- ---- the value q * 2 ^ k is the nearest to the root of M * 4 ^ k
+four-square : (M k : ℕ) → M * 4 ^ k ≡ M * (2 ^ k * 2 ^ k)
+four-square M k = ap (λ (x : ℕ). M * x) (four-pow k)
+
+over : (M k q n j : ℕ) → 4503599627370496 ≤ q → n < 2 ^ 53 → M * 4 < (2 * q + 1) * (2 * q + 1) → q * 2 ^ k < n * 2 ^ j → 4 * (M * 4 ^ k) < (q * 2 ^ k + n * 2 ^ j) * (q * 2 ^ k + n * 2 ^ j)
+over M k q n j lo F br h =
+    subst (λ (x : ℕ). 4 * x < (q * 2 ^ k + n * 2 ^ j) * (q * 2 ^ k + n * 2 ^ j)) (sym (four-square M k))
+    (above-units q (2 ^ k) (n * 2 ^ j) M (pow-pos k) (gap-above q k n j lo F h) br)
+
+under : (M k q n j : ℕ) → 1 ≤ k → 2 ^ 104 ≤ M → 4503599627370496 ≤ q → n < 2 ^ 53 → (2 * q - 1) * (2 * q - 1) < M * 4 + 1 → n * 2 ^ j < q * 2 ^ k
+    → (q * 2 ^ k + n * 2 ^ j) * (q * 2 ^ k + n * 2 ^ j) < 4 * (M * 4 ^ k)
+under M k zero n j K big lo F br h = absurd (none lo)
+  where
+    none : 4503599627370496 ≤ 0 → ⊥
+    none h = omega arith
+under M zero (suc r) n j K big lo F br h = absurd (lt-irrefl 0 K)
+under M (suc i) (suc r) n j K big lo F br h =
+    let q = suc r in
+    let k = suc i in
+    subst (λ (x : ℕ). (q * 2 ^ k + n * 2 ^ j) * (q * 2 ^ k + n * 2 ^ j) < 4 * x) (sym (four-square M k))
+    (elim (eq-or-lt-of-le lo) [
+      | inl e ↦
+          let dbl : q * 2 ^ k ≡ 2 * q * 2 ^ i = ap (λ (x : ℕ). q * x) (pow-succ' 2 i) ∙ sym (mul-assoc q 2 (2 ^ i)) ∙ ap (λ (x : ℕ). x * 2 ^ i) (mul-comm q 2) in
+          below-half r (2 ^ k) (n * 2 ^ j) M (pow-pos k)
+          (half (n * 2 ^ j) (2 ^ i) (2 ^ k) (q * 2 ^ k) (pow-succ' 2 i)
+          (le-trans (gap-below (2 * q) i n j (omega arith) F (lt-of-lt-of-le h (le-of-eq dbl))) (le-of-eq (sym dbl))))
+          (le-trans (le-of-eq (ap (λ (x : ℕ). x * x) (sym e))) big)
+      | inr g ↦ below-units r (2 ^ k) (n * 2 ^ j) M (pow-pos k) (gap-below q k n j g F h) br
+    ])
+  where
+    half : (b p t x : ℕ) → t ≡ 2 * p → b + p ≤ x → 2 * b + t ≤ 2 * x
+    half b p t x e h = omega arith
+
+near : (num den N M k : ℕ) (n : ℕ) (d : ℤ) → 0 < den → num * 2 ^ 1074 ≡ N * den → N * 2 ^ 1074 ≡ M * 4 ^ k → Wide M → 1 ≤ k → T (fits binary64 (fin false n d))
+    → n * up d * 2 ^ 1074 ≡ nearestRoot M * 2 ^ k * down d → NearestRoot binary64 num den n d
+near num den N M k n d E is sq w K fit v = record {
+  held = fit;
+  above = λ n' d' fit' l.
+      let h = held binary64 false n' d' fit' in
+      let less = less-units (n * up d) (down d) (n' * up d') (down d') (2 ^ 1074) (q * 2 ^ k) (count binary64 n' d' h) (pow-pos 1074) v (h .value) l in
+      to-above (n * up d) (down d) (n' * up d') (down d') num den (2 ^ 1074) N (q * 2 ^ k) (count binary64 n' d' h) (down-pos d) (down-pos d') E v (h .value) is
+      (subst (λ (x : ℕ). 4 * x < (q * 2 ^ k + count binary64 n' d' h) * (q * 2 ^ k + count binary64 n' d' h)) (sym sq)
+      (over M k q (h .digits) (h .zeros) (nearest-wide M w .0) (h .few) (bracket M .0) less));
+  below = λ n' d' fit' l.
+      let h = held binary64 false n' d' fit' in
+      let less = less-units (n' * up d') (down d') (n * up d) (down d) (2 ^ 1074) (count binary64 n' d' h) (q * 2 ^ k) (pow-pos 1074) (h .value) v l in
+      to-below (n * up d) (down d) (n' * up d') (down d') num den (2 ^ 1074) N (q * 2 ^ k) (count binary64 n' d' h) (down-pos d) (down-pos d') E v (h .value) is
+      (subst (λ (x : ℕ). (q * 2 ^ k + count binary64 n' d' h) * (q * 2 ^ k + count binary64 n' d' h) < 4 * x) (sym sq)
+      (under M k q (h .digits) (h .zeros) K (w .0) (nearest-wide M w .0) (h .few) (bracket M .1) less));
+}
+  where
+    q : ℕ
+    q = nearestRoot M
+
+-- The square root of a positive value that binary64 holds is a value nearest to its root.
+pub root-nearest : (m : ℕ) (e : ℤ) → T (fits binary64 (fin false (suc m) e))
+    → (n : ℕ) × (d : ℤ) × (sqrtOf (fin false (suc m) e) ≡ fin false n d) × NearestRoot binary64 (suc m * up e) (down e) n d
+root-nearest m e fit =
+    let h = held binary64 false (suc m) e fit in
+    let P : 0 < h .digits = some (h .digits) (2 ^ h .zeros) (down e) (suc m * up e * 2 ^ 1074) (mul-pos (mul-pos (zero-lt-suc m) (up-pos e)) (pow-pos 1074)) (h .value) in
+    let s = square (h .digits) (h .zeros) P (h .few) (pow-lt-back (h .zeros) 2098 (lt-of-le-of-lt (le-trans (le-of-eq (sym (one-mul (2 ^ h .zeros)))) (mul-le-mul-right (2 ^ h .zeros) P)) (h .fine))) in
+    let N = h .digits * 2 ^ h .zeros in
+    let w = nearest-wide (s .M) (s .wide) in
+    let r = units binary64 false (nearestRoot (s .M)) (s .k) in
+    let is : sqrtOf (fin false (suc m) e) ≡ r = sqrt-units (fin false (suc m) e) N (s .M) (s .k) (refl, h .value) (mul-pos P (pow-pos (h .zeros))) (s .is) (s .wide) in
+    let v = units-val binary64 false (nearestRoot (s .M)) (s .k) (lt-of-le-of-lt (mul-le-mul (w .1) (pow-mono (s .few))) (lit< tt)) in
+    let f = subst (λ (y : Float). T (fits binary64 y)) (pattern binary64 false (nearestRoot (s .M)) (s .k) (w .1) (inr (w .0)) (room (s .k) (nearestRoot (s .M)) (s .few) (w .1))) (ofBits-fits binary64 _) in
+    finish r (nearestRoot (s .M) * 2 ^ s .k) (2 ^ 1074) is v f (λ n d fit' v'. near (suc m * up e) (down e) N (s .M) (s .k) n d (down-pos e) (h .value) (s .is) (s .wide) (s .some) fit' v')
+  where
+    some : (n p d x : ℕ) → 0 < x → x ≡ n * p * d → 0 < n
+    some zero p d x h e = absurd (no p d x h e)
+      where
+        no : (p d x : ℕ) → 0 < x → x ≡ 0 * p * d → ⊥
+        no p d x h e = omega arith
+    some (suc n) p d x h e = zero-lt-suc n
+
+    room : (k q : ℕ) → k ≤ 2000 → q ≤ 9007199254740992 → k * 4503599627370496 + q ≤ 2047 * 4503599627370496
+    room k q h g = omega arith
+
+    finish : (y : Float) (A c : ℕ) → sqrtOf (fin false (suc m) e) ≡ y → HasValue y false A c → T (fits binary64 y)
+        → ((n : ℕ) (d : ℤ) → T (fits binary64 (fin false n d)) → n * up d * c ≡ A * down d → NearestRoot binary64 (suc m * up e) (down e) n d)
+        → (n : ℕ) × (d : ℤ) × (sqrtOf (fin false (suc m) e) ≡ fin false n d) × NearestRoot binary64 (suc m * up e) (down e) n d
+    finish nan A c is v f k = absurd v
+    finish (inf t) A c is v f k = absurd v
+    finish (fin true n d) A c is v f k = absurd (true≢false (v .0))
+    finish (fin false n d) A c is v f k = (n, d, is, k n d f (v .1))
+
+-- Of two values that are nearest to the root of one fraction neither is the larger: they are the same value.
+pub root-only : (f : Format) (num den m : ℕ) (e : ℤ) (n : ℕ) (d : ℤ) → NearestRoot f num den m e → NearestRoot f num den n d → fin false m e ≡ fin false n d
+root-only f num den m e n d x y = go (le-or-lt (m * up e * down d) (n * up d * down e))
+  where
+    clash : (a c b d num den : ℕ) → MidpointAbove a c b d num den → MidpointBelow b d a c num den → ⊥
+    clash a c b d num den h k = lt-irrefl (4 * num * (c * d * (c * d))) (lt-of-lt-of-le h (le-trans (le-of-eq (ap (λ (z : ℕ). z * z * den) (swap a c b d))) (le-trans (le-of-lt k) (le-of-eq (ap (λ (z : ℕ). 4 * num * (z * z)) (mul-comm d c))))))
+      where
+        swap : (a c b d : ℕ) → a * d + b * c ≡ b * c + a * d
+        swap a c b d = omega arith
+
+    go : (m * up e * down d ≤ n * up d * down e) ⊎ (n * up d * down e < m * up e * down d) → fin false m e ≡ fin false n d
+    go (inl l) = elim (eq-or-lt-of-le l) [
+      | inl s ↦ value-unique f (fin false m e) (fin false n d) false (m * up e) (down e) (down-pos e) (x .held) (y .held) (refl, refl) (refl, sym s)
+      | inr s ↦ absurd (clash (m * up e) (down e) (n * up d) (down d) num den (x .above n d (y .held) s) (y .below m e (x .held) s))
+    ]
+    go (inr g) = absurd (clash (n * up d) (down d) (m * up e) (down e) num den (y .above m e (x .held) g) (x .below n d (y .held) g))
+
+-- So whatever value is nearest to the root of x is the square root of x.
+pub root-is : (m : ℕ) (e : ℤ) (n : ℕ) (d : ℤ) → T (fits binary64 (fin false (suc m) e)) → NearestRoot binary64 (suc m * up e) (down e) n d → sqrtOf (fin false (suc m) e) ≡ fin false n d
+root-is m e n d fit x =
+    let r = root-nearest m e fit in
+    r .2 ∙ root-only binary64 (suc m * up e) (down e) (r .0) (r .1) n d (r .3) x

@@ -1,0 +1,13 @@
+pub mod Laws
+mod Tests
+mod Signs
+mod Patterns
+mod Compared
+mod Narrowing
+mod Flooring
+mod Roots
+mod Table
+mod Start
+mod Rooting
+mod Differences
+mod Held

@@ -1,0 +1,36 @@
+-- `numbers::equation_solver::solve_square` meets its contract. Assumes nothing.
+use borrow.Author.Needs.{needs}
+use mathlib.Core.Path.{sym, ap, _∙_, subst}
+use mathlib.Core.List.{List, [], _∷_}
+use lib.Ieee.{Float, binary64, div, neg, mul}
+use Rattle.numbers.specs.Constants.{zeroOf, two}
+use Rattle.numbers.specs.Quadratic.{Listed, upperRoot, lowerRoot}
+use Rattle.numbers.proofs.Laws.Quadratic.{square-two, square-one, square-none, listed-none, listed-one, listed-two}
+use Rattle.numbers.proofs.equation_solver.solve_square.Statement.{statement}
+use Rattle.numbers.proofs.equation_solver.solve_square.Tie as tie
+
+sqrt-requires : tie.Need-sqrt-requires
+sqrt-requires c κs = search needs
+
+returns : tie.Need-returns
+unfolding upperRoot lowerRoot
+returns c =
+    let k = c .before .before .args in
+    let s = c .sqrt .result in
+    subst (λ (xs : List Float). Listed xs 2 (upperRoot (k .a) (k .b) s) (lowerRoot (k .a) (k .b) s))
+    (sym (square-two (k .a) (k .b) (k .d) (c .before .if1 .taken) ∙ ap (λ (x : Float). upperRoot (k .a) (k .b) x ∷ lowerRoot (k .a) (k .b) x ∷ []) (sym (c .sqrt .ensures))))
+    (listed-two (upperRoot (k .a) (k .b) s) (lowerRoot (k .a) (k .b) s))
+
+returns-2 : tie.Need-returns-2
+returns-2 c =
+    let k = c .before .before .args in
+    let x = div binary64 (neg (k .b)) (mul binary64 two (k .a)) in
+    subst (λ (xs : List Float). Listed xs 1 x (zeroOf binary64)) (sym (square-one (k .a) (k .b) (k .d) (c .if2 .taken))) (listed-one x)
+
+returns-3 : tie.Need-returns-3
+returns-3 c =
+    let k = c .before .before .args in
+    subst (λ (xs : List Float). Listed xs 0 (zeroOf binary64) (zeroOf binary64)) (sym (square-none (k .a) (k .b) (k .d) (c .before .if1 .left) (c .if2 .left))) listed-none
+
+pub solve-square-spec : {M : Type 1} → statement M
+solve-square-spec = tie.close (tie.spec sqrt-requires returns returns-2 returns-3)

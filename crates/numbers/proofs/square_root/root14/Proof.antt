@@ -1,0 +1,73 @@
+-- `numbers::square_root::root14` meets its contract, by the rule of its table (`Start.antt`). Assumes nothing.
+use borrow.Author.Needs.{needs}
+use Prim.Native.Nat.{ℕ, _-_, _*_, _/_, _≤_}
+use mathlib.Core.Path.{sym, subst}
+use native.Mathlib.Omega.{arith}
+use Rattle.numbers.specs.Steps.{IsRoot}
+use Rattle.numbers.proofs.Start.{roots, Entry, entry, squared, exact, lower}
+use Rattle.numbers.proofs.square_root.root14.Statement.{statement}
+use Rattle.numbers.proofs.square_root.root14.Tie as tie
+
+-- what the table says at n's upper digits
+rule : (c : tie.After-wide) → Entry (c .before .before .before .args .n / 64 - 64) (c .wide .result)
+unfolding roots
+rule c = subst (λ (t : ℕ). Entry (c .before .before .before .args .n / 64 - 64) t) (sym (c .wide .ensures)) (entry (c .before .before .before .args .n / 64 - 64) (omega arith))
+
+-- where the entry is too large
+less : (c : tie.Else1)
+    → let s = c .before .wide .result - 1 in
+    let n = c .before .before .before .before .args .n in
+    (s * s ≤ n) × IsRoot n s (n - s * s)
+less c =
+    let t = c .before .wide .result in
+    let e = rule (c .before) in
+    lower (c .before .before .before .before .args .n) t (t - 1) (omega arith) e (c .if1 .left) (omega arith)
+
+sub-i : tie.Need-sub-i
+sub-i c = search needs
+
+element-copy-out-wide : tie.Need-element-copy-out-wide
+element-copy-out-wide c = search needs
+
+wide-requires : tie.Need-wide-requires
+wide-requires c κs = search needs
+
+mul-if1 : tie.Need-mul-if1
+mul-if1 c = let e = rule c in omega (arith, squared (c .wide .result) (e .hi))
+
+mul-t14 : tie.Need-mul-t14
+mul-t14 c = search needs
+
+sub-t15 : tie.Need-sub-t15
+sub-t15 c = search needs
+
+sub-s : tie.Need-sub-s
+sub-s c = let e = rule (c .before) in omega arith
+
+mul-t16 : tie.Need-mul-t16
+mul-t16 c = omega (arith, less c .0)
+
+sub-t17 : tie.Need-sub-t17
+sub-t17 c = less c .0
+
+returns : tie.Need-returns
+returns c = exact (c .before .before .before .before .args .n) (c .before .wide .result) (omega arith) (rule (c .before)) (c .if1 .taken)
+
+returns-2 : tie.Need-returns-2
+returns-2 c = less c .1
+
+pub root14-spec : {M : Type 1} → statement M
+root14-spec =
+    tie.close
+    (tie.spec
+    sub-i
+    element-copy-out-wide
+    wide-requires
+    mul-if1
+    mul-t14
+    sub-t15
+    sub-s
+    mul-t16
+    sub-t17
+    returns
+    returns-2)
