@@ -1,0 +1,88 @@
+// The functions of `numbers` for C and Rust to call.
+ghost use mathlib.Core.Path.{_≡_};
+ghost use lib.Ieee.{binary64};
+ghost use lib.ListN.{length, getD};
+ghost use Rattle.numbers.specs.Constants.{zeroOf};
+ghost use Rattle.numbers.specs.Select.{medianOf, absOf};
+ghost use Rattle.numbers.specs.Narrow.{narrowOf, mixOf};
+ghost use Rattle.numbers.specs.Floor.{floorOf};
+ghost use Rattle.numbers.specs.Root.{sqrtOf};
+ghost use Rattle.numbers.specs.Quadratic.{rootsOf};
+use numbers::equation_solver;
+use numbers::rounding;
+use numbers::scalar;
+use numbers::square_root;
+
+#[no_mangle]
+pub extern "C" fn rungtwine_median(a: f32, b: f32, c: f32) -> f32
+    ensures { λ r. ⌜ r ≡ medianOf a b c ⌝ }
+{
+    scalar::median(a, b, c)
+}
+
+#[no_mangle]
+pub extern "C" fn rungtwine_abs32(x: f32) -> f32
+    ensures { λ r. ⌜ r ≡ absOf x ⌝ }
+{
+    scalar::abs32(x)
+}
+
+#[no_mangle]
+pub extern "C" fn rungtwine_abs64(x: f64) -> f64
+    ensures { λ r. ⌜ r ≡ absOf x ⌝ }
+{
+    scalar::abs64(x)
+}
+
+#[no_mangle]
+pub extern "C" fn rungtwine_mix(a: f32, b: f32, w: f64) -> f32
+    ensures { λ r. ⌜ r ≡ mixOf a b w ⌝ }
+{
+    scalar::mix(a, b, w)
+}
+
+#[no_mangle]
+pub extern "C" fn rungtwine_narrow(x: f64) -> f32
+    ensures { λ r. ⌜ r ≡ narrowOf x ⌝ }
+{
+    rounding::narrow(x)
+}
+
+#[no_mangle]
+pub extern "C" fn rungtwine_sqrt(x: f64) -> f64
+    ensures { λ r. ⌜ r ≡ sqrtOf x ⌝ }
+{
+    square_root::sqrt(x)
+}
+
+#[no_mangle]
+pub extern "C" fn rungtwine_floor(x: f64) -> i64
+    ensures { λ r. ⌜ r ≡ floorOf x ⌝ }
+{
+    rounding::floor_to_i64(x)
+}
+
+// How many roots there are, and each of up to two, 0 where there is none.
+#[no_mangle]
+pub extern "C" fn rungtwine_root_count(a: f64, b: f64, c: f64) -> usize
+    ensures { λ r. ⌜ r ≡ length (rootsOf a b c) ⌝ }
+{
+    let r = equation_solver::solve_quadratic(a, b, c);
+    r.count
+}
+
+#[no_mangle]
+pub extern "C" fn rungtwine_first_root(a: f64, b: f64, c: f64) -> f64
+    ensures { λ r. ⌜ r ≡ getD (rootsOf a b c) 0 (zeroOf binary64) ⌝ }
+{
+    let r = equation_solver::solve_quadratic(a, b, c);
+    r.first
+}
+
+#[no_mangle]
+pub extern "C" fn rungtwine_second_root(a: f64, b: f64, c: f64) -> f64
+    ensures { λ r. ⌜ r ≡ getD (rootsOf a b c) 1 (zeroOf binary64) ⌝ }
+{
+    let r = equation_solver::solve_quadratic(a, b, c);
+    r.second
+}

@@ -1,0 +1,294 @@
+//! Holds the proved number helpers against this machine's own arithmetic.
+//!
+//! `compare COUNT`: that many patterns for each function, and a line for each with how many differ; exit status 1 if any does.
+//! `compare --time`: nanoseconds a call beside the machine's own operation, and the ratio.
+
+use std::hint::black_box;
+use std::time::Instant;
+
+extern "C" {
+    fn rungtwine_median(a: f32, b: f32, c: f32) -> f32;
+    fn rungtwine_abs32(x: f32) -> f32;
+    fn rungtwine_abs64(x: f64) -> f64;
+    fn rungtwine_mix(a: f32, b: f32, w: f64) -> f32;
+    fn rungtwine_narrow(x: f64) -> f32;
+    fn rungtwine_floor(x: f64) -> i64;
+    fn rungtwine_sqrt(x: f64) -> f64;
+    fn rungtwine_root_count(a: f64, b: f64, c: f64) -> usize;
+    fn rungtwine_first_root(a: f64, b: f64, c: f64) -> f64;
+    fn rungtwine_second_root(a: f64, b: f64, c: f64) -> f64;
+}
+
+/// Safe names: every function takes any pattern and has no further demand.
+mod proved {
+    pub fn median(a: f32, b: f32, c: f32) -> f32 {
+        unsafe { super::rungtwine_median(a, b, c) }
+    }
+    pub fn abs32(x: f32) -> f32 {
+        unsafe { super::rungtwine_abs32(x) }
+    }
+    pub fn abs64(x: f64) -> f64 {
+        unsafe { super::rungtwine_abs64(x) }
+    }
+    pub fn mix(a: f32, b: f32, w: f64) -> f32 {
+        unsafe { super::rungtwine_mix(a, b, w) }
+    }
+    pub fn narrow(x: f64) -> f32 {
+        unsafe { super::rungtwine_narrow(x) }
+    }
+    pub fn floor(x: f64) -> i64 {
+        unsafe { super::rungtwine_floor(x) }
+    }
+    pub fn sqrt(x: f64) -> f64 {
+        unsafe { super::rungtwine_sqrt(x) }
+    }
+    pub fn roots(a: f64, b: f64, c: f64) -> (usize, f64, f64) {
+        unsafe { (super::rungtwine_root_count(a, b, c), super::rungtwine_first_root(a, b, c), super::rungtwine_second_root(a, b, c)) }
+    }
+}
+
+/// What the machine does, by the rules that the definitions state.
+mod machine {
+    fn min(x: f32, y: f32) -> f32 {
+        if x.is_nan() || y < x { y } else { x }
+    }
+    fn max(x: f32, y: f32) -> f32 {
+        if x.is_nan() || x < y { y } else { x }
+    }
+    pub fn median(a: f32, b: f32, c: f32) -> f32 {
+        max(min(a, b), min(max(a, b), c))
+    }
+    pub fn mix(a: f32, b: f32, w: f64) -> f32 {
+        ((1.0 - w) * a as f64 + w * b as f64) as f32
+    }
+    #[inline(never)]
+    pub fn narrow(x: f64) -> f32 {
+        x as f32
+    }
+    #[inline(never)]
+    pub fn sqrt(x: f64) -> f64 {
+        x.sqrt()
+    }
+    pub fn floor(x: f64) -> i64 {
+        x.floor() as i64
+    }
+    /// `solve_quadratic` of the Rust, line by line.
+    pub fn roots(a: f64, b: f64, c: f64) -> (usize, f64, f64) {
+        if a == 0.0 || b.abs() > 1e12 * a.abs() {
+            if b == 0.0 {
+                return (0, 0.0, 0.0);
+            }
+            return (1, -c / b, 0.0);
+        }
+        let d = b * b - 4.0 * a * c;
+        if d > 0.0 {
+            let s = d.sqrt();
+            (2, (-b + s) / (2.0 * a), (-b - s) / (2.0 * a))
+        } else if d == 0.0 {
+            (1, -b / (2.0 * a), 0.0)
+        } else {
+            (0, 0.0, 0.0)
+        }
+    }
+}
+
+struct Random(u64);
+
+impl Random {
+    fn next(&mut self) -> u64 {
+        self.0 ^= self.0 << 13;
+        self.0 ^= self.0 >> 7;
+        self.0 ^= self.0 << 17;
+        self.0.wrapping_mul(0x2545_f491_4f6c_dd1d)
+    }
+    fn below(&mut self, n: u64) -> u64 {
+        (self.next() >> 11) % n
+    }
+    /// An f64: any bits, or the neighbourhood of a boundary of one of the two formats.
+    fn wide(&mut self) -> f64 {
+        const EDGES: [u64; 19] = [
+            0,                     // zero
+            1,                     // the least subnormal
+            0x0010_0000_0000_0000, // the least normal
+            0x3690_0000_0000_0000, // half of the least f32
+            0x36a0_0000_0000_0000, // the least f32
+            0x3810_0000_0000_0000, // the least normal f32
+            0x39e0_0000_0000_0000,
+            0x3fe0_0000_0000_0000, // 0.5
+            0x3ff0_0000_0000_0000, // 1
+            0x4330_0000_0000_0000, // 2^52
+            0x4340_0000_0000_0000, // 2^53
+            0x43d0_0000_0000_0000, // 2^62
+            0x43e0_0000_0000_0000, // 2^63
+            0x47ef_ffff_e000_0000, // the largest f32
+            0x47ef_ffff_f000_0000, // halfway from there to infinity
+            0x47f0_0000_0000_0000, // 2^128
+            0x7fef_ffff_ffff_ffff, // the largest f64
+            0x7ff0_0000_0000_0000, // infinity, and NaNs above it
+            0x7ff8_0000_0000_0000,
+        ];
+        let sign = self.next() & (1 << 63);
+        match self.below(8) {
+            0 | 1 => f64::from_bits(self.next()),
+            2 => f64::from_bits(sign | (EDGES[self.below(19) as usize].wrapping_add(self.below(9)).wrapping_sub(4) & !(1 << 63))),
+            // halfway between two f32, or an ulp off
+            3 => {
+                let x = f32::from_bits(self.next() as u32);
+                let half = (x as f64).to_bits().wrapping_add(0x1000_0000);
+                f64::from_bits(half.wrapping_add(self.below(3)).wrapping_sub(1))
+            }
+            // halfway between two subnormal f32, or an ulp off
+            4 => {
+                let x = (self.below(1 << 24) as f64 + 0.5) * 2f64.powi(-149);
+                f64::from_bits(sign | x.to_bits().wrapping_add(self.below(3)).wrapping_sub(1))
+            }
+            // a whole number, or an ulp off
+            5 => {
+                let k = self.below(64);
+                let n = (self.next() >> k) as f64;
+                f64::from_bits(sign | n.to_bits().wrapping_add(self.below(3)).wrapping_sub(1))
+            }
+            // a square, or an ulp off
+            6 => {
+                let k = self.below(38);
+                let r = (self.next() >> (11 + k)) as f64 + if self.below(2) == 0 { 0.5 } else { 0.0 };
+                f64::from_bits((r * r).to_bits().wrapping_add(self.below(3)).wrapping_sub(1))
+            }
+            // from -2 to 2
+            _ => (self.next() >> 11) as f64 / (1u64 << 52) as f64 * if sign == 0 { 1.0 } else { -1.0 },
+        }
+    }
+    /// An f32: any bits, a special value, or one of few, so that equal ones meet.
+    fn narrow(&mut self) -> f32 {
+        match self.below(4) {
+            0 => f32::from_bits(self.next() as u32),
+            1 => [0.0, -0.0, 0.5, 1.0, f32::NAN, f32::INFINITY, -f32::INFINITY, f32::MIN_POSITIVE, -1e-45, f32::MAX][self.below(10) as usize],
+            2 => self.below(8) as f32 / 8.0,
+            _ => (self.next() >> 40) as f32 / (1 << 24) as f32,
+        }
+    }
+    /// A coefficient: a difference of samples, or any f64.
+    fn coefficient(&mut self) -> f64 {
+        match self.below(4) {
+            0 => self.wide(),
+            1 => (self.below(17) as f64 - 8.0) / 4.0,
+            _ => (self.narrow() - self.narrow()) as f64,
+        }
+    }
+}
+
+fn same32(a: f32, b: f32) -> bool {
+    a.to_bits() == b.to_bits() || a.is_nan() && b.is_nan()
+}
+
+fn same64(a: f64, b: f64) -> bool {
+    a.to_bits() == b.to_bits() || a.is_nan() && b.is_nan()
+}
+
+struct Tally {
+    bad: u64,
+    all: u64,
+}
+
+impl Tally {
+    fn run(&mut self, name: &str, count: u64, mut one: impl FnMut(&mut Random) -> Option<String>) {
+        let mut random = Random(0x9e37_79b9_7f4a_7c15);
+        let mut bad = 0;
+        for _ in 0..count {
+            if let Some(text) = one(&mut random) {
+                bad += 1;
+                if bad <= 3 {
+                    println!("{name}: {text}");
+                }
+            }
+        }
+        println!("{name}: {count} patterns, {bad} differ");
+        self.bad += bad;
+        self.all += count;
+    }
+}
+
+fn compare(count: u64) -> bool {
+    let mut t = Tally { bad: 0, all: 0 };
+    t.run("narrow", count, |r| {
+        let x = r.wide();
+        (!same32(proved::narrow(x), x as f32)).then(|| format!("{:016x}", x.to_bits()))
+    });
+    t.run("square root", count, |r| {
+        let x = r.wide();
+        (!same64(proved::sqrt(x), x.sqrt())).then(|| format!("{:016x}", x.to_bits()))
+    });
+    t.run("floor", count, |r| {
+        let x = r.wide();
+        (proved::floor(x) != machine::floor(x)).then(|| format!("{:016x}", x.to_bits()))
+    });
+    t.run("size", count, |r| {
+        let (x, y) = (r.wide(), r.narrow());
+        (!same64(proved::abs64(x), x.abs()) || !same32(proved::abs32(y), y.abs())).then(|| format!("{:016x} {:08x}", x.to_bits(), y.to_bits()))
+    });
+    t.run("median", count, |r| {
+        let (a, b, c) = (r.narrow(), r.narrow(), r.narrow());
+        (!same32(proved::median(a, b, c), machine::median(a, b, c))).then(|| format!("{a:?} {b:?} {c:?}"))
+    });
+    t.run("mix", count, |r| {
+        let (a, b, w) = (r.narrow(), r.narrow(), r.wide());
+        (!same32(proved::mix(a, b, w), machine::mix(a, b, w))).then(|| format!("{a:?} {b:?} {w:?}"))
+    });
+    t.run("quadratic", count, |r| {
+        let (b, c) = (r.coefficient(), r.coefficient());
+        // at times just where b begins to dominate a, or with D = 0
+        let a = match r.below(8) {
+            0 => f64::from_bits((b / 1e12).to_bits().wrapping_add(r.below(3)).wrapping_sub(1)),
+            1 => b * b / (4.0 * c),
+            _ => r.coefficient(),
+        };
+        let (p, m) = (proved::roots(a, b, c), machine::roots(a, b, c));
+        (p.0 != m.0 || !same64(p.1, m.1) || !same64(p.2, m.2)).then(|| format!("{a:?} {b:?} {c:?}: {p:?} {m:?}"))
+    });
+    println!("{} patterns against this machine's arithmetic, {} differ", t.all, t.bad);
+    t.bad == 0
+}
+
+/// Nanoseconds a call over all inputs.
+fn once<A: Copy, B>(inputs: &[A], f: impl Fn(A) -> B) -> f64 {
+    let start = Instant::now();
+    for &x in inputs {
+        black_box(f(black_box(x)));
+    }
+    start.elapsed().as_nanos() as f64 / inputs.len() as f64
+}
+
+fn median(mut xs: Vec<f64>) -> f64 {
+    xs.sort_by(f64::total_cmp);
+    xs[xs.len() / 2]
+}
+
+/// Both over the same inputs in turn, a hundred and one times: the medians of the times and of the ratios.
+fn row<A: Copy, B, C>(name: &str, inputs: &[A], ours: impl Fn(A) -> B, theirs: impl Fn(A) -> C) {
+    let pairs: Vec<(f64, f64)> = (0..101).map(|_| (once(inputs, &ours), once(inputs, &theirs))).collect();
+    let a = median(pairs.iter().map(|p| p.0).collect());
+    let b = median(pairs.iter().map(|p| p.1).collect());
+    let r = median(pairs.iter().map(|p| p.0 / p.1).collect());
+    println!("{name:<12} proved {a:6.2} ns   machine {b:6.2} ns   ratio {r:5.2}");
+}
+
+fn time() {
+    let mut r = Random(1);
+    let values: Vec<f64> = (0..65536).map(|_| f64::from_bits(0x3c00_0000_0000_0000 + (r.next() >> 5))).collect();
+    row("narrow", &values, proved::narrow, machine::narrow);
+    row("square root", &values, proved::sqrt, machine::sqrt);
+}
+
+fn main() {
+    let word = std::env::args().nth(1).unwrap_or_default();
+    if word == "--time" {
+        time();
+    } else if let Ok(count) = word.parse() {
+        if !compare(count) {
+            std::process::exit(1);
+        }
+    } else {
+        eprintln!("usage: compare COUNT | compare --time");
+        std::process::exit(2);
+    }
+}
