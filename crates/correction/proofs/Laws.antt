@@ -1,0 +1,8 @@
+-- What follows from the definitions, for any bitmap.
+pub mod Neighbourhood
+pub mod Finite
+pub mod Alike
+pub mod Grows
+pub mod Falls
+pub mod Monotony
+pub mod Figures

@@ -1,0 +1,38 @@
+-- The table of figures, by evaluation of the definitions. Assumes nothing.
+use mathlib.Core.Path.{refl}
+use lib.Count.{trailingZeros}
+use lib.Ieee.{isNan, lt, le, ne, eq, neg, add, sum, sub, mul, div, round, units, odd, size, span, climb, ofBits, ofFields}
+use Rattle.numbers.specs.Select.{minOf, maxOf, medianOf, absOf}
+use Rattle.numbers.specs.Narrow.{narrowOf, mixOf}
+use Rattle.numbers.specs.Root.{rootBy, root, rootOf, sqrtOf}
+use Rattle.numbers.specs.Quadratic.{isLinear, linearRoots, discriminant, upperRoot, lowerRoot, squareRoots, rootsOf}
+use Rattle.correction.specs.Lists.{tab, any, some, count, first}
+use Rattle.correction.specs.Bitmap.{texel, texelMedian, inBounds, stencilByte, isProtected, isError}
+use Rattle.correction.specs.Settings.{sideSpan, diagonalSpan, radius}
+use Rattle.correction.specs.Checks.{badChannels, badSide, sizeRefusal, badLength, settingsPlace, oversize, samplesPlace, badOutlines, endBefore, badEnd, endsPlace, badEnds, badSegment, segmentsPlace, outlineRefusal, refusalNumber, accepted}
+use Rattle.correction.specs.Range.{fallsBelow, risesAbove, liesOutside, candidate, within, inRange, rangeTest}
+use Rattle.correction.specs.Linear.{guard, inside, mixedChannel, mixedMedian, next, difference, crossing, linearAt, linearPair, linearPairs, hasLinearArtifact}
+use Rattle.correction.specs.Diagonal.{abc, linearTerm, squareTerm, turningPoint, curve, curveChannel, curveMedian, middleDifference, quadraticRoots, pairRoots, movedEnd, turningTest, rootTests, diagonalAt, diagonalPair, diagonalPairs, hasDiagonalArtifact}
+use Rattle.correction.specs.Corners.{split, contours, before, shared, isCorner, cornersProtect}
+use Rattle.correction.specs.Edges.{near, edgePoint, edgeAt, masked, extreme, pairProtects, protectsLower, protectsUpper, asLower, asUpper, someLower, someUpper, someEdge, edgesProtect}
+use Rattle.correction.specs.Errors.{sideArtifact, someSide, diagonalArtifact, someDiagonal, someArtifact, hasArtifact}
+use Rattle.correction.specs.Pass.{texels, edgePriorityProtects, protects, flags, byteAt, passStencil, protectedCount, errorCount, answer, stencilAfter}
+use Rattle.correction.specs.Figures.{Figures}
+
+-- All figures of the table hold.
+pub figures : Figures
+unfolding trailingZeros isNan lt le ne eq neg add sum sub mul div round units odd size span climb ofBits ofFields minOf maxOf medianOf absOf narrowOf mixOf rootBy root rootOf sqrtOf isLinear linearRoots discriminant upperRoot lowerRoot squareRoots rootsOf tab any some count first texel texelMedian inBounds stencilByte isProtected isError sideSpan diagonalSpan radius badChannels badSide sizeRefusal badLength settingsPlace oversize samplesPlace badOutlines endBefore badEnd endsPlace badEnds badSegment segmentsPlace outlineRefusal refusalNumber accepted fallsBelow risesAbove liesOutside candidate within inRange rangeTest guard inside mixedChannel mixedMedian next difference crossing linearAt linearPair linearPairs hasLinearArtifact abc linearTerm squareTerm turningPoint curve curveChannel curveMedian middleDifference quadraticRoots pairRoots movedEnd turningTest rootTests diagonalAt diagonalPair diagonalPairs hasDiagonalArtifact split contours before shared isCorner cornersProtect near edgePoint edgeAt masked extreme pairProtects protectsLower protectsUpper asLower asUpper someLower someUpper someEdge edgesProtect sideArtifact someSide diagonalArtifact someDiagonal someArtifact hasArtifact texels edgePriorityProtects protects flags byteAt passStencil protectedCount errorCount answer stencilAfter
+figures =
+    record {
+      c1 = (refl, refl);
+      c2 = (refl, refl);
+      c3 = (refl, refl);
+      c4 = (refl, refl);
+      c5 = (refl, refl);
+      c6 = (refl, refl);
+      c7 = (refl, refl);
+      c8 = (refl, refl, refl, refl);
+      c9 = (refl, refl, refl, refl);
+      c10 = (refl, refl, refl);
+      c11 = refl;
+    }

@@ -1,0 +1,214 @@
+-- Demand 3: a stricter pass flags no texel that the other does not. Assumes nothing.
+--     flags-fall          of the definition of a flag
+--     monotony            of what the pass leaves in the stencil
+--     runs-monotony       of any two answers and stencils that are as defined
+--     promise-monotony    of two runs of the public function, by its promise
+--     collapse-monotony   of the samples
+--     errors-fall         of the number of errors
+--     ratio-monotony      where the ratio alone is raised
+use mathlib.Core.Path.{_≡_, refl, sym, _∙_, ap, subst}
+use mathlib.Core.Bool.{Bool, true, false, cond, not, true≢false}
+use mathlib.Core.List.{List, [], _∷_}
+use mathlib.Core.Logic.{dite}
+use Prim.Native.Nat.{ℕ, zero, suc, _+_, _*_, _/_, _%_, _≤_, _<_}
+use native.Mathlib.Nat.{le-refl, le-of-eq, add-le-add, lt-of-lt-of-le}
+use native.Mathlib.Decide.{decLt}
+use native.Mathlib.Omega.{arith}
+use lib.Arith.{digits-lt, digits-div, digits-mod}
+use lib.ListN.{getD, length, List·getD-eq-default}
+use lib.Dec.{T, eqb}
+use lib.Ieee.{Float, nan, le}
+use denote.Ref.{now}
+use contract.Lifetimes.{Lfts}
+use borrow.Fn.Kinds.{Dens}
+use borrow.Author.Tests.{eqb-true, eq-eqb, ne-eqb, lt-ltb}
+use Rattle.numbers.proofs.Laws.Order as Order
+use Rattle.numbers.proofs.Laws.Order.{nought}
+use Rattle.correction.specs.declared.config.Settings.{Settings}
+use Rattle.correction.specs.declared.pass.Answer.{Answer}
+use Rattle.correction.specs.declared.pass.Answer.the-variants.{Accepted, Refused}
+use Rattle.correction.specs.Lists.{count}
+use Rattle.correction.specs.Bitmap.{isError}
+use Rattle.correction.specs.Settings.{disabled}
+use Rattle.correction.specs.Checks.{Input, input, badLength, refusalNumber, refusalPlace, accepted}
+use Rattle.correction.specs.Corners.{Segment, contours}
+use Rattle.correction.specs.Errors.{hasArtifact}
+use Rattle.correction.specs.Collapse.{cellMedian, collapsed, collapsedSample}
+use Rattle.correction.specs.Pass.{texels, protects, flags, byteAt, passStencil, passSamples, countsOf, errorCount, answer, stencilAfter, samplesAfter, numberOf}
+use Rattle.correction.specs.Stricter.{Outlines, Stricter, withRatio}
+use Rattle.correction.specs.Stricter.Outlines.{none, kept}
+use Rattle.correction.proofs.Implied.{and-implies}
+use Rattle.correction.proofs.Filled.{tab-length, tab-at}
+use Rattle.correction.proofs.Passed.{passed}
+use Rattle.correction.proofs.Measures.{sizes}
+use Rattle.correction.proofs.Staged.{error-staged}
+use Rattle.correction.proofs.pass.msdf_error_correction.Kinds.{ps}
+use Rattle.correction.proofs.pass.msdf_error_correction.Reads as entry
+use Rattle.correction.proofs.Laws.Grows.{InLimits, length-not-negative, texels-same, protects-grows}
+use Rattle.correction.proofs.Laws.Falls.{has-artifact-falls}
+
+-- ---- what acceptance says
+
+number-zero : (i : Input) → accepted i ≡ true → refusalNumber i ≡ 0
+unfolding accepted
+number-zero i p = eqb-true (refusalNumber i) 0 p
+
+-- An accepted input's settings are in their limits.
+pub accepted-in-limits : (i : Input) → accepted i ≡ true → InLimits (i .settings)
+accepted-in-limits i p =
+    let q = passed i (number-zero i p) in
+    record { ratio = q .ratio; horizontal = q .horizontal; vertical = q .vertical; diagonal = q .diagonal }
+
+-- A pass answers with the number of its refusal, and 0 where it accepts.
+pub answer-number : (i : Input) → numberOf (answer i) ≡ refusalNumber i
+unfolding answer numberOf
+answer-number i = go (accepted i) refl
+  where
+    go : (b : Bool) → accepted i ≡ b → numberOf (cond b (Accepted (countsOf (passStencil i))) (Refused (refusalNumber i) (refusalPlace i))) ≡ refusalNumber i
+    go true p = unfold numberOf in sym (number-zero i p)
+    go false p = unfold numberOf in refl
+
+-- ---- the flag of a texel
+
+-- the verdict on the same bitmap, written another way
+same-artifact : (tex tex' : ℕ → ℕ → List Float) (w w' h h' : ℕ) (s : Settings) (protected : Bool) (x y : ℕ) → tex ≡ tex' → w ≡ w' → h ≡ h' → hasArtifact tex w h s protected x y ≡ hasArtifact tex' w' h' s protected x y
+same-artifact tex tex' w w' h h' s protected x y p q r = rw (p, q, r)
+
+-- Every texel that a stricter pass flags the other flags, too.
+pub flags-fall : (i j : Input) → Stricter i j → accepted i ≡ true → accepted j ≡ true → (x y : ℕ) → flags j x y ≡ true → flags i x y ≡ true
+unfolding flags
+flags-fall i j s p q x y =
+    let good = accepted-in-limits i p in
+    let good' = accepted-in-limits j q in
+    let top = passed j (number-zero j q) .mode in
+    and-implies (not (eqb (j .mode) disabled)) _ (not (eqb (i .mode) disabled)) _ (λ e. ap not (ne-eqb (i .mode) disabled (s .enabled)))
+    (λ e h.
+    same-artifact (texels i) (texels j) (i .width) (j .width) (i .height) (j .height) (i .settings) (protects i x y) x y (texels-same i j s) (s .width) (s .height)
+    ∙ has-artifact-falls (texels j) (j .width) (j .height) (i .settings) (j .settings) good good' (s .settings) (protects i x y) (protects j x y) (protects-grows i j s good good' top x y) x y h)
+
+-- ---- what the pass leaves
+
+-- An accepted pass leaves its stencil and its samples.
+pub accepted-leaves : (i : Input) → accepted i ≡ true → (stencilAfter i ≡ passStencil i) × (samplesAfter i ≡ passSamples i)
+unfolding stencilAfter samplesAfter
+accepted-leaves i p = (ap (λ (b : Bool). cond b (passStencil i) (i .stencil)) p, ap (λ (b : Bool). cond b (passSamples i) (i .samples)) p)
+
+-- The error bit of a cell says whether its texel is flagged.
+pub cell-error : (i : Input) → accepted i ≡ true → (k : ℕ) → k < i .width * i .height → isError (getD (stencilAfter i) k 0) ≡ flags i (k % i .width) (k / i .width)
+unfolding passStencil byteAt
+cell-error i p k l =
+    ap (λ (st : List ℕ). isError (getD st k 0)) (accepted-leaves i p .0)
+    ∙ ap isError (tab-at (i .width * i .height) (byteAt i) k 0 l)
+    ∙ error-staged (protects i (k % i .width) (k / i .width)) (flags i (k % i .width) (k / i .width))
+
+-- The stencil has a cell for each texel.
+pub stencil-length : (i : Input) → accepted i ≡ true → length (stencilAfter i) ≡ i .width * i .height
+unfolding passStencil
+stencil-length i p = ap length (accepted-leaves i p .0) ∙ tab-length (i .width * i .height) (byteAt i)
+
+-- beyond the last cell there is no error
+no-error : (st : List ℕ) (k : ℕ) → length st ≤ k → isError (getD st k 0) ≡ false
+unfolding isError
+no-error st k l = rw (List·getD-eq-default st 0 l)
+
+same-area : (i j : Input) → Stricter i j → i .width * i .height ≡ j .width * j .height
+same-area i j s = rw (s .width, s .height)
+
+-- Demand 3: every cell that a stricter pass leaves with an error the other leaves with one, too.
+pub monotony : (i j : Input) → Stricter i j → accepted i ≡ true → accepted j ≡ true → (k : ℕ) → isError (getD (stencilAfter j) k 0) ≡ true → isError (getD (stencilAfter i) k 0) ≡ true
+monotony i j s p q k e = dite (decLt k (j .width * j .height)) inner outer
+  where
+    inner : k < j .width * j .height → isError (getD (stencilAfter i) k 0) ≡ true
+    inner l =
+        cell-error i p k (subst (λ (n : ℕ). k < n) (sym (same-area i j s)) l)
+        ∙ flags-fall i j s p q (k % i .width) (k / i .width)
+        (subst (λ (w : ℕ). flags j (k % w) (k / w) ≡ true) (sym (s .width)) (sym (cell-error j q k l) ∙ e))
+
+    outer : (k < j .width * j .height → ⊥) → isError (getD (stencilAfter i) k 0) ≡ true
+    outer n = absurd (true≢false (sym e ∙ no-error (stencilAfter j) k (omega (arith, stencil-length j q))))
+
+-- The same of whatever two passes answer and leave, if both answer 0.
+pub runs-monotony : (i j : Input) → Stricter i j → (r r' : Answer) (st st' : List ℕ) → r ≡ answer i → st ≡ stencilAfter i → r' ≡ answer j → st' ≡ stencilAfter j → numberOf r ≡ 0 → numberOf r' ≡ 0 → (k : ℕ) → isError (getD st' k 0) ≡ true → isError (getD st k 0) ≡ true
+runs-monotony i j s r r' st st' a b a' b' n n' k e =
+    ap (λ (z : List ℕ). isError (getD z k 0)) b
+    ∙ monotony i j s (answered i r a n) (answered j r' a' n') k (ap (λ (z : List ℕ). isError (getD z k 0)) (sym b') ∙ e)
+  where
+    answered : (i : Input) (r : Answer) → r ≡ answer i → numberOf r ≡ 0 → accepted i ≡ true
+    answered i r a n = unfold accepted in eq-eqb (refusalNumber i) 0 (sym (answer-number i) ∙ ap numberOf (sym a) ∙ n)
+
+-- what comes in with a run's arguments
+abbrev pub given : (κs : Lfts 5) → Dens κs ps → Input
+given κs a =
+    input (a .0) (a .1 .0) (a .1 .1 .0) (now (a .1 .1 .1 .0)) (now (a .1 .1 .1 .1 .0)) (a .1 .1 .1 .1 .1 .0) (a .1 .1 .1 .1 .1 .1 .0) (now (a .1 .1 .1 .1 .1 .1 .1 .0)) (now (a .1 .1 .1 .1 .1 .1 .1 .1 .0)) (now (a .1 .1 .1 .1 .1 .1 .1 .1 .1 .0))
+
+-- Demand 3 of two runs of `msdf_error_correction` that answer 0: each keeps the promise as it is read from the source, of the arguments a, the answer z and the arguments at exit e, of which the stencil is the fifth.
+pub promise-monotony : (κs κs' : Lfts 5) (a : Dens κs ps) (a' : Dens κs' ps) (z z' : _) (e e' : _) → entry.Post κs a z e → entry.Post κs' a' z' e' → Stricter (given κs a) (given κs' a') → numberOf z ≡ 0 → numberOf z' ≡ 0 → (k : ℕ) → isError (getD (now (e' .1 .1 .1 .1 .0)) k 0) ≡ true → isError (getD (now (e .1 .1 .1 .1 .0)) k 0) ≡ true
+promise-monotony κs κs' a a' z z' e e' p p' s n n' k =
+    runs-monotony (given κs a) (given κs' a') s z z' (now (e .1 .1 .1 .1 .0)) (now (e' .1 .1 .1 .1 .0)) (p .0) (p .1 .0) (p' .0) (p' .1 .0) n n' k
+
+-- ---- what follows
+
+-- The first three samples of a texel that a pass flags are afterwards the median of what they were.
+pub flagged-collapses : (i : Input) → accepted i ≡ true → (k c : ℕ) → k < i .width * i .height → c < 3 → isError (getD (stencilAfter i) k 0) ≡ true → getD (samplesAfter i) (k * i .channels + c) nan ≡ cellMedian (i .samples) (i .channels) k
+unfolding passSamples collapsed collapsedSample
+flagged-collapses i p k c l m e =
+    let z = sizes (i .width) (i .height) (i .channels) (length (i .samples)) (length (i .stencil)) (passed i (number-zero i p) .sizes) in
+    let d : c < i .channels = lt-of-lt-of-le m (z .channels .0) in
+    let h : k * i .channels + c < length (i .samples) = subst (λ (n : ℕ). k * i .channels + c < n) (sym (z .samples)) (digits-lt l d) in
+    let f : ℕ → Bool = λ n. flags i (n % i .width) (n / i .width) in
+    ap (λ (xs : List Float). getD xs (k * i .channels + c) nan) (accepted-leaves i p .1)
+    ∙ tab-at (length (i .samples)) (collapsedSample (i .samples) (i .channels) f) (k * i .channels + c) nan h
+    ∙ rw (digits-div k d, digits-mod k d, sym (cell-error i p k l) ∙ e, lt-ltb c 3 m)
+
+-- The first three samples of a texel that a stricter pass collapses are collapsed by the other, too.
+pub collapse-monotony : (i j : Input) → Stricter i j → accepted i ≡ true → accepted j ≡ true → (k c : ℕ) → k < i .width * i .height → c < 3 → isError (getD (stencilAfter j) k 0) ≡ true → getD (samplesAfter i) (k * i .channels + c) nan ≡ cellMedian (i .samples) (i .channels) k
+collapse-monotony i j s p q k c l m e = flagged-collapses i p k c l m (monotony i j s p q k e)
+
+count-falls : (n : ℕ) (f g : ℕ → Bool) → ((k : ℕ) → f k ≡ true → g k ≡ true) → count n f ≤ count n g
+unfolding count
+count-falls zero f g h = le-refl 0
+count-falls (suc n) f g h = add-le-add (count-falls n f g h) (one-more (f n) (g n) (h n))
+  where
+    one-more : (a b : Bool) → (a ≡ true → b ≡ true) → cond a 1 0 ≤ cond b 1 0
+    one-more true b f = le-of-eq (ap (λ (t : Bool). cond t 1 0) (sym (f refl)))
+    one-more false b f = omega arith
+
+-- A stricter pass counts no more errors.
+pub errors-fall : (i j : Input) → Stricter i j → accepted i ≡ true → accepted j ≡ true → errorCount (stencilAfter j) ≤ errorCount (stencilAfter i)
+unfolding errorCount
+errors-fall i j s p q =
+    let f : ℕ → Bool = λ k. isError (getD (stencilAfter j) k 0) in
+    let g : ℕ → Bool = λ k. isError (getD (stencilAfter i) k 0) in
+    subst (λ (n : ℕ). count n f ≤ count (length (stencilAfter i)) g) (stencil-length i p ∙ same-area i j s ∙ sym (stencil-length j q)) (count-falls (length (stencilAfter i)) f g (monotony i j s p q))
+
+-- Every list of contours has its own in their order.
+pub outlines-refl : (cs : List (List Segment)) → Outlines cs cs
+outlines-refl [] = none
+outlines-refl (c ∷ cs) = kept c (outlines-refl cs)
+
+same-length : (v : Float) → badLength v ≡ false → T (le v v)
+same-length v g = Order.le-refl v (Order.number-right nought v (length-not-negative v g))
+
+-- Raising the ratio alone makes an input stricter.
+pub ratio-stricter : (i : Input) (r : Float) → (i .mode ≡ disabled → ⊥) → InLimits (i .settings) → T (le (i .settings .ratio) r) → Stricter i (withRatio i r)
+ratio-stricter i r on good more =
+    record {
+      width = refl;
+      height = refl;
+      channels = refl;
+      samples = refl;
+      enabled = on;
+      mode = le-refl (i .mode);
+      outlines = outlines-refl (contours (i .colours) (i .coords) (i .ends));
+      settings =
+          record {
+            ratio = more;
+            horizontal = same-length (i .settings .horizontal) (good .horizontal);
+            vertical = same-length (i .settings .vertical) (good .vertical);
+            diagonal = same-length (i .settings .diagonal) (good .diagonal);
+          };
+    }
+
+-- Raising the ratio alone never adds a flagged texel.
+pub ratio-monotony : (i : Input) (r : Float) → (i .mode ≡ disabled → ⊥) → T (le (i .settings .ratio) r) → accepted i ≡ true → accepted (withRatio i r) ≡ true → (x y : ℕ) → flags (withRatio i r) x y ≡ true → flags i x y ≡ true
+ratio-monotony i r on more p q = flags-fall i (withRatio i r) (ratio-stricter i r on (accepted-in-limits i p) more) p q

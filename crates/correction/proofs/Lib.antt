@@ -1,0 +1,22 @@
+pub mod Laws
+mod Implied
+mod Connectives
+mod Tested
+mod Filled
+mod Places
+mod Any
+mod First
+mod Counts
+mod Painted
+mod Sweep
+mod Far
+mod Rooted
+mod Clips
+mod Around
+mod Contours
+mod Ends
+mod Measures
+mod Refusals
+mod Passed
+mod Staged
+mod Whole

@@ -1,0 +1,97 @@
+-- What an answer 0 of the size checks says. Assumes nothing.
+--     sizes   the sides and the channels are within their bounds, and both lengths are as they should be
+--     sized   the same as the inner functions ask for it, and cells of the stencil
+--     lies    so a texel inside has its cell and its samples, and every product fits
+use mathlib.Core.Path.{_≡_, refl, sym, _∙_, ap}
+use mathlib.Core.Bool.{Bool, true, false, not, _||_, true≢false}
+use mathlib.Core.List.{List}
+use Prim.Native.Nat.{ℕ, _+_, _*_, _<_, _≤_}
+use native.Mathlib.Nat.{mul-le-mul, mul-comm, mul-le-mul-right, le-mul-of-pos-right}
+use native.Mathlib.Omega.{arith}
+use lib.Dec.{eqb, leb}
+use lib.ListN.{length}
+use lib.Ieee.{Float}
+use borrow.Author.Tests.{eqb-true, leb-true, not-false}
+use Rattle.correction.specs.Checks.{badChannels, badSide, sizeRefusal}
+use Rattle.correction.specs.Bounds.{Sized}
+use Rattle.correction.proofs.Places.{cell-lt, next-row}
+use Rattle.correction.proofs.Tested.{both-hold, cond-zero}
+
+pub side-bound : (n : ℕ) → badSide n ≡ false → (1 ≤ n) × (n ≤ 4096)
+unfolding badSide
+side-bound n p =
+    let q = both-hold (leb 1 n) (leb n 4096) (not-false _ p) in
+    (leb-true 1 n (q .0), leb-true n 4096 (q .1))
+
+either : (ch : ℕ) (a b : Bool) → eqb ch 3 ≡ a → eqb ch 4 ≡ b → (a || b) ≡ true → (3 ≤ ch) × (ch ≤ 4)
+either ch true b p q r = let e : ch ≡ 3 = eqb-true ch 3 p in omega arith
+either ch false true p q r = let e : ch ≡ 4 = eqb-true ch 4 q in omega arith
+either ch false false p q r = absurd (true≢false (sym r))
+
+pub channel-bound : (ch : ℕ) → badChannels ch ≡ false → (3 ≤ ch) × (ch ≤ 4)
+unfolding badChannels
+channel-bound ch p = either ch (eqb ch 3) (eqb ch 4) refl refl (not-false _ p)
+
+pub area-fits : (w h : ℕ) → w ≤ 4096 → h ≤ 4096 → w * h ≤ 16777216
+area-fits w h p q = mul-le-mul p q
+
+pub volume-fits : (w h ch : ℕ) → w ≤ 4096 → h ≤ 4096 → ch ≤ 4 → w * h * ch ≤ 67108864
+volume-fits w h ch p q r = mul-le-mul (area-fits w h p q) r
+
+-- n samples and m cells, of a bitmap that checks 1 to 4 let through
+pub record Sizes (w h ch n m : ℕ) : Type 0 where
+  pub wide : (1 ≤ w) × (w ≤ 4096)
+  pub high : (1 ≤ h) × (h ≤ 4096)
+  pub channels : (3 ≤ ch) × (ch ≤ 4)
+  pub samples : n ≡ w * h * ch
+  pub cells : m ≡ w * h
+
+pub sizes : (w h ch n m : ℕ) → sizeRefusal w h ch n m ≡ 0 → Sizes w h ch n m
+unfolding sizeRefusal
+sizes w h ch n m p =
+    let a = cond-zero (badChannels ch) 0 _ p in
+    let b = cond-zero (badSide w) 1 _ (a .1) in
+    let c = cond-zero (badSide h) 1 _ (b .1) in
+    let d = cond-zero (not (eqb n (w * h * ch))) 2 _ (c .1) in
+    let e = cond-zero (not (eqb m (w * h))) 3 _ (d .1) in
+    record {
+      wide = side-bound w (b .0);
+      high = side-bound h (c .0);
+      channels = channel-bound ch (a .0);
+      samples = eqb-true n (w * h * ch) (not-false _ (d .0));
+      cells = eqb-true m (w * h) (not-false _ (e .0));
+    }
+
+-- the same as the inner functions ask for it
+pub sized : (w h ch : ℕ) (xs : List Float) (m : ℕ) → Sizes w h ch (length xs) m → Sized w h ch xs
+sized w h ch xs m s =
+    record {
+      any = s .wide .0;
+      wide = s .wide .1;
+      high = s .high .1;
+      some = s .channels .0;
+      few = s .channels .1;
+      long = s .samples ∙ ap (λ (k : ℕ). k * ch) (mul-comm w h);
+    }
+
+pub cells : (w h ch n m : ℕ) → Sizes w h ch n m → m ≡ h * w
+cells w h ch n m s = s .cells ∙ mul-comm w h
+
+-- where texel x, y lies
+pub record Lies (w ch x y n m : ℕ) : Type 0 where
+  pub cell : y * w + x < m
+  pub last : (y * w + x) * ch + ch ≤ n
+  pub few : n ≤ 67108864
+  pub under : y * w + x ≤ (y * w + x) * ch
+
+pub lies : (w h ch x y n m : ℕ) → Sizes w h ch n m → x < w → y < h → Lies w ch x y n m
+lies w h ch x y n m s p q =
+    let k : y * w + x < h * w = cell-lt w h x y p q in
+    let c : h * w ≡ w * h = mul-comm h w in
+    let l : (y * w + x + 1) * ch ≤ w * h * ch = mul-le-mul-right ch (omega arith) in
+    record {
+      cell = omega (arith, s .cells);
+      last = omega (arith, s .samples, next-row ch (y * w + x));
+      few = omega (arith, s .samples, volume-fits w h ch (s .wide .1) (s .high .1) (s .channels .1));
+      under = le-mul-of-pos-right (y * w + x) (omega (arith, s .channels .0));
+    }

@@ -1,0 +1,143 @@
+-- What an answer 0 of all the checks says, check by check. Assumes nothing.
+--     passed         each check's fact
+--     good-outlines  the coordinates are twice the colours, and these are few
+--     length-bounds  a length that is not bad is from 0 to the limit
+--     size-bounds    a sample or a coordinate that is not oversize is from minus the limit to the limit
+--     good-segment   a segment that is not bad has a colour of at most 7 and two coordinates that are not oversize
+use mathlib.Core.Path.{_≡_, refl, subst}
+use mathlib.Core.Bool.{Bool, true, false, cond, not, _||_}
+use mathlib.Core.List.{List}
+use Prim.Native.Nat.{ℕ, suc, _+_, _*_, _<_, _≤_}
+use native.Mathlib.Omega.{arith}
+use lib.Dec.{eqb, ltb}
+use lib.ListN.{length, getD}
+use lib.Ieee.{Float, Format, binary32, binary64, nan, le, neg}
+use borrow.Author.Tests.{eqb-true, eqb-false, ltb-false, not-false}
+use Rattle.numbers.specs.Constants.{zeroOf, limitOf}
+use Rattle.correction.specs.declared.config.Settings.{Settings}
+use Rattle.correction.specs.Checks.{Input, sizeRefusal, badLength, settingsPlace, oversize, samplesPlace, badOutlines, endBefore, badEnd, endsPlace, badEnds, badSegment, segmentsPlace, outlineRefusal, refusalNumber}
+use Rattle.correction.specs.Bounds.{Outlined}
+use Rattle.correction.proofs.Ends.{before-next}
+use Rattle.correction.proofs.First.{first-past}
+use Rattle.correction.proofs.Tested.{both-hold, both-fail, cond-zero, cond-above}
+
+pub record Passed (i : Input) : Type 0 where
+  pub sizes : sizeRefusal (i .width) (i .height) (i .channels) (length (i .samples)) (length (i .stencil)) ≡ 0
+  pub mode : i .mode ≤ 3
+  pub ratio : badLength (i .settings .ratio) ≡ false
+  pub horizontal : badLength (i .settings .horizontal) ≡ false
+  pub vertical : badLength (i .settings .vertical) ≡ false
+  pub diagonal : badLength (i .settings .diagonal) ≡ false
+  pub samples : (j : ℕ) → j < length (i .samples) → oversize binary32 (getD (i .samples) j nan) ≡ false
+  pub outlines : badOutlines (length (i .colours)) (length (i .coords)) ≡ false
+  pub ends : (j : ℕ) → j < length (i .ends) → badEnd (i .ends) (length (i .colours)) j ≡ false
+  pub last : endBefore (i .ends) (length (i .ends)) ≡ length (i .colours)
+  pub outlined : Outlined (i .colours) (i .coords) (i .ends)
+  pub segments : (j : ℕ) → j < length (i .colours) → badSegment (i .colours) (i .coords) j ≡ false
+
+-- ---- a number within its limits
+
+pub length-bounds : (v : Float) → badLength v ≡ false → (le (zeroOf binary64) v ≡ true) × (le v (limitOf binary64) ≡ true)
+unfolding badLength
+length-bounds v p = both-hold (le (zeroOf binary64) v) (le v (limitOf binary64)) (not-false _ p)
+
+pub size-bounds : (f : Format) (v : Float) → oversize f v ≡ false → (le (neg (limitOf f)) v ≡ true) × (le v (limitOf f) ≡ true)
+unfolding oversize
+size-bounds f v p = both-hold (le (neg (limitOf f)) v) (le v (limitOf f)) (not-false _ p)
+
+pub good-segment : (colours : List ℕ) (coords : List Float) (j : ℕ) → badSegment colours coords j ≡ false → (getD colours j 0 ≤ 7) × ((oversize binary64 (getD coords (2 * j) nan) ≡ false) × (oversize binary64 (getD coords (2 * j + 1) nan) ≡ false))
+unfolding badSegment
+good-segment colours coords j p =
+    let x = oversize binary64 (getD coords (2 * j) nan) in
+    let y = oversize binary64 (getD coords (2 * j + 1) nan) in
+    let a = both-fail (ltb 7 (getD colours j 0)) (x || y) p in
+    (ltb-false 7 (getD colours j 0) (a .0), both-fail x y (a .1))
+
+-- ---- the outlines
+
+good-end : (ends : List ℕ) (n j : ℕ) → badEnd ends n j ≡ false → (endBefore ends j ≤ getD ends j 0) × (getD ends j 0 ≤ n)
+unfolding badEnd
+good-end ends n j p =
+    let a = both-fail (ltb (getD ends j 0) (endBefore ends j)) (ltb n (getD ends j 0)) p in
+    (ltb-false (getD ends j 0) (endBefore ends j) (a .0), ltb-false n (getD ends j 0) (a .1))
+
+pub good-outlines : (n m : ℕ) → badOutlines n m ≡ false → (n ≤ 65536) × (m ≡ 2 * n)
+unfolding badOutlines
+good-outlines n m p =
+    let a = both-fail (ltb 65536 n) (not (eqb m (2 * n))) p in
+    (ltb-false 65536 n (a .0), eqb-true m (2 * n) (not-false _ (a .1)))
+
+good-ends : (ends : List ℕ) (n : ℕ) → badEnds ends n ≡ false → ((j : ℕ) → j < length ends → badEnd ends n j ≡ false) × (endBefore ends (length ends) ≡ n)
+unfolding badEnds endsPlace
+good-ends ends n p =
+    let a = both-fail (ltb (endsPlace ends n) (length ends)) (not (eqb (endBefore ends (length ends)) n)) p in
+    (first-past (badEnd ends n) (length ends) (ltb-false _ (length ends) (a .0)), eqb-true (endBefore ends (length ends)) n (not-false _ (a .1)))
+
+made : (colours : List ℕ) (coords : List Float) (ends : List ℕ) → badOutlines (length colours) (length coords) ≡ false → ((j : ℕ) → j < length ends → badEnd ends (length colours) j ≡ false) → Outlined colours coords ends
+made colours coords ends p h =
+    let a = good-outlines (length colours) (length coords) p in
+    record {
+      twice = a .1;
+      few = a .0;
+      rising = λ j l. subst (λ (k : ℕ). k ≤ getD ends (suc j) 0) (before-next ends j (suc j) refl) (good-end ends (length colours) (suc j) (h (suc j) l) .0);
+      within = λ j l. good-end ends (length colours) j (h j l) .1;
+    }
+
+-- ---- the settings and the samples
+
+good-settings : (mode : ℕ) (s : Settings) → 5 ≤ settingsPlace mode s → (mode ≤ 3) × ((badLength (s .ratio) ≡ false) × ((badLength (s .horizontal) ≡ false) × ((badLength (s .vertical) ≡ false) × (badLength (s .diagonal) ≡ false))))
+unfolding settingsPlace
+good-settings mode s p =
+    let a = cond-above (ltb 3 mode) 0 _ 5 (omega arith) p in
+    let b = cond-above (badLength (s .ratio)) 1 _ 5 (omega arith) (a .1) in
+    let c = cond-above (badLength (s .horizontal)) 2 _ 5 (omega arith) (b .1) in
+    let d = cond-above (badLength (s .vertical)) 3 _ 5 (omega arith) (c .1) in
+    let e = cond-above (badLength (s .diagonal)) 4 5 5 (omega arith) (d .1) in
+    (ltb-false 3 mode (a .0), (b .0, (c .0, (d .0, e .0))))
+
+good-samples : (xs : List Float) → ltb (samplesPlace xs) (length xs) ≡ false → (j : ℕ) → j < length xs → oversize binary32 (getD xs j nan) ≡ false
+unfolding samplesPlace
+good-samples xs p = first-past (λ j. oversize binary32 (getD xs j nan)) (length xs) (ltb-false _ (length xs) p)
+
+good-segments : (colours : List ℕ) (coords : List Float) → ltb (segmentsPlace colours coords) (length colours) ≡ false → (j : ℕ) → j < length colours → badSegment colours coords j ≡ false
+unfolding segmentsPlace
+good-segments colours coords p = first-past (badSegment colours coords) (length colours) (ltb-false _ (length colours) p)
+
+-- ---- all of them
+
+number-zero : (n r : ℕ) (b : Bool) → eqb n 0 ≡ b → cond (not b) n r ≡ 0 → (n ≡ 0) × (r ≡ 0)
+number-zero n r true e p = (eqb-true n 0 e, p)
+number-zero n r false e p = absurd (eqb-false n 0 e p)
+
+outlines-pass : (colours : List ℕ) (coords : List Float) (ends : List ℕ) → outlineRefusal colours coords ends ≡ 0 → (badOutlines (length colours) (length coords) ≡ false) × ((badEnds ends (length colours) ≡ false) × (ltb (segmentsPlace colours coords) (length colours) ≡ false))
+unfolding outlineRefusal
+outlines-pass colours coords ends p =
+    let a = cond-zero (badOutlines (length colours) (length coords)) 6 _ p in
+    let b = cond-zero (badEnds ends (length colours)) 7 _ (a .1) in
+    let c = cond-zero (ltb (segmentsPlace colours coords) (length colours)) 8 0 (b .1) in
+    (a .0, (b .0, c .0))
+
+pub passed : (i : Input) → refusalNumber i ≡ 0 → Passed i
+unfolding refusalNumber
+passed i p =
+    let n = sizeRefusal (i .width) (i .height) (i .channels) (length (i .samples)) (length (i .stencil)) in
+    let a = number-zero n _ (eqb n 0) refl p in
+    let b = cond-zero (ltb (settingsPlace (i .mode) (i .settings)) 5) 4 _ (a .1) in
+    let c = cond-zero (ltb (samplesPlace (i .samples)) (length (i .samples))) 5 (outlineRefusal (i .colours) (i .coords) (i .ends)) (b .1) in
+    let s = good-settings (i .mode) (i .settings) (ltb-false (settingsPlace (i .mode) (i .settings)) 5 (b .0)) in
+    let o = outlines-pass (i .colours) (i .coords) (i .ends) (c .1) in
+    let e = good-ends (i .ends) (length (i .colours)) (o .1 .0) in
+    record {
+      sizes = a .0;
+      mode = s .0;
+      ratio = s .1 .0;
+      horizontal = s .1 .1 .0;
+      vertical = s .1 .1 .1 .0;
+      diagonal = s .1 .1 .1 .1;
+      samples = good-samples (i .samples) (c .0);
+      outlines = o .0;
+      ends = e .0;
+      last = e .1;
+      outlined = made (i .colours) (i .coords) (i .ends) (o .0) (e .0);
+      segments = good-segments (i .colours) (i .coords) (o .1 .1);
+    }

@@ -1,0 +1,148 @@
+-- The stages of the pass put together, over plain lists. Assumes nothing.
+--     protects-all, protects-none, protects-some   the protected cells of each mode, as protection leaves them
+--     find-ready, apply-ready                      what finding and collapsing ask for holds after the stage before
+--     switched-off, done                           what all stages leave, in mode Disabled and in the others
+--     refused, answered                            the answer and what is left, of a refusal and of an accepted input
+use mathlib.Core.Path.{_≡_, refl, sym, _∙_, ap, subst}
+use mathlib.Core.Bool.{Bool, true, false, cond, _||_}
+use mathlib.Core.List.{List}
+use Prim.Native.Nat.{ℕ, zero, suc, _*_, _/_, _%_, _<_, _≤_}
+use native.Mathlib.Nat.{mul-comm}
+use native.Mathlib.Omega.{arith}
+use lib.Dec.{eqb}
+use lib.ListN.{length, getD}
+use lib.Ieee.{Float}
+use borrow.Author.Tests.{eq-eqb, ne-eqb}
+use Rattle.correction.specs.declared.pass.Answer.the-variants.{Accepted, Refused}
+use Rattle.correction.specs.declared.pass.Counts.{Counts}
+use Rattle.correction.specs.Lists.{tab}
+use Rattle.correction.specs.Bitmap.{texel, stencilByte, isError}
+use Rattle.correction.specs.Checks.{Input, accepted, refusalNumber, refusalPlace}
+use Rattle.correction.specs.Corners.{contours, cornersProtect}
+use Rattle.correction.specs.Edges.{edgesProtect}
+use Rattle.correction.specs.Errors.{hasArtifact}
+use Rattle.correction.specs.Collapse.{collapsed}
+use Rattle.correction.specs.Bounds.{Sized, Outlined, painted, found}
+use Rattle.correction.specs.Pass.{texels, edgePriorityProtects, protects, flags, byteAt, passStencil, passSamples, countsOf, answer, stencilAfter, samplesAfter}
+use Rattle.correction.proofs.Filled.{tab-length, tab-at}
+use Rattle.correction.proofs.Painted.{painted-then}
+use Rattle.correction.proofs.Staged.{tab-same, found-staged, error-staged, collapsed-same, collapsed-none}
+use Rattle.correction.proofs.Measures.{sizes, sized, cells}
+use Rattle.correction.proofs.Passed.{passed}
+
+-- every entry of a list of 2 and 0 is below 255
+tab-small : (n : ℕ) (p : ℕ → Bool) (k : ℕ) → getD (tab n (λ j. cond (p j) 2 0)) k 0 < 255
+unfolding tab
+tab-small zero p k = omega arith
+tab-small (suc n) p zero = small (p zero)
+  where
+    small : (b : Bool) → cond b 2 0 < 255
+    small true = omega arith
+    small false = omega arith
+tab-small (suc n) p (suc k) = tab-small n (λ j. p (suc j)) k
+
+-- painting zeros
+painted-zeros : (n : ℕ) (p : ℕ → Bool) → painted p (tab n (λ k. 0)) ≡ tab n (λ k. cond (p k) 2 0)
+unfolding painted
+painted-zeros n p =
+    ap (λ (m : ℕ). tab m (λ k. cond (p k) 2 (getD (tab n (λ j. 0)) k 0))) (tab-length n (λ k. 0))
+    ∙ tab-same n _ _ (λ k l. ap (λ (v : ℕ). cond (p k) 2 v) (tab-at n (λ j. 0) k 0 l))
+
+module _ (i : Input) where
+  -- the cells that the mode protects, and the flagged ones
+  covers : ℕ → Bool
+  covers k = protects i (k % i .width) (k / i .width)
+
+  flagged : ℕ → Bool
+  flagged k = flags i (k % i .width) (k / i .width)
+
+  -- EdgeOnly
+  pub protects-all : (n : ℕ) → i .mode ≡ 3 → tab {A = ℕ} n (λ k. 2) ≡ tab n (λ k. cond (protects i (k % i .width) (k / i .width)) 2 0)
+  unfolding protects
+  protects-all n e = tab-same n _ _ (λ k l. simp (eq-eqb _ 3 e))
+
+  -- neither EdgeOnly nor EdgePriority
+  pub protects-none : (n : ℕ) → (i .mode ≡ 3 → ⊥) → (i .mode ≡ 2 → ⊥) → tab {A = ℕ} n (λ k. 0) ≡ tab n (λ k. cond (protects i (k % i .width) (k / i .width)) 2 0)
+  unfolding protects
+  protects-none n e f = tab-same n _ _ (λ k l. simp (ne-eqb _ 3 e, ne-eqb _ 2 f))
+
+  -- EdgePriority: zeros, then corners, then edges
+  pub protects-some : (n : ℕ) (st₀ st₁ st₂ : List ℕ) → i .mode ≡ 2
+      → st₀ ≡ tab n (λ k. 0)
+      → st₁ ≡ painted (λ k. cornersProtect (contours (i .colours) (i .coords) (i .ends)) (k % i .width) (k / i .width)) st₀
+      → st₂ ≡ painted (λ k. edgesProtect (texel (i .samples) (i .width) (i .channels)) (i .width) (i .height) (i .settings) (k % i .width) (k / i .width)) st₁
+      → st₂ ≡ tab n (λ k. cond (protects i (k % i .width) (k / i .width)) 2 0)
+  unfolding protects edgePriorityProtects texels
+  protects-some n st₀ st₁ st₂ e p q r =
+      let c : ℕ → Bool = λ k. cornersProtect (contours (i .colours) (i .coords) (i .ends)) (k % i .width) (k / i .width) in
+      let d : ℕ → Bool = λ k. edgesProtect (texel (i .samples) (i .width) (i .channels)) (i .width) (i .height) (i .settings) (k % i .width) (k / i .width) in
+      r ∙ ap (painted d) (q ∙ ap (painted c) p) ∙ painted-then c d (tab n (λ k. 0)) ∙ painted-zeros n (λ k. c k || d k)
+      ∙ tab-same n _ _ (λ k l. simp (eq-eqb (i .mode) 2 e, ap (λ (m : ℕ). eqb m 3) e))
+
+  module _ (s : Sized (i .width) (i .height) (i .channels) (i .samples)) (m : length (i .stencil) ≡ i .height * i .width) where
+    area : length (i .stencil) ≡ i .width * i .height
+    area = m ∙ mul-comm (i .height) (i .width)
+
+    -- Disabled
+    pub switched-off : (st : List ℕ) → i .mode ≡ 0 → st ≡ tab (length (i .stencil)) (λ k. 0) → (st ≡ passStencil i) × (i .samples ≡ passSamples i)
+    unfolding passStencil passSamples byteAt flags protects stencilByte
+    switched-off st e p =
+        let t : eqb (i .mode) 0 ≡ true = eq-eqb (i .mode) 0 e in
+        let u : eqb (i .mode) 2 ≡ false = ap (λ (k : ℕ). eqb k 2) e in
+        let v : eqb (i .mode) 3 ≡ false = ap (λ (k : ℕ). eqb k 3) e in (
+          p ∙ ap (λ (n : ℕ). tab n (λ k. 0)) area ∙ tab-same (i .width * i .height) _ _ (λ k l. simp (t, u, v)),
+          sym (collapsed-none (i .samples) (i .channels)) ∙ simp t refl,
+        )
+
+    module _ (st₁ : List ℕ) (p : st₁ ≡ tab (length (i .stencil)) (λ k. cond (protects i (k % i .width) (k / i .width)) 2 0)) where
+      pub find-ready : Sized (i .width) (i .height) (i .channels) (i .samples) × ((length st₁ ≡ i .height * i .width) × ((k : ℕ) → getD st₁ k 0 < 255))
+      unfolding covers
+      find-ready =
+          (s, (ap length p ∙ tab-length (length (i .stencil)) _ ∙ m, (λ k. subst (λ (l : List ℕ). getD l k 0 < 255) (sym p) (tab-small (length (i .stencil)) covers k))))
+
+      module _ (st₂ : List ℕ) (q : st₂ ≡ found (i .samples) (i .width) (i .height) (i .channels) (i .settings) st₁) where
+        found-as : st₂ ≡ tab (length (i .stencil)) (λ k. stencilByte (covers k) (hasArtifact (texel (i .samples) (i .width) (i .channels)) (i .width) (i .height) (i .settings) (covers k) (k % i .width) (k / i .width)))
+        unfolding covers
+        found-as = q ∙ found-staged (i .samples) (i .width) (i .height) (i .channels) (i .settings) (length (i .stencil)) covers st₁ p
+
+        found-long : length st₂ ≡ length (i .stencil)
+        found-long = ap length found-as ∙ tab-length (length (i .stencil)) _
+
+        pub apply-ready : ((3 ≤ i .channels) × (i .channels ≤ 4)) × (length (i .samples) ≡ length st₂ * i .channels)
+        apply-ready = ((s .some, s .few), s .long ∙ ap (λ (n : ℕ). n * i .channels) (sym (found-long ∙ m)))
+
+        module _ (e : i .mode ≡ 0 → ⊥) where
+          staged : st₂ ≡ tab (length (i .stencil)) (byteAt i)
+          unfolding covers byteAt flags texels
+          staged = found-as ∙ tab-same (length (i .stencil)) _ _ (λ k l. simp (ne-eqb (i .mode) 0 e))
+
+          error-at : (k : ℕ) → k < length (i .stencil) → isError (getD st₂ k 0) ≡ flags i (k % i .width) (k / i .width)
+          unfolding byteAt
+          error-at k l = ap (λ (z : List ℕ). isError (getD z k 0)) staged ∙ ap isError (tab-at (length (i .stencil)) (byteAt i) k 0 l) ∙ error-staged (protects i (k % i .width) (k / i .width)) (flags i (k % i .width) (k / i .width))
+
+          pub done : (xs : List Float) → xs ≡ collapsed (i .samples) (i .channels) (λ k. isError (getD st₂ k 0)) → (st₂ ≡ passStencil i) × (xs ≡ passSamples i)
+          unfolding passStencil passSamples
+          done xs r = (
+            staged ∙ ap (λ (n : ℕ). tab n (byteAt i)) area,
+            r ∙ collapsed-same (i .samples) (i .channels) (length (i .stencil)) _ _ (s .long ∙ ap (λ (n : ℕ). n * i .channels) (sym m)) error-at,
+          )
+
+  -- the number n and the place p of a refusal
+  pub refused : (n p : ℕ) → n ≡ refusalNumber i → p ≡ refusalPlace i → (n ≡ 0 → ⊥) → (Refused n p ≡ answer i) × ((i .stencil ≡ stencilAfter i) × (i .samples ≡ samplesAfter i))
+  unfolding answer stencilAfter samplesAfter accepted
+  refused n p e f h =
+      let t : eqb (refusalNumber i) 0 ≡ false = ne-eqb _ 0 (λ q. h (e ∙ q)) in
+      (simp (e, f, t), (simp t, simp t))
+
+  -- what the stages ask for once the checks pass
+  pub ready : refusalNumber i ≡ 0 → Sized (i .width) (i .height) (i .channels) (i .samples) × ((length (i .stencil) ≡ i .height * i .width) × Outlined (i .colours) (i .coords) (i .ends))
+  ready z =
+      let o = passed i z in
+      let s = sizes _ _ _ _ _ (o .sizes) in
+      (sized _ _ _ _ _ s, (cells _ _ _ _ _ s, o .outlined))
+
+  pub answered : (st : List ℕ) (xs : List Float) (c : Counts) → refusalNumber i ≡ 0 → st ≡ passStencil i → xs ≡ passSamples i → c ≡ countsOf st → (Accepted c ≡ answer i) × ((st ≡ stencilAfter i) × (xs ≡ samplesAfter i))
+  unfolding answer stencilAfter samplesAfter accepted
+  answered st xs c z p q r =
+      let t : eqb (refusalNumber i) 0 ≡ true = eq-eqb _ 0 z in
+      (simp t (ap Accepted (r ∙ ap countsOf p)), (simp t p, simp t q))

@@ -1,0 +1,31 @@
+-- `correction::checks::bad_segment` meets its contract. Assumes nothing.
+use mathlib.Core.Path.{refl}
+use borrow.Author.Needs.{needs}
+use borrow.Author.Tests.{lt-ltb, le-ltb}
+use Rattle.correction.proofs.Connectives.{or-taken, or-left}
+use Rattle.correction.proofs.checks.bad_segment.Statement.{statement}
+use Rattle.correction.proofs.checks.bad_segment.Tie as tie
+
+bad-coordinate-requires : tie.Need-bad-coordinate-requires
+bad-coordinate-requires c κs = search needs
+
+bad-coordinate-requires-2 : tie.Need-bad-coordinate-requires-2
+bad-coordinate-requires-2 c κs = search needs
+
+returns : tie.Need-returns
+returns c = or-taken _ refl (lt-ltb _ _ (c .if1 .taken))
+
+returns-2 : tie.Need-returns-2
+returns-2 c =
+    or-left refl (le-ltb _ _ (c .before .before .if1 .left))
+    (or-taken _ (c .before .bad-coordinate .ensures) (c .if2 .taken))
+
+returns-3 : tie.Need-returns-3
+returns-3 c =
+    or-left refl (le-ltb _ _ (c .before .before .before .if1 .left))
+    (or-left (c .before .before .bad-coordinate .ensures) (c .before .if2 .left) (c .bad-coordinate2 .ensures))
+
+pub bad-segment-spec : {M : Type 1} → statement M
+bad-segment-spec =
+    tie.close
+    (tie.spec bad-coordinate-requires bad-coordinate-requires-2 returns returns-2 returns-3)

@@ -1,0 +1,43 @@
+-- Bitmap and index rules: row 0 at the bottom, channels interleaved, and what a stencil cell's byte says. Definitions only.
+use Prim.Native.Nat.{ℕ, _+_, _*_, _/_, _%_}
+use mathlib.Core.Bool.{Bool, cond, _&&_}
+use mathlib.Core.List.{List, [], _∷_}
+use lib.ListN.{getD}
+use lib.Dec.{eqb, leb, ltb}
+use lib.Ieee.{Float, nan}
+use Rattle.numbers.specs.Select.{medianOf}
+
+-- the number of texel x, y in a bitmap of width w, which is its stencil cell
+abbrev pub cell : ℕ → ℕ → ℕ → ℕ
+cell w x y = y * w + x
+
+-- where the sample of texel x, y, channel i stands
+abbrev pub place : ℕ → ℕ → ℕ → ℕ → ℕ → ℕ
+place w ch x y i = cell w x y * ch + i
+
+-- the first three channels of texel x, y
+unfoldable pub texel : List Float → ℕ → ℕ → ℕ → ℕ → List Float
+texel xs w ch x y = getD xs (place w ch x y 0) nan ∷ getD xs (place w ch x y 1) nan ∷ getD xs (place w ch x y 2) nan ∷ []
+
+-- channel i of a texel
+abbrev pub channel : List Float → ℕ → Float
+channel a i = getD a i nan
+
+-- the median of a texel's three channels
+unfoldable pub texelMedian : List Float → Float
+texelMedian a = medianOf (channel a 0) (channel a 1) (channel a 2)
+
+-- Column nx and row ny, counted from 1, are inside: so 0 and the size plus 1 are the outside's nearest.
+unfoldable pub inBounds : ℕ → ℕ → ℕ → ℕ → Bool
+inBounds w h nx ny = ltb 0 nx && (leb nx w && (ltb 0 ny && leb ny h))
+
+-- the byte of a stencil cell: value 2 where it is protected, and value 1 where it has an error
+unfoldable pub stencilByte : Bool → Bool → ℕ
+stencilByte protected error = cond protected 2 0 + cond error 1 0
+
+-- what the byte says
+unfoldable pub isProtected : ℕ → Bool
+isProtected v = eqb (v / 2 % 2) 1
+
+unfoldable pub isError : ℕ → Bool
+isError v = eqb (v % 2) 1

@@ -1,0 +1,133 @@
+-- The checks, in number order, and their places. Definitions only.
+use Prim.Native.Nat.{ℕ, _+_, _-_, _*_}
+use mathlib.Core.Bool.{Bool, true, false, cond, not, _&&_, _||_}
+use mathlib.Core.List.{List, [], _∷_}
+use lib.ListN.{getD, length}
+use lib.Dec.{eqb, ltb, leb}
+use lib.Ieee.{Float, Format, binary32, binary64, nan, le, neg}
+use Rattle.numbers.specs.Constants.{zeroOf, limitOf}
+use Rattle.correction.specs.declared.config.Settings.{Settings}
+use Rattle.correction.specs.Lists.{first}
+
+-- All that comes in.
+pub record Input : Type 0 where
+  pub width : ℕ
+  pub height : ℕ
+  pub channels : ℕ
+  pub samples : List Float
+  pub stencil : List ℕ
+  pub mode : ℕ
+  pub settings : Settings
+  pub colours : List ℕ
+  pub coords : List Float
+  pub ends : List ℕ
+
+abbrev pub input : ℕ → ℕ → ℕ → List Float → List ℕ → ℕ → Settings → List ℕ → List Float → List ℕ → Input
+input w h ch xs st mode s colours coords ends =
+    record { width = w; height = h; channels = ch; samples = xs; stencil = st; mode = mode; settings = s; colours = colours; coords = coords; ends = ends }
+
+-- ---- checks 1 to 4: channels, sides, and the two lengths
+
+unfoldable pub badChannels : ℕ → Bool
+badChannels ch = not (eqb ch 3 || eqb ch 4)
+
+-- outside 1..4,096
+unfoldable pub badSide : ℕ → Bool
+badSide n = not (leb 1 n && leb n 4096)
+
+-- the number of the first of them that fails, of n samples and m cells, and 0 where none does
+unfoldable pub sizeRefusal : ℕ → ℕ → ℕ → ℕ → ℕ → ℕ
+sizeRefusal w h ch n m =
+    cond (badChannels ch) 1
+    (cond (badSide w) 2
+    (cond (badSide h) 2
+    (cond (not (eqb n (w * h * ch))) 3
+    (cond (not (eqb m (w * h))) 4 0))))
+
+-- ---- check 5: mode above 3, or ratio or a length NaN, below 0 or above 1,048,576
+
+unfoldable pub badLength : Float → Bool
+badLength v = not (le (zeroOf binary64) v && le v (limitOf binary64))
+
+-- the first bad: mode 0, ratio 1, lengths 2, 3, 4; 5 where none is
+unfoldable pub settingsPlace : ℕ → Settings → ℕ
+settingsPlace mode s =
+    cond (ltb 3 mode) 0
+    (cond (badLength (s .ratio)) 1
+    (cond (badLength (s .horizontal)) 2
+    (cond (badLength (s .vertical)) 3
+    (cond (badLength (s .diagonal)) 4 5))))
+
+-- ---- check 6: a sample NaN, infinite or of size above 1,048,576
+
+unfoldable pub oversize : Format → Float → Bool
+oversize f v = not (le (neg (limitOf f)) v && le v (limitOf f))
+
+-- the first bad sample, and their number where none is
+unfoldable pub samplesPlace : List Float → ℕ
+samplesPlace xs = first (length xs) (λ j. oversize binary32 (getD xs j nan))
+
+-- ---- check 7: coordinates not twice the colours, or over 65,536 segments
+
+unfoldable pub badOutlines : ℕ → ℕ → Bool
+badOutlines colours coords = ltb 65536 colours || not (eqb coords (2 * colours))
+
+-- ---- check 8: an end below the one before it or above the segment count; or the last end not the segment count
+
+-- the end before end i, 0 before the first
+unfoldable pub endBefore : List ℕ → ℕ → ℕ
+endBefore ends i = cond (eqb i 0) 0 (getD ends (i - 1) 0)
+
+unfoldable pub badEnd : List ℕ → ℕ → ℕ → Bool
+badEnd ends n i = ltb (getD ends i 0) (endBefore ends i) || ltb n (getD ends i 0)
+
+-- the first bad end, and the list's length where none is
+unfoldable pub endsPlace : List ℕ → ℕ → ℕ
+endsPlace ends n = first (length ends) (badEnd ends n)
+
+unfoldable pub badEnds : List ℕ → ℕ → Bool
+badEnds ends n = ltb (endsPlace ends n) (length ends) || not (eqb (endBefore ends (length ends)) n)
+
+-- ---- check 9: colour above 7, or a coordinate NaN, infinite or of size above 1,048,576
+
+unfoldable pub badSegment : List ℕ → List Float → ℕ → Bool
+badSegment colours coords i = ltb 7 (getD colours i 0) || (oversize binary64 (getD coords (2 * i) nan) || oversize binary64 (getD coords (2 * i + 1) nan))
+
+-- the first bad segment, and their number where none is
+unfoldable pub segmentsPlace : List ℕ → List Float → ℕ
+segmentsPlace colours coords = first (length colours) (badSegment colours coords)
+
+-- ---- the first failure answers
+
+-- of checks 7 to 9 the number of the first that fails, and 0 where all pass
+unfoldable pub outlineRefusal : List ℕ → List Float → List ℕ → ℕ
+outlineRefusal colours coords ends =
+    cond (badOutlines (length colours) (length coords)) 7
+    (cond (badEnds ends (length colours)) 8
+    (cond (ltb (segmentsPlace colours coords) (length colours)) 9 0))
+
+-- the number of the first check that fails, and 0 where all pass
+unfoldable pub refusalNumber : Input → ℕ
+refusalNumber i =
+    let n = sizeRefusal (i .width) (i .height) (i .channels) (length (i .samples)) (length (i .stencil)) in
+    cond (not (eqb n 0)) n
+    (cond (ltb (settingsPlace (i .mode) (i .settings)) 5) 5
+    (cond (ltb (samplesPlace (i .samples)) (length (i .samples))) 6
+    (outlineRefusal (i .colours) (i .coords) (i .ends))))
+
+-- the place of check n, where it is 8 or 9
+unfoldable pub outlinePlace : List ℕ → List Float → List ℕ → ℕ → ℕ
+outlinePlace colours coords ends n = cond (eqb n 8) (endsPlace ends (length colours)) (cond (eqb n 9) (segmentsPlace colours coords) 0)
+
+-- the place of check n
+unfoldable pub placeOf : Input → ℕ → ℕ
+placeOf i n =
+    cond (eqb n 5) (settingsPlace (i .mode) (i .settings))
+    (cond (eqb n 6) (samplesPlace (i .samples))
+    (outlinePlace (i .colours) (i .coords) (i .ends) n))
+
+unfoldable pub refusalPlace : Input → ℕ
+refusalPlace i = placeOf i (refusalNumber i)
+
+unfoldable pub accepted : Input → Bool
+accepted i = eqb (refusalNumber i) 0

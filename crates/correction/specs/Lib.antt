@@ -1,0 +1,16 @@
+pub mod Lists
+pub mod Bitmap
+pub mod Settings
+pub mod Checks
+pub mod Range
+pub mod Linear
+pub mod Diagonal
+pub mod Corners
+pub mod Edges
+pub mod Errors
+pub mod Collapse
+pub mod Pass
+pub mod Stricter
+pub mod View
+pub mod Figures
+pub mod Bounds

@@ -1,0 +1,85 @@
+-- The pass: what it answers, and what it leaves in the stencil and in the samples, for every input. Definitions only.
+use Prim.Native.Nat.{ℕ, _+_, _*_, _/_, _%_}
+use mathlib.Core.Bool.{Bool, true, false, cond, not, _&&_, _||_}
+use mathlib.Core.List.{List}
+use lib.ListN.{getD, length}
+use lib.Dec.{eqb}
+use lib.Ieee.{Float}
+use Rattle.correction.specs.declared.pass.Answer.{Answer}
+use Rattle.correction.specs.declared.pass.Answer.the-variants.{Accepted, Refused}
+use Rattle.correction.specs.declared.pass.Counts.{Counts}
+use Rattle.correction.specs.Lists.{tab, count}
+use Rattle.correction.specs.Bitmap.{texel, stencilByte, isProtected, isError}
+use Rattle.correction.specs.Settings.{disabled, edgePriority, edgeOnly}
+use Rattle.correction.specs.Checks.{Input, accepted, refusalNumber, refusalPlace}
+use Rattle.correction.specs.Corners.{contours, cornersProtect}
+use Rattle.correction.specs.Edges.{edgesProtect}
+use Rattle.correction.specs.Errors.{hasArtifact}
+use Rattle.correction.specs.Collapse.{collapsed}
+
+-- the texels of the bitmap
+unfoldable pub texels : Input → ℕ → ℕ → List Float
+texels i x y = texel (i .samples) (i .width) (i .channels) x y
+
+-- EdgePriority: corners and edges
+unfoldable pub edgePriorityProtects : Input → ℕ → ℕ → Bool
+edgePriorityProtects i x y = cornersProtect (contours (i .colours) (i .coords) (i .ends)) x y || edgesProtect (texels i) (i .width) (i .height) (i .settings) x y
+
+-- EdgeOnly sets bit 2 everywhere; Indiscriminate nowhere.
+unfoldable pub protects : Input → ℕ → ℕ → Bool
+protects i x y = eqb (i .mode) edgeOnly || eqb (i .mode) edgePriority && edgePriorityProtects i x y
+
+-- texel x, y is flagged
+unfoldable pub flags : Input → ℕ → ℕ → Bool
+flags i x y = not (eqb (i .mode) disabled) && hasArtifact (texels i) (i .width) (i .height) (i .settings) (protects i x y) x y
+
+-- the byte of cell k, whose texel is k % width, k / width
+unfoldable pub byteAt : Input → ℕ → ℕ
+byteAt i k = stencilByte (protects i (k % i .width) (k / i .width)) (flags i (k % i .width) (k / i .width))
+
+-- the stencil of an accepted pass
+unfoldable pub passStencil : Input → List ℕ
+passStencil i = tab (i .width * i .height) (byteAt i)
+
+-- the samples of an accepted pass
+unfoldable pub passSamples : Input → List Float
+passSamples i = collapsed (i .samples) (i .channels) (λ k. flags i (k % i .width) (k / i .width))
+
+-- the number of stencil cells with bit 2, and with bit 1
+unfoldable pub protectedCount : List ℕ → ℕ
+protectedCount st = count (length st) (λ k. isProtected (getD st k 0))
+
+unfoldable pub errorCount : List ℕ → ℕ
+errorCount st = count (length st) (λ k. isError (getD st k 0))
+
+abbrev pub countsOf : List ℕ → Counts
+countsOf st = record { protected = protectedCount st; error = errorCount st }
+
+-- what the pass answers
+unfoldable pub answer : Input → Answer
+answer i = cond (accepted i) (Accepted (countsOf (passStencil i))) (Refused (refusalNumber i) (refusalPlace i))
+
+-- the stencil and the samples afterwards: a refusal writes nothing
+unfoldable pub stencilAfter : Input → List ℕ
+stencilAfter i = cond (accepted i) (passStencil i) (i .stencil)
+
+unfoldable pub samplesAfter : Input → List Float
+samplesAfter i = cond (accepted i) (passSamples i) (i .samples)
+
+-- ---- an answer's number, place and counts
+
+unfoldable pub numberOf : Answer → ℕ
+numberOf (Accepted c) = 0
+numberOf (Refused n p) = n
+
+unfoldable pub placeIn : Answer → ℕ
+placeIn (Accepted c) = 0
+placeIn (Refused n p) = p
+
+unfoldable pub protectedIn : Answer → ℕ
+protectedIn (Accepted c) = c .protected
+protectedIn (Refused n p) = 0
+
+unfoldable pub errorsIn : Answer → ℕ
+errorsIn (Accepted c) = c .error
+errorsIn (Refused n p) = 0

@@ -1,0 +1,159 @@
+// The pass: checks, protection, finding, collapsing.
+ghost use mathlib.Core.Path.{_≡_};
+ghost use Prim.Native.Nat.{_*_, _/_, _%_};
+ghost use mathlib.Core.Bool.{cond};
+ghost use lib.ListN.{length};
+ghost use Rattle.correction.specs.Checks.{input};
+ghost use Rattle.correction.specs.Lists.{tab};
+ghost use Rattle.correction.specs.Pass as Pass;
+ghost use Rattle.correction.specs.Bounds.{Sized, Outlined};
+use crate::checks;
+use crate::collapse;
+use crate::config;
+use crate::config::Settings;
+use crate::corners;
+use crate::edges;
+use crate::errors;
+
+// The stencil cells that are protected, and those with an error.
+pub struct Counts {
+    pub protected: usize,
+    pub error: usize,
+}
+
+// What the pass answers: the counts, or the number of the first check that fails and its place.
+pub enum Answer {
+    Accepted(Counts),
+    Refused(u8, usize),
+}
+
+fn fill(stencil: &mut [u8], v: u8)
+    ensures { λ _. ⌜ now (stencil .exit) ≡ tab (length (now (stencil .entry))) (λ k. v) ⌝ }
+{
+    let mut i = 0usize;
+    while i < stencil.len() {
+        stencil[i] = v;
+        i += 1;
+    }
+}
+
+fn count_cells(stencil: &[u8]) -> Counts
+    ensures { λ r. ⌜ r ≡ Pass.countsOf (now (stencil .entry)) ⌝ }
+{
+    let mut p = 0usize;
+    let mut e = 0usize;
+    let mut i = 0usize;
+    while i < stencil.len() {
+        p += (stencil[i] / 2 % 2) as usize;
+        e += (stencil[i] % 2) as usize;
+        i += 1;
+    }
+    Counts {
+        protected: p,
+        error: e,
+    }
+}
+
+// Sets the protected bit as the mode wants it, and clears the rest.
+fn protect(
+    stencil: &mut [u8],
+    xs: &[f32],
+    w: usize,
+    h: usize,
+    ch: usize,
+    mode: u8,
+    s: Settings,
+    colours: &[u8],
+    coords: &[f64],
+    ends: &[usize],
+)
+    requires { ⌜ Sized w h ch (now xs) ⌝ }
+    requires { ⌜ length (now stencil) ≡ h * w ⌝ }
+    requires { ⌜ Outlined (now colours) (now coords) (now ends) ⌝ }
+    ensures { λ _. ⌜ now (stencil .exit) ≡ tab (length (now (stencil .entry))) (λ k. cond (Pass.protects (input w h ch (now (xs .entry)) (now (stencil .entry)) mode s (now (colours .entry)) (now (coords .entry)) (now (ends .entry))) (k % w) (k / w)) 2 0) ⌝ }
+{
+    if mode == config::EDGE_ONLY {
+        fill(stencil, 2);
+        return;
+    }
+    fill(stencil, 0);
+    if mode == config::EDGE_PRIORITY {
+        corners::protect_corners(stencil, w, h, colours, coords, ends);
+        edges::protect_edges(stencil, xs, w, h, ch, s);
+    }
+}
+
+// Everything after the checks.
+fn correct(
+    stencil: &mut [u8],
+    xs: &mut [f32],
+    w: usize,
+    h: usize,
+    ch: usize,
+    mode: u8,
+    s: Settings,
+    colours: &[u8],
+    coords: &[f64],
+    ends: &[usize],
+)
+    requires { ⌜ Sized w h ch (now xs) ⌝ }
+    requires { ⌜ length (now stencil) ≡ h * w ⌝ }
+    requires { ⌜ Outlined (now colours) (now coords) (now ends) ⌝ }
+    ensures leaves { λ _. ⌜ now (stencil .exit) ≡ Pass.passStencil (input w h ch (now (xs .entry)) (now (stencil .entry)) mode s (now (colours .entry)) (now (coords .entry)) (now (ends .entry))) ⌝ }
+    ensures writes { λ _. ⌜ now (xs .exit) ≡ Pass.passSamples (input w h ch (now (xs .entry)) (now (stencil .entry)) mode s (now (colours .entry)) (now (coords .entry)) (now (ends .entry))) ⌝ }
+{
+    if mode == config::DISABLED {
+        fill(stencil, 0);
+        return;
+    }
+    protect(stencil, xs, w, h, ch, mode, s, colours, coords, ends);
+    errors::find_errors(stencil, xs, w, h, ch, s);
+    collapse::apply(stencil, xs, ch);
+}
+
+// The error correction of a bitmap, in place.
+pub fn msdf_error_correction(
+    width: usize,
+    height: usize,
+    channels: usize,
+    samples: &mut [f32],
+    stencil: &mut [u8],
+    mode: u8,
+    settings: Settings,
+    colours: &[u8],
+    coords: &[f64],
+    ends: &[usize],
+) -> Answer
+    ensures answers { λ r. ⌜ r ≡ Pass.answer (input width height channels (now (samples .entry)) (now (stencil .entry)) mode settings (now (colours .entry)) (now (coords .entry)) (now (ends .entry))) ⌝ }
+    ensures leaves { λ r. ⌜ now (stencil .exit) ≡ Pass.stencilAfter (input width height channels (now (samples .entry)) (now (stencil .entry)) mode settings (now (colours .entry)) (now (coords .entry)) (now (ends .entry))) ⌝ }
+    ensures writes { λ r. ⌜ now (samples .exit) ≡ Pass.samplesAfter (input width height channels (now (samples .entry)) (now (stencil .entry)) mode settings (now (colours .entry)) (now (coords .entry)) (now (ends .entry))) ⌝ }
+{
+    let f = checks::check(
+        width,
+        height,
+        channels,
+        samples,
+        stencil,
+        mode,
+        settings,
+        colours,
+        coords,
+        ends,
+    );
+    if f.number != 0 {
+        return Answer::Refused(f.number, f.place);
+    }
+    correct(
+        stencil,
+        samples,
+        width,
+        height,
+        channels,
+        mode,
+        settings,
+        colours,
+        coords,
+        ends,
+    );
+    Answer::Accepted(count_cells(stencil))
+}

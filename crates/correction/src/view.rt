@@ -1,0 +1,37 @@
+// The texel view: a texel's channels, of the corrected bitmap where its error flag is set and of the original elsewhere.
+ghost use mathlib.Core.Path.{_≡_};
+ghost use Rattle.correction.specs.View as View;
+use crate::checks;
+
+pub fn texel_view<'a>(
+    original: &'a [f32],
+    corrected: &'a [f32],
+    stencil: &[u8],
+    width: usize,
+    height: usize,
+    channels: usize,
+    x: usize,
+    y: usize,
+) -> &'a [f32]
+    ensures { λ r. ⌜ now r ≡ View.viewOf (now (original .entry)) (now (corrected .entry)) (now (stencil .entry)) width height channels x y ⌝ }
+{
+    if checks::size_refusal(width, height, channels, original.len(), stencil.len()) != 0 {
+        return &original[0..0];
+    }
+    if checks::size_refusal(width, height, channels, corrected.len(), stencil.len()) != 0 {
+        return &original[0..0];
+    }
+    if x >= width {
+        return &original[0..0];
+    }
+    if y >= height {
+        return &original[0..0];
+    }
+    let k = y * width + x;
+    let at = k * channels;
+    let end = at + channels;
+    if stencil[k] % 2 == 1 {
+        return &corrected[at..end];
+    }
+    &original[at..end]
+}
