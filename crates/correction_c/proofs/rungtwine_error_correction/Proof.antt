@@ -1,0 +1,60 @@
+-- `correction_c::rungtwine_error_correction` meets its contract: each arm is given which answer the pass gave, and the pass's promise says what that is. Assumes nothing.
+use mathlib.Core.Path.{_≡_, sym, _∙_, ap}
+use borrow.Author.Needs.{needs}
+use Rattle.correction.specs.declared.pass.Answer.{Answer}
+use Rattle.correction.specs.Pass.{numberOf, placeIn, protectedIn, errorsIn}
+use Rattle.correction_c.proofs.rungtwine_error_correction.Statement.{statement}
+use Rattle.correction_c.proofs.rungtwine_error_correction.Tie as tie
+
+-- equal answers have the same number, place and counts
+parts : (a b : Answer) → a ≡ b → (numberOf a ≡ numberOf b) × ((placeIn a ≡ placeIn b) × ((protectedIn a ≡ protectedIn b) × (errorsIn a ≡ errorsIn b)))
+parts a b e = (ap numberOf e, (ap placeIn e, (ap protectedIn e, ap errorsIn e)))
+
+msdf-error-correction-requires : tie.Need-msdf-error-correction-requires
+msdf-error-correction-requires c κs = search needs
+
+enum-known-c : tie.Need-enum-known-c
+enum-known-c c = search needs
+
+enum-known-n : tie.Need-enum-known-n
+enum-known-n c = search needs
+
+same-length : tie.Need-same-length
+same-length c = search needs
+
+same-length-2 : tie.Need-same-length-2
+same-length-2 c = search needs
+
+returns : tie.Need-returns
+unfolding numberOf placeIn protectedIn errorsIn
+returns c =
+    let p = c .before .before .before .before .before .before .before .msdf-error-correction .ensures in
+    let e = parts _ _ (sym (c .before .c .given .1) ∙ p .0) in
+    (e .0, (e .1 .0, (e .1 .1 .0, (e .1 .1 .1, p .1))))
+
+same-length-3 : tie.Need-same-length-3
+same-length-3 c = search needs
+
+same-length-4 : tie.Need-same-length-4
+same-length-4 c = search needs
+
+returns-2 : tie.Need-returns-2
+unfolding numberOf placeIn protectedIn errorsIn
+returns-2 c =
+    let p = c .before .before .before .before .before .before .before .msdf-error-correction .ensures in
+    let e = parts _ _ (sym (c .before .n .given .1) ∙ p .0) in
+    (e .0, (e .1 .0, (e .1 .1 .0, (e .1 .1 .1, p .1))))
+
+pub rungtwine-error-correction-spec : {M : Type 1} → statement M
+rungtwine-error-correction-spec =
+    tie.close
+    (tie.spec
+    msdf-error-correction-requires
+    enum-known-c
+    enum-known-n
+    same-length
+    same-length-2
+    returns
+    same-length-3
+    same-length-4
+    returns-2)

@@ -1,0 +1,67 @@
+// The pass for C and Rust to call.
+ghost use mathlib.Core.Path.{_≡_};
+ghost use Rattle.correction.specs.Pass as Pass;
+ghost use Rattle.correction_c.specs.Call.{called};
+use correction::config::Settings;
+use correction::pass;
+use correction::pass::Answer;
+
+// Answers the number of the first check that fails, 0 where all pass, and writes its place and the two counts.
+#[no_mangle]
+pub extern "C" fn rungtwine_error_correction(
+    width: usize,
+    height: usize,
+    channels: usize,
+    samples: &mut [f32],
+    stencil: &mut [u8],
+    mode: u8,
+    ratio: f64,
+    horizontal: f64,
+    vertical: f64,
+    diagonal: f64,
+    colours: &[u8],
+    coords: &[f64],
+    ends: &[usize],
+    place: &mut usize,
+    protected: &mut usize,
+    error: &mut usize,
+) -> u8
+    ensures numbers { λ r. ⌜ r ≡ Pass.numberOf (Pass.answer (called width height channels (now (samples .entry)) (now (stencil .entry)) mode ratio horizontal vertical diagonal (now (colours .entry)) (now (coords .entry)) (now (ends .entry)))) ⌝ }
+    ensures places { λ _. ⌜ now (place .exit) ≡ Pass.placeIn (Pass.answer (called width height channels (now (samples .entry)) (now (stencil .entry)) mode ratio horizontal vertical diagonal (now (colours .entry)) (now (coords .entry)) (now (ends .entry)))) ⌝ }
+    ensures protects { λ _. ⌜ now (protected .exit) ≡ Pass.protectedIn (Pass.answer (called width height channels (now (samples .entry)) (now (stencil .entry)) mode ratio horizontal vertical diagonal (now (colours .entry)) (now (coords .entry)) (now (ends .entry)))) ⌝ }
+    ensures flags { λ _. ⌜ now (error .exit) ≡ Pass.errorsIn (Pass.answer (called width height channels (now (samples .entry)) (now (stencil .entry)) mode ratio horizontal vertical diagonal (now (colours .entry)) (now (coords .entry)) (now (ends .entry)))) ⌝ }
+    ensures leaves { λ _. ⌜ now (stencil .exit) ≡ Pass.stencilAfter (called width height channels (now (samples .entry)) (now (stencil .entry)) mode ratio horizontal vertical diagonal (now (colours .entry)) (now (coords .entry)) (now (ends .entry))) ⌝ }
+    ensures writes { λ _. ⌜ now (samples .exit) ≡ Pass.samplesAfter (called width height channels (now (samples .entry)) (now (stencil .entry)) mode ratio horizontal vertical diagonal (now (colours .entry)) (now (coords .entry)) (now (ends .entry))) ⌝ }
+{
+    let s = Settings {
+        ratio: ratio,
+        horizontal: horizontal,
+        vertical: vertical,
+        diagonal: diagonal,
+    };
+    match pass::msdf_error_correction(
+        width,
+        height,
+        channels,
+        samples,
+        stencil,
+        mode,
+        s,
+        colours,
+        coords,
+        ends,
+    ) {
+        Answer::Accepted(c) => {
+            *place = 0;
+            *protected = c.protected;
+            *error = c.error;
+            0
+        }
+        Answer::Refused(n, p) => {
+            *place = p;
+            *protected = 0;
+            *error = 0;
+            n
+        }
+    }
+}

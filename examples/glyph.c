@@ -1,0 +1,63 @@
+/* Corrects the glyph that it reads from standard input and prints the counts and the stencil, rows from the bottom. */
+#include <stdio.h>
+#include <stdlib.h>
+
+#include "../include/rungtwine.h"
+
+static void need(int good, const char *what)
+{
+    if (!good) {
+        fprintf(stderr, "glyph: %s\n", what);
+        exit(2);
+    }
+}
+
+static void *room(size_t count, size_t size)
+{
+    void *p = malloc(count > 0 ? count * size : size);
+    need(p != NULL, "no memory");
+    return p;
+}
+
+int main(void)
+{
+    size_t width, height, channels, segments, contours, i;
+    unsigned mode, colour;
+    double ratio, horizontal, vertical, diagonal;
+    need(scanf("%zu %zu %zu %u %lf %lf %lf %lf", &width, &height, &channels, &mode, &ratio, &horizontal, &vertical, &diagonal) == 8, "no size and settings");
+    need(scanf("%zu %zu", &segments, &contours) == 2 && width <= 4096 && height <= 4096 && channels <= 4 && segments <= 65536, "too large");
+    uint8_t *colours = room(segments, sizeof *colours);
+    double *coords = room(2 * segments, sizeof *coords);
+    for (i = 0; i < segments; i++) {
+        need(scanf("%u %lf %lf", &colour, &coords[2 * i], &coords[2 * i + 1]) == 3, "a segment is missing");
+        colours[i] = (uint8_t)colour;
+    }
+    size_t *ends = room(contours, sizeof *ends);
+    for (i = 0; i < contours; i++)
+        need(scanf("%zu", &ends[i]) == 1, "an end is missing");
+    size_t cells = width * height, count = cells * channels;
+    float *samples = room(count, sizeof *samples);
+    for (i = 0; i < count; i++)
+        need(scanf("%f", &samples[i]) == 1, "a sample is missing");
+    uint8_t *stencil = room(cells, sizeof *stencil);
+
+    size_t place, protected_cells, error_cells;
+    unsigned refusal = rungtwine_error_correction(width, height, channels, samples, count, stencil, cells, (uint8_t)mode, ratio, horizontal, vertical,
+                                                  diagonal, colours, segments, coords, 2 * segments, ends, contours, &place, &protected_cells, &error_cells);
+    if (refusal != 0) {
+        printf("refused %u %zu\n", refusal, place);
+        return 1;
+    }
+    printf("protected %zu error %zu\n", protected_cells, error_cells);
+    for (i = 0; i < cells; i++) {
+        putchar(".EPB"[stencil[i] & 3]);
+        if ((i + 1) % width == 0)
+            putchar('\n');
+    }
+    free(stencil);
+    free(samples);
+    free(ends);
+    free(coords);
+    free(colours);
+    return 0;
+}

@@ -1,0 +1,46 @@
+//! Corrects the glyph that it reads from standard input and prints the counts and the stencil, rows from the bottom.
+
+mod rungtwine;
+
+use rungtwine::{error_correction, Mode, Outlines, Settings};
+use std::io::Read;
+use std::str::{FromStr, SplitWhitespace};
+
+fn next<T: FromStr>(words: &mut SplitWhitespace) -> T {
+    words.next().and_then(|w| w.parse().ok()).expect("a number is missing")
+}
+
+fn list<T: FromStr>(words: &mut SplitWhitespace, count: usize) -> Vec<T> {
+    (0..count).map(|_| next(words)).collect()
+}
+
+fn main() {
+    let mut text = String::new();
+    std::io::stdin().read_to_string(&mut text).expect("no input");
+    let words = &mut text.split_whitespace();
+    let (width, height, channels): (usize, usize, usize) = (next(words), next(words), next(words));
+    let mode = [Mode::Disabled, Mode::Indiscriminate, Mode::EdgePriority, Mode::EdgeOnly][next::<usize>(words)];
+    let settings = Settings { ratio: next(words), horizontal: next(words), vertical: next(words), diagonal: next(words) };
+    let (segments, contours): (usize, usize) = (next(words), next(words));
+    let (mut colours, mut coords) = (Vec::new(), Vec::new());
+    for _ in 0..segments {
+        colours.push(next::<u8>(words));
+        coords.extend([next::<f64>(words), next::<f64>(words)]);
+    }
+    let ends: Vec<usize> = list(words, contours);
+    let mut samples: Vec<f32> = list(words, width * height * channels);
+    let mut stencil = vec![0u8; width * height];
+    let outlines = Outlines { colours: &colours, coords: &coords, ends: &ends };
+    match error_correction((width, height, channels), &mut samples, &mut stencil, mode, settings, outlines) {
+        Ok(counts) => {
+            println!("protected {} error {}", counts.protected, counts.error);
+            for row in stencil.chunks(width) {
+                println!("{}", row.iter().map(|s| [".", "E", "P", "B"][usize::from(s & 3)]).collect::<String>());
+            }
+        }
+        Err(refusal) => {
+            println!("refused {} {}", refusal.number, refusal.place);
+            std::process::exit(1);
+        }
+    }
+}

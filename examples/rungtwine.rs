@@ -1,0 +1,108 @@
+//! A safe way to call the library from Rust: slices carry their lengths, and a refusal is an error with its number and place.
+
+mod raw {
+    extern "C" {
+        pub fn rungtwine_error_correction(
+            width: usize,
+            height: usize,
+            channels: usize,
+            samples: *mut f32,
+            samples_len: usize,
+            stencil: *mut u8,
+            stencil_len: usize,
+            mode: u8,
+            ratio: f64,
+            horizontal: f64,
+            vertical: f64,
+            diagonal: f64,
+            colours: *const u8,
+            colours_len: usize,
+            coords: *const f64,
+            coords_len: usize,
+            ends: *const usize,
+            ends_len: usize,
+            place: *mut usize,
+            protected: *mut usize,
+            error: *mut usize,
+        ) -> u8;
+    }
+}
+
+#[derive(Clone, Copy, PartialEq, Eq, Debug)]
+#[repr(u8)]
+pub enum Mode {
+    Disabled = 0,
+    Indiscriminate = 1,
+    EdgePriority = 2,
+    EdgeOnly = 3,
+}
+
+/// The least deviation ratio and the lengths of a pixel's step.
+#[derive(Clone, Copy, Debug)]
+pub struct Settings {
+    pub ratio: f64,
+    pub horizontal: f64,
+    pub vertical: f64,
+    pub diagonal: f64,
+}
+
+/// A colour and two coordinates for each segment, and for each contour the number of segments up to its end.
+#[derive(Clone, Copy, Debug)]
+pub struct Outlines<'a> {
+    pub colours: &'a [u8],
+    pub coords: &'a [f64],
+    pub ends: &'a [usize],
+}
+
+/// How many stencil cells are protected, and how many have an error.
+#[derive(Clone, Copy, PartialEq, Eq, Debug)]
+pub struct Counts {
+    pub protected: usize,
+    pub error: usize,
+}
+
+/// The first check that fails, and its place; nothing was written.
+#[derive(Clone, Copy, PartialEq, Eq, Debug)]
+pub struct Refusal {
+    pub number: u8,
+    pub place: usize,
+}
+
+/// Corrects `samples` in place and fills `stencil`.
+pub fn error_correction(
+    (width, height, channels): (usize, usize, usize),
+    samples: &mut [f32],
+    stencil: &mut [u8],
+    mode: Mode,
+    settings: Settings,
+    outlines: Outlines,
+) -> Result<Counts, Refusal> {
+    let (mut place, mut protected, mut error) = (0, 0, 0);
+    // Every pointer comes from a slice with its own length or from a local, the mutable ones overlap nothing, and the function demands nothing else.
+    let number = unsafe {
+        raw::rungtwine_error_correction(
+            width,
+            height,
+            channels,
+            samples.as_mut_ptr(),
+            samples.len(),
+            stencil.as_mut_ptr(),
+            stencil.len(),
+            mode as u8,
+            settings.ratio,
+            settings.horizontal,
+            settings.vertical,
+            settings.diagonal,
+            outlines.colours.as_ptr(),
+            outlines.colours.len(),
+            outlines.coords.as_ptr(),
+            outlines.coords.len(),
+            outlines.ends.as_ptr(),
+            outlines.ends.len(),
+            &mut place,
+            &mut protected,
+            &mut error,
+        )
+    };
+    if number == 0 { Ok(Counts { protected, error }) } else { Err(Refusal { number, place }) }
+}

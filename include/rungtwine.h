@@ -1,0 +1,58 @@
+/* The error-correction pass of a multi-channel distance field, proved against its definition. */
+#ifndef RUNGTWINE_H
+#define RUNGTWINE_H
+
+#include <stddef.h>
+#include <stdint.h>
+
+#ifdef __cplusplus
+extern "C" {
+#endif
+
+/* Modes. */
+#define RUNGTWINE_DISABLED 0
+#define RUNGTWINE_INDISCRIMINATE 1
+#define RUNGTWINE_EDGE_PRIORITY 2
+#define RUNGTWINE_EDGE_ONLY 3
+
+/* Bits of a stencil cell. */
+#define RUNGTWINE_ERROR 1
+#define RUNGTWINE_PROTECTED 2
+
+/*
+ * Corrects `samples` in place: width x height texels, row 0 at the bottom, `channels` (3 or 4) interleaved. The old contents of `stencil`, one byte
+ * a texel, do not matter. `ratio` is the least deviation ratio; the three lengths are those of a pixel's step to the side, up and diagonally,
+ * in units of the samples. `colours` has a byte for each segment, bits 0 to 2 its channels; `coords` the x and y of each segment's start in pixel
+ * units; `ends` for each contour the number of segments up to its end.
+ *
+ * Answers 0 and writes the stencil, the samples of flagged texels, and how many cells are protected and how many have an error. Otherwise it answers
+ * the number of the first check that fails, writes its place and two zero counts, and leaves samples and stencil as they were:
+ *
+ *   1 channels not 3 or 4
+ *   2 width or height outside 1 to 4096
+ *   3 samples_len not width * height * channels
+ *   4 stencil_len not width * height
+ *   5 mode above 3 (place 0), or the ratio (1) or a length (2, 3, 4) NaN, below 0 or above 1048576
+ *   6 a sample NaN, infinite or of size above 1048576 (its index)
+ *   7 coords_len not twice colours_len, or over 65536 segments
+ *   8 an end below the one before or above the number of segments (its index), or the last end not that number (ends_len)
+ *   9 a colour above 7, or a coordinate NaN, infinite or of size above 1048576 (the segment)
+ *
+ * There is no further demand on the numbers. Each pointer has to be good for the length beside it (`place`, `protected` and `error` for one), not null and
+ * aligned for its type, also where the length is 0; what is written must overlap nothing else.
+ */
+uint8_t rungtwine_error_correction(
+    size_t width, size_t height, size_t channels,
+    float *samples, size_t samples_len,
+    uint8_t *stencil, size_t stencil_len,
+    uint8_t mode, double ratio, double horizontal, double vertical, double diagonal,
+    const uint8_t *colours, size_t colours_len,
+    const double *coords, size_t coords_len,
+    const size_t *ends, size_t ends_len,
+    size_t *place, size_t *protected_cells, size_t *error_cells);
+
+#ifdef __cplusplus
+}
+#endif
+
+#endif
