@@ -1,0 +1,246 @@
+// Document 01's figures and small bitmaps beside them, through the public pass.
+mod refusals;
+mod run;
+mod show;
+
+use correction::config::Settings;
+
+fn case_p() -> [f32; 6] {
+    [1.0, 0.0, 0.75, 0.0, 1.0, 0.75]
+}
+
+fn case_c2() -> [f32; 6] {
+    [1.0, 0.625, 0.75, 0.625, 1.0, 0.75]
+}
+
+fn case_c5() -> [f32; 6] {
+    [0.75, 0.25, 0.625, 0.25, 0.75, 0.375]
+}
+
+fn sides() {
+    run::pair(b"P", case_p(), 1, run::all(0.25));
+    run::pair(b"P disabled", case_p(), 0, run::all(0.25));
+    run::pair(b"C1", case_p(), 3, run::all(0.25));
+    run::pair(b"C2", case_c2(), 1, run::all(0.0625));
+    run::pair(b"C3", case_c2(), 1, run::all(0.125));
+    run::pair(b"C4", case_c2(), 3, run::all(0.0625));
+    run::upright(b"C2 upright", case_c2(), 1, run::all(0.0625));
+    run::upright(b"C3 upright", case_c2(), 1, run::all(0.125));
+    run::pair(b"C5", case_c5(), 2, run::all(0.25));
+    run::pair(b"C6", case_c5(), 2, run::all(0.249));
+    run::upright(b"C5 upright", case_c5(), 2, run::all(0.25));
+    run::upright(b"C6 upright", case_c5(), 2, run::all(0.249));
+}
+
+fn spans(name: &[u8], ratio: f64, horizontal: f64, vertical: f64) {
+    let s = Settings {
+        ratio: ratio,
+        horizontal: horizontal,
+        vertical: vertical,
+        diagonal: 0.0,
+    };
+    run::pair(name, case_c2(), 1, s);
+}
+
+fn spans_apart() {
+    spans(b"C2 by the horizontal length", 1.0, 0.0625, 1.0);
+    spans(b"C3 by the horizontal length", 1.0, 0.125, 0.0);
+    spans(b"C3 by the ratio", 2.0, 0.0625, 0.0);
+    spans(b"C2 by a ratio of minus zero", -0.0, 0.125, 1.0);
+    spans(b"C3 by the limits", 1048576.0, 1048576.0, 1048576.0);
+}
+
+fn squares() {
+    let c7 = [
+        1.0f32,
+        0.0,
+        0.75,
+        0.5,
+        0.5,
+        0.75,
+        0.5,
+        0.5,
+        0.75,
+        0.0,
+        1.0,
+        0.75,
+    ];
+    run::square(b"C7", c7, 1, run::all(0.25));
+    run::square(b"C7 disabled", c7, 0, run::all(0.25));
+    run::square(b"C7 edge only", c7, 3, run::all(0.25));
+    let mirrored = [
+        0.5f32,
+        0.5,
+        0.75,
+        1.0,
+        0.0,
+        0.75,
+        0.0,
+        1.0,
+        0.75,
+        0.5,
+        0.5,
+        0.75,
+    ];
+    run::square(b"C7 mirrored", mirrored, 1, run::all(0.25));
+    let c5 = [
+        0.75f32,
+        0.25,
+        0.625,
+        0.0,
+        0.0,
+        0.0,
+        0.0,
+        0.0,
+        0.0,
+        0.25,
+        0.75,
+        0.375,
+    ];
+    let s = Settings {
+        ratio: 1.0,
+        horizontal: 0.0,
+        vertical: 0.0,
+        diagonal: 0.25,
+    };
+    run::square(b"C5 diagonal", c5, 2, s);
+}
+
+// Quotients 1/100 and 99/100 are excluded; 1/99 and 98/99 are not.
+fn quotients() {
+    run::pair(b"C8", [0.0, 1.0, 0.0, 99.0, 0.0, 0.0], 1, run::all(0.0));
+    run::pair(
+        b"C8 inside",
+        [0.0, 1.0, 0.0, 98.0, 0.0, 0.0],
+        1,
+        run::all(0.0),
+    );
+    run::pair(b"zeros", [-0.0, 0.0, 5.0, 0.0, 0.25, 0.0], 1, run::all(0.0));
+}
+
+fn four_channels() {
+    let colours = [0u8; 0];
+    let coords = [0.0f64; 0];
+    let ends = [0usize; 0];
+    let mut xs = [1.0f32, 0.0, 0.75, 0.125, 0.0, 1.0, 0.75, 0.875];
+    let mut stencil = [255u8; 2];
+    run::figure(
+        b"P of four channels",
+        2,
+        1,
+        4,
+        &mut xs,
+        &mut stencil,
+        1,
+        run::all(0.25),
+        &colours,
+        &coords,
+        &ends,
+    );
+}
+
+fn one_texel() {
+    let mut xs = [1.0f32, 0.0, 0.75];
+    let mut stencil = [255u8; 1];
+    run::plain(b"one texel", 1, 1, &mut xs, &mut stencil, 2, run::all(0.25));
+}
+
+fn points() {
+    run::point(b"point (0,0)", 0.0, 0.0);
+    run::point(b"point (1,1)", 1.0, 1.0);
+    run::point(b"point (2.5,0.5)", 2.5, 0.5);
+    run::point(b"point (2.25,1)", 2.25, 1.0);
+    run::point(b"point (2.5,1)", 2.5, 1.0);
+    run::point(b"point (-0.5,1)", -0.5, 1.0);
+    run::point(b"point (-0.75,1)", -0.75, 1.0);
+    run::point(b"point (1,2.25)", 1.0, 2.25);
+    run::point(b"point (1,2.5)", 1.0, 2.5);
+    run::point(b"point (1,-0.5)", 1.0, -0.5);
+    run::point(b"point (1,-0.75)", 1.0, -0.75);
+    run::point(b"point (1048576,1)", 1048576.0, 1.0);
+    run::point(b"point (-1048576,1)", -1048576.0, 1.0);
+    run::point(b"point (1,1048576)", 1.0, 1048576.0);
+    run::point(b"point (1,-1048576)", 1.0, -1048576.0);
+}
+
+fn colours() {
+    run::two(b"C9 colours 3 and 6", 3, 6);
+    run::two(b"C9 colours 7 and 3", 7, 3);
+    run::two(b"colours 7 and 7", 7, 7);
+    run::two(b"colours 1 and 2", 1, 2);
+    run::two(b"colours 0 and 7", 0, 7);
+    run::ending(b"one contour", &[2]);
+    run::ending(b"empty contours around it", &[0, 2, 2]);
+    run::ending(b"two contours with empty ones", &[0, 1, 1, 2]);
+}
+
+// Outlines over two texels side by side, in EdgePriority.
+fn over(name: &[u8], texels: [f32; 6], l: f64, colours: &[u8], coords: &[f64], ends: &[usize]) {
+    let mut xs = texels;
+    let mut stencil = [255u8; 2];
+    run::figure(
+        name,
+        2,
+        1,
+        3,
+        &mut xs,
+        &mut stencil,
+        2,
+        run::all(l),
+        colours,
+        coords,
+        ends,
+    );
+}
+
+fn protected_texels() {
+    over(
+        b"P, left texel protected",
+        case_p(),
+        0.25,
+        &[1],
+        &[-0.25, 0.5],
+        &[1],
+    );
+    over(
+        b"C2, left texel protected",
+        case_c2(),
+        0.0625,
+        &[1],
+        &[-0.25, 0.5],
+        &[1],
+    );
+    over(
+        b"C2, both protected",
+        case_c2(),
+        0.0625,
+        &[3, 6],
+        &[1.0, 0.5, 9.0, 9.0],
+        &[2],
+    );
+    over(
+        b"C2, no corner any more",
+        case_c2(),
+        0.0625,
+        &[3, 6, 7],
+        &[1.0, 0.5, 9.0, 9.0, 9.0, 9.0],
+        &[3],
+    );
+}
+
+fn main() {
+    sides();
+    spans_apart();
+    squares();
+    quotients();
+    four_channels();
+    one_texel();
+    points();
+    colours();
+    protected_texels();
+    refusals::sizes();
+    refusals::settings();
+    refusals::samples();
+    refusals::outlines();
+    refusals::many();
+}

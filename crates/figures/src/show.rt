@@ -1,0 +1,91 @@
+// How a figure is printed: its name, the answer, the rows from the bottom, and the samples of flagged texels as bits.
+use correction::pass::Answer;
+use libc::STDOUT_FILENO;
+
+fn text(s: &[u8]) {
+    io::write_all(STDOUT_FILENO, s);
+}
+
+fn number(n: u64) {
+    text(b" ");
+    io::print_decimal(STDOUT_FILENO, n);
+}
+
+// The number, the place and the two counts.
+fn answer(a: Answer) {
+    match a {
+        Answer::Accepted(c) => {
+            text(b" 0 0");
+            number(c.protected as u64);
+            number(c.error as u64);
+        }
+        Answer::Refused(n, p) => {
+            number(n as u64);
+            number(p as u64);
+            text(b" 0 0");
+        }
+    }
+}
+
+// A stencil cell: `?` where it has neither of the pass's bytes.
+fn cell(v: u8) {
+    match v {
+        0 => text(b"."),
+        1 => text(b"E"),
+        2 => text(b"P"),
+        3 => text(b"B"),
+        _ => text(b"?"),
+    }
+}
+
+fn cells(stencil: &[u8], w: usize) {
+    if w == 0 {
+        return;
+    }
+    for k in 0..stencil.len() {
+        if k % w == 0 {
+            text(b" ");
+        }
+        cell(stencil[k]);
+    }
+}
+
+fn is_flagged(v: u8) -> bool {
+    if v == 1 {
+        return true;
+    }
+    v == 3
+}
+
+fn sample(flagged: bool, v: f32) {
+    if !flagged {
+        return;
+    }
+    if v != v {
+        text(b" NaN");
+        return;
+    }
+    text(b" ");
+    io::print_hex(STDOUT_FILENO, f32::to_bits(v) as u64, 8);
+}
+
+fn samples(stencil: &[u8], xs: &[f32], ch: usize) {
+    if ch == 0 {
+        return;
+    }
+    for j in 0..xs.len() {
+        let k = j / ch;
+        if k < stencil.len() {
+            sample(is_flagged(stencil[k]), xs[j]);
+        }
+    }
+}
+
+pub fn line(name: &[u8], a: Answer, stencil: &[u8], xs: &[f32], w: usize, ch: usize) {
+    text(name);
+    text(b":");
+    answer(a);
+    cells(stencil, w);
+    samples(stencil, xs, ch);
+    text(b"\n");
+}
