@@ -1,0 +1,180 @@
+//! The proved pass beside the original, a straightforward Rust port: same inputs, same process, warm, medians of several runs.
+//! Times are the thread's own processor time (Linux), so that a busy machine disturbs them little.
+//!
+//! `bench [SIZE...]`: for squares of each SIZE, glyph-like and noise, Indiscriminate and EdgePriority, nanoseconds a texel and their ratio.
+//! Exit status 1 if the two differ in a flag's count or a sample, a zero's sign aside.
+
+#[path = "../tests/differential/glyphs.rs"]
+mod glyphs;
+#[path = "../tests/differential/rng.rs"]
+mod rng;
+
+use rng::Rng;
+
+extern "C" {
+    fn clock_gettime(clock: i32, time: *mut [i64; 2]) -> i32;
+    fn rungtwine_error_correction(
+        width: usize,
+        height: usize,
+        channels: usize,
+        samples: *mut f32,
+        samples_len: usize,
+        stencil: *mut u8,
+        stencil_len: usize,
+        mode: u8,
+        ratio: f64,
+        horizontal: f64,
+        vertical: f64,
+        diagonal: f64,
+        colours: *const u8,
+        colours_len: usize,
+        coords: *const f64,
+        coords_len: usize,
+        ends: *const usize,
+        ends_len: usize,
+        place: *mut usize,
+        protected: *mut usize,
+        error: *mut usize,
+    ) -> u8;
+}
+
+struct Field {
+    name: &'static str,
+    size: usize,
+    samples: Vec<f32>,
+    lengths: [f64; 3],
+    colours: Vec<u8>,
+    coords: Vec<f64>,
+    ends: Vec<usize>,
+}
+
+const RATIO: f64 = 10.0 / 9.0;
+
+/// Seconds of processor time of this thread.
+fn now() -> f64 {
+    const THREAD_CPU_TIME: i32 = 3;
+    let mut time = [0i64; 2];
+    assert!(unsafe { clock_gettime(THREAD_CPU_TIME, &mut time) } == 0);
+    time[0] as f64 + time[1] as f64 * 1e-9
+}
+
+fn glyph_field(size: usize) -> Field {
+    let mut rng = Rng::new(11, size as u64);
+    let glyph = glyphs::glyph(&mut rng, size, size);
+    let range = 4.0;
+    let samples = glyphs::field(&glyph, size, size, 3, range);
+    let step = 1.0 / range;
+    let mut field = Field {
+        name: "glyph",
+        size,
+        samples,
+        lengths: [step, step, std::f64::consts::SQRT_2 * step],
+        colours: vec![],
+        coords: vec![],
+        ends: vec![],
+    };
+    for contour in &glyph.contours {
+        for &(colour, x, y) in contour {
+            field.colours.push(colour);
+            field.coords.extend([x, y]);
+        }
+        field.ends.push(field.colours.len());
+    }
+    field
+}
+
+fn noise_field(size: usize) -> Field {
+    let mut rng = Rng::new(12, size as u64);
+    let samples = (0..size * size * 3).map(|_| rng.unit() as f32).collect();
+    Field { name: "noise", size, samples, lengths: [0.25, 0.25, 0.35], colours: vec![], coords: vec![], ends: vec![] }
+}
+
+/// One run of the proved pass: seconds, and the number of flagged texels.
+fn ours(field: &Field, mode: u8, samples: &mut [f32], stencil: &mut [u8]) -> (f64, usize) {
+    samples.copy_from_slice(&field.samples);
+    let (mut place, mut protected, mut error) = (0, 0, 0);
+    let start = now();
+    let refusal = unsafe {
+        rungtwine_error_correction(
+            field.size,
+            field.size,
+            3,
+            samples.as_mut_ptr(),
+            samples.len(),
+            stencil.as_mut_ptr(),
+            stencil.len(),
+            mode,
+            RATIO,
+            field.lengths[0],
+            field.lengths[1],
+            field.lengths[2],
+            field.colours.as_ptr(),
+            field.colours.len(),
+            field.coords.as_ptr(),
+            field.coords.len(),
+            field.ends.as_ptr(),
+            field.ends.len(),
+            &mut place,
+            &mut protected,
+            &mut error,
+        )
+    };
+    let seconds = now() - start;
+    assert!(refusal == 0, "refused {refusal} {place}");
+    (seconds, error)
+}
+
+fn median(times: &mut [f64]) -> f64 {
+    times.sort_by(|a, b| a.partial_cmp(b).unwrap());
+    times[times.len() / 2]
+}
+
+/// Prints a line of the table and answers whether the two agree.
+fn row(field: &Field, mode: u8) -> bool {
+    let texels = field.size * field.size;
+    let task = oracle::Task::new(mode, RATIO, field.lengths, &field.colours, &field.coords, &field.ends);
+    let (mut samples, mut stencil) = (field.samples.clone(), vec![0u8; texels]);
+    let mut bitmap = oracle::bitmap_of::<3>(field.size, field.size, &field.samples);
+    let runs = (7_000_000 / texels).clamp(3, 15);
+    let (mut original, mut proved) = (Vec::new(), Vec::new());
+    let mut flagged = 0;
+    // The first round warms both up and is not counted.
+    for round in 0..=runs {
+        bitmap.data_mut().copy_from_slice(&field.samples);
+        let start = now();
+        oracle::correct(&mut bitmap, &task);
+        let seconds = now() - start;
+        let (own, error) = ours(field, mode, &mut samples, &mut stencil);
+        flagged = error;
+        if round > 0 {
+            original.push(seconds);
+            proved.push(own);
+        }
+    }
+    let ns = |times: &mut [f64]| median(times) * 1e9 / texels as f64;
+    let (o, p) = (ns(&mut original), ns(&mut proved));
+    let name = if mode == 1 { "Indiscriminate" } else { "EdgePriority" };
+    println!(
+        "| {} | {} | {name} | {runs} | {flagged} | {o:.1} | {p:.1} | {:.2} |",
+        field.size, field.name, p / o
+    );
+    samples.iter().zip(bitmap.data()).all(|(a, b)| a == b)
+}
+
+fn main() {
+    let sizes: Vec<usize> = std::env::args().skip(1).map(|a| a.parse().expect("a size")).collect();
+    println!("| size | field | mode | runs | flagged | original, ns/texel | proved, ns/texel | ratio |");
+    println!("|---|---|---|---|---|---|---|---|");
+    let mut same = true;
+    for size in sizes {
+        for field in [glyph_field(size), noise_field(size)] {
+            for mode in [1, 2] {
+                same &= row(&field, mode);
+            }
+        }
+    }
+    if !same {
+        println!("the two differ");
+    }
+    std::process::exit(i32::from(!same));
+}

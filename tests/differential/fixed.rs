@@ -1,0 +1,234 @@
+//! The fixed list: some hundreds of small cases, each branch among them, with their answers. tests/fixed/README.md has the format.
+
+use crate::cases::{case, every_place, Case};
+use crate::judge::{Answer, Input, Seen, BRANCHES};
+use crate::shrink;
+use crate::sides::{bits, by_judge, compare, Outcome, Totals};
+use std::collections::HashSet;
+
+/// Each branch is in at least this many cases of the list.
+const TIMES: u64 = 8;
+const MOST_SAMPLES: usize = 36;
+const SEED: u64 = 6;
+
+/// Branches that only a large case reaches; the list leaves them to the runs.
+const LARGE: [&str; 2] = ["refusal 7 0, too many segments", "accepted, a side of 4,096"];
+
+fn figure(width: usize, height: usize, mode: u8, length: f64, samples: &[f32]) -> Case {
+    Case {
+        kind: "figure",
+        input: Input { width, height, channels: 3, mode, ratio: 1.0, lengths: [length; 3], colours: vec![], coords: vec![], ends: vec![] },
+        samples: samples.to_vec(),
+        stencil: vec![0xFF; width * height],
+    }
+}
+
+/// The scope document's figures over bitmaps, case P first, and the two points below them.
+fn figures() -> Vec<Case> {
+    let p = [1.0, 0.0, 0.75, 0.0, 1.0, 0.75];
+    let c2 = [1.0, 0.625, 0.75, 0.625, 1.0, 0.75];
+    let c5 = [0.75, 0.25, 0.625, 0.25, 0.75, 0.375];
+    let c7 = [1.0, 0.0, 0.75, 0.5, 0.5, 0.75, 0.5, 0.5, 0.75, 0.0, 1.0, 0.75];
+    let mut list = vec![
+        figure(2, 1, 1, 0.25, &p),
+        figure(2, 1, 3, 0.25, &p),
+        figure(2, 1, 1, 0.0625, &c2),
+        figure(2, 1, 1, 0.125, &c2),
+        figure(2, 1, 3, 0.0625, &c2),
+        figure(2, 1, 2, 0.25, &c5),
+        figure(2, 1, 2, 0.249, &c5),
+        figure(2, 2, 1, 0.25, &c7),
+        figure(1, 1, 1, 0.25, &p[..3]),
+        figure(0, 1, 1, 0.25, &[]),
+    ];
+    for (colours, x) in [([3, 6], 0.0), ([7, 3], 0.0), ([3, 6], 2.5)] {
+        let mut c = figure(2, 2, 2, 0.0, &[0.25; 12]);
+        c.input.colours = colours.to_vec();
+        c.input.coords = vec![x, 0.0, -9.0, -9.0];
+        c.input.ends = vec![2];
+        list.push(c);
+    }
+    // A zero whose sign the original leaves open.
+    let mut zero = figure(2, 1, 1, 0.0, &[-0.0, 0.0, 5.0, 0.0, 0.25, 0.0]);
+    zero.input.ratio = 0.0;
+    list.push(zero);
+    list
+}
+
+fn put64(out: &mut Vec<u8>, v: usize) {
+    out.extend((v as u64).to_be_bytes());
+}
+
+fn put_case(out: &mut Vec<u8>, case: &Case, outcome: &Outcome) {
+    let i = &case.input;
+    for v in [i.width, i.height, i.channels] {
+        put64(out, v);
+    }
+    out.push(i.mode);
+    for v in [i.ratio, i.lengths[0], i.lengths[1], i.lengths[2]] {
+        out.extend(v.to_bits().to_be_bytes());
+    }
+    put64(out, case.samples.len());
+    for v in &case.samples {
+        out.extend(v.to_bits().to_be_bytes());
+    }
+    put64(out, case.stencil.len());
+    out.extend(&case.stencil);
+    put64(out, i.colours.len());
+    out.extend(&i.colours);
+    put64(out, i.coords.len());
+    for v in &i.coords {
+        out.extend(v.to_bits().to_be_bytes());
+    }
+    put64(out, i.ends.len());
+    for &v in &i.ends {
+        put64(out, v);
+    }
+    let a = outcome.answer;
+    out.push(a.refusal);
+    for v in [a.place, a.protected, a.error] {
+        put64(out, v);
+    }
+    for v in &outcome.samples {
+        out.extend(v.to_bits().to_be_bytes());
+    }
+    out.extend(&outcome.stencil);
+}
+
+struct Reader<'a>(&'a [u8]);
+
+impl Reader<'_> {
+    fn take(&mut self, n: usize) -> &[u8] {
+        let (head, tail) = self.0.split_at(n);
+        self.0 = tail;
+        head
+    }
+    fn byte(&mut self) -> u8 {
+        self.take(1)[0]
+    }
+    fn word(&mut self) -> u64 {
+        u64::from_be_bytes(self.take(8).try_into().unwrap())
+    }
+    fn size(&mut self) -> usize {
+        self.word() as usize
+    }
+    fn f64(&mut self) -> f64 {
+        f64::from_bits(self.word())
+    }
+    fn samples(&mut self, n: usize) -> Vec<f32> {
+        (0..n).map(|_| f32::from_bits(u32::from_be_bytes(self.take(4).try_into().unwrap()))).collect()
+    }
+    fn case(&mut self) -> (Case, Outcome) {
+        let (width, height, channels) = (self.size(), self.size(), self.size());
+        let mode = self.byte();
+        let (ratio, lengths) = (self.f64(), [self.f64(), self.f64(), self.f64()]);
+        let n = self.size();
+        let samples = self.samples(n);
+        let m = self.size();
+        let stencil = self.take(m).to_vec();
+        let k = self.size();
+        let colours = self.take(k).to_vec();
+        let k = self.size();
+        let coords = (0..k).map(|_| self.f64()).collect();
+        let k = self.size();
+        let ends = (0..k).map(|_| self.size()).collect();
+        let answer = Answer { refusal: self.byte(), place: self.size(), protected: self.size(), error: self.size() };
+        let outcome = Outcome { answer, samples: self.samples(n), stencil: self.take(m).to_vec() };
+        let input = Input { width, height, channels, mode, ratio, lengths, colours, coords, ends };
+        (Case { kind: "fixed list", input, samples, stencil }, outcome)
+    }
+}
+
+fn read(file: &str) -> Vec<(Case, Outcome)> {
+    let data = std::fs::read(file).unwrap_or_else(|e| panic!("{file}: {e}"));
+    let mut reader = Reader(&data);
+    let count = reader.size();
+    let list = (0..count).map(|_| reader.case()).collect();
+    assert!(reader.0.is_empty(), "{file}: something follows the last case");
+    list
+}
+
+/// Picks the cases and writes them with the answers on which all sides agree.
+pub fn make(file: &str) -> bool {
+    assert!(cfg!(oracle), "the list is made with the original at hand");
+    let (mut out, mut kept) = (Vec::new(), 0);
+    let mut times = vec![0u64; BRANCHES.len()];
+    let (mut places, mut kinds) = (HashSet::new(), HashSet::new());
+    let first = figures();
+    let must = first.len();
+    let every = every_place();
+    let mut index = 0;
+    loop {
+        let wanting = |k: usize, times: &[u64]| times[k] < TIMES && !LARGE.contains(&BRANCHES[k]);
+        let candidate = if index < must {
+            first[index].clone()
+        } else if index < must + every.len() {
+            every[index - must].clone()
+        } else {
+            case(SEED, (index - must - every.len()) as u64)
+        };
+        let must_keep = index < must;
+        index += 1;
+        if candidate.samples.len() > MOST_SAMPLES || candidate.input.colours.len() > 16 {
+            continue;
+        }
+        let mut seen = Seen::new();
+        let outcome = match compare(&candidate, &mut seen, &mut Totals::default()) {
+            Ok(outcome) => outcome,
+            Err(what) => {
+                println!("make-fixed: sides differ, {what}\n{}", shrink::text(&candidate));
+                return false;
+            }
+        };
+        let fresh = (0..BRANCHES.len()).any(|k| seen.0[k] > 0 && wanting(k, &times));
+        let a = outcome.answer;
+        let new_place = a.refusal != 0 && places.insert((a.refusal, a.place));
+        let new_kind = a.refusal == 0 && a.error > 0 && kinds.insert((candidate.kind, candidate.input.mode, candidate.input.channels));
+        if must_keep || fresh || new_place || new_kind {
+            for k in 0..BRANCHES.len() {
+                times[k] += u64::from(seen.0[k] > 0);
+            }
+            put_case(&mut out, &candidate, &outcome);
+            kept += 1;
+        }
+        let missing: Vec<&str> = (0..BRANCHES.len()).filter(|&k| wanting(k, &times)).map(|k| BRANCHES[k]).collect();
+        if index > 50_000 && missing.is_empty() {
+            break;
+        }
+        if index > 5_000_000 {
+            println!("make-fixed: not reached often enough: {missing:?}");
+            return false;
+        }
+    }
+    let mut data = Vec::new();
+    put64(&mut data, kept);
+    data.extend(out);
+    std::fs::write(file, &data).unwrap();
+    println!("make-fixed: {kept} cases of {index} tried, {} bytes", data.len());
+    true
+}
+
+/// Every side against the list.
+pub fn check(file: &str) -> bool {
+    let list = read(file);
+    let mut differ = 0;
+    for (case, expected) in &list {
+        let mut totals = Totals::default();
+        let same = match compare(case, &mut Seen::new(), &mut totals) {
+            Ok(o) => o.answer == expected.answer && bits(&o.samples) == bits(&expected.samples) && o.stencil == expected.stencil,
+            Err(_) => false,
+        };
+        differ += usize::from(!same);
+    }
+    println!("check-fixed: {} cases, {differ} differ", list.len());
+    differ == 0
+}
+
+pub fn show(file: &str) -> bool {
+    for (k, (case, expected)) in read(file).iter().enumerate() {
+        println!("case {k}: {:?}\n{}  stencil {:?}", expected.answer, shrink::text(case), expected.stencil);
+        let again = by_judge(case, &mut Seen::new());
+        assert!(again.answer == expected.answer);
+    }
+    true
+}

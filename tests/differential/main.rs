@@ -1,0 +1,118 @@
+//! The proved pass against the original and against the second judge, on the same inputs.
+//!
+//! `run COUNT SEED`: every refusal at every place, then COUNT cases; totals, and how often each branch was reached.
+//! `monotony COUNT SEED`: pairs of passes in demand 3's relation, and pairs with the relation broken.
+//! `show SEED INDEX`: one case of a run.
+//! `example`: the glyph of examples/glyph.txt.
+//! `patch FILE OUT FROM TO`: a copy of a library in which the f64 FROM is TO, wherever its bytes are.
+//! `make-fixed FILE`, `check-fixed FILE`, `show-fixed FILE`: the fixed list.
+//! Exit status 1 if any two sides differ, or a long run leaves a branch out.
+
+mod cases;
+mod fixed;
+mod glyphs;
+#[path = "../judge/judge.rs"]
+mod judge;
+mod monotony;
+mod rng;
+mod shrink;
+mod sides;
+
+use judge::{Seen, BRANCHES};
+use sides::{compare, Totals};
+
+/// A run of this many cases has to reach every branch.
+const LONG: u64 = 20_000;
+
+fn sides_there() -> String {
+    let mut names = vec!["the judge"];
+    if cfg!(oracle) {
+        names.push("the original");
+    }
+    if cfg!(rattle) {
+        names.push("the proved pass");
+    }
+    names.join(", ")
+}
+
+fn run(count: u64, seed: u64) -> bool {
+    println!("sides: {}", sides_there());
+    let (mut seen, mut totals) = (Seen::new(), Totals::default());
+    let mut wrong = 0;
+    let always = cases::every_place();
+    let fixed = always.len() as u64;
+    for at in 0..fixed + count {
+        let case = if at < fixed { always[at as usize].clone() } else { cases::case(seed, at - fixed) };
+        if let Err(what) = compare(&case, &mut seen, &mut totals) {
+            wrong += 1;
+            if wrong <= 3 {
+                let name = if at < fixed { format!("fixed {at}") } else { format!("seed {seed} index {}", at - fixed) };
+                println!("differs ({name}, {}): {what}", case.kind);
+            }
+            if wrong == 1 {
+                println!("{}", shrink::smallest(&case));
+            }
+        }
+    }
+    let missing = print_branches(&seen);
+    println!("seed {seed}: {} cases, {} accepted with {} texels, {} protected, {} flagged", totals.cases, totals.accepted, totals.texels, totals.protected, totals.flagged);
+    let refused: Vec<String> = (1..10).map(|k| format!("{k}: {}", totals.refused[k])).collect();
+    println!("refused {}", refused.join(", "));
+    println!("compared with the original {}, with the proved pass {}", totals.by_oracle, totals.by_rattle);
+    println!("zeros whose sign differs from the original's: {}", totals.zero_signs);
+    println!("{} of {} branches reached", BRANCHES.len() - missing, BRANCHES.len());
+    println!("{wrong} cases differ");
+    wrong == 0 && (count < LONG || missing == 0)
+}
+
+/// Prints the counts and answers how many branches were not reached.
+fn print_branches(seen: &Seen) -> usize {
+    let mut missing = 0;
+    for (name, count) in BRANCHES.iter().zip(&seen.0) {
+        println!("{count:>12}  {name}");
+        missing += usize::from(*count == 0);
+    }
+    missing
+}
+
+fn main() {
+    let args: Vec<String> = std::env::args().skip(1).collect();
+    let number = |k: usize| args.get(k).and_then(|a| a.parse::<u64>().ok());
+    let file = || args.get(1).map(String::as_str).unwrap_or_else(|| usage());
+    let good = match (args.first().map(String::as_str), number(1), number(2)) {
+        (Some("run"), Some(count), Some(seed)) => run(count, seed),
+        (Some("monotony"), Some(count), Some(seed)) => monotony::run(count, seed),
+        (Some("show"), Some(seed), Some(index)) => {
+            println!("{}", shrink::text(&cases::case(seed, index)));
+            true
+        }
+        (Some("example"), ..) => {
+            print!("{}", cases::example());
+            true
+        }
+        (Some("patch"), ..) if args.len() == 5 => patch(&args[1], &args[2], &args[3], &args[4]),
+        (Some("make-fixed"), ..) => fixed::make(file()),
+        (Some("check-fixed"), ..) => fixed::check(file()),
+        (Some("show-fixed"), ..) => fixed::show(file()),
+        _ => usage(),
+    };
+    std::process::exit(i32::from(!good));
+}
+
+/// Answers whether the number was there.
+fn patch(file: &str, out: &str, from: &str, to: &str) -> bool {
+    let pattern = |text: &str| text.parse::<f64>().expect("a number").to_le_bytes();
+    let (from, to) = (pattern(from), pattern(to));
+    let mut data = std::fs::read(file).unwrap_or_else(|e| panic!("{file}: {e}"));
+    let places: Vec<usize> = (0..data.len().saturating_sub(7)).filter(|&k| data[k..k + 8] == from).collect();
+    for &k in &places {
+        data[k..k + 8].copy_from_slice(&to);
+    }
+    std::fs::write(out, data).unwrap_or_else(|e| panic!("{out}: {e}"));
+    !places.is_empty()
+}
+
+fn usage() -> ! {
+    eprintln!("usage: differential run COUNT SEED | monotony COUNT SEED | show SEED INDEX | example | patch FILE OUT FROM TO | make-fixed FILE | check-fixed FILE | show-fixed FILE");
+    std::process::exit(2)
+}

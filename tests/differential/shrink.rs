@@ -1,0 +1,103 @@
+//! A case as text, and the smallest case like it over which the sides still differ.
+
+use crate::cases::{contours_of, set_contours, Case};
+use crate::judge::Seen;
+use crate::sides::{compare, Totals};
+use std::fmt::Write;
+
+pub fn text(case: &Case) -> String {
+    let i = &case.input;
+    let mut s = String::new();
+    let bits: Vec<String> = [i.ratio, i.lengths[0], i.lengths[1], i.lengths[2]].iter().map(|v| format!("{v:?} ({:016X})", v.to_bits())).collect();
+    let _ = writeln!(s, "  size {} {} {}, mode {}, ratio and lengths {}", i.width, i.height, i.channels, i.mode, bits.join(" "));
+    let _ = writeln!(s, "  {} samples, {} cells, {} colours, {} coordinates, ends {:?}", case.samples.len(), case.stencil.len(), i.colours.len(), i.coords.len(), i.ends);
+    if i.colours.len() <= 32 {
+        let _ = writeln!(s, "  colours {:?} coordinates {:?}", i.colours, i.coords);
+    }
+    if case.samples.len() <= 64 {
+        for (k, texel) in case.samples.chunks(i.channels.clamp(1, 4)).enumerate() {
+            let values: Vec<String> = texel.iter().map(|v| format!("{v:?} ({:08X})", v.to_bits())).collect();
+            let _ = writeln!(s, "  texel {k}: {}", values.join(" "));
+        }
+    }
+    s
+}
+
+fn differs(case: &Case) -> Option<String> {
+    compare(case, &mut Seen::new(), &mut Totals::default()).err()
+}
+
+/// The case without row or column `at`, where its lengths are those of its size.
+fn without(case: &Case, row: bool, at: usize) -> Option<Case> {
+    let (w, h, n) = (case.input.width, case.input.height, case.input.channels);
+    if w.checked_mul(h) != Some(case.stencil.len()) || case.stencil.len().checked_mul(n) != Some(case.samples.len()) || w * h == 0 {
+        return None;
+    }
+    let keep = |k: usize| if row { k / w != at } else { k % w != at };
+    let mut c = case.clone();
+    c.samples = (0..w * h).filter(|&k| keep(k)).flat_map(|k| case.samples[k * n..(k + 1) * n].to_vec()).collect();
+    c.stencil = (0..w * h).filter(|&k| keep(k)).map(|k| case.stencil[k]).collect();
+    if row {
+        c.input.height -= 1;
+    } else {
+        c.input.width -= 1;
+    }
+    Some(c)
+}
+
+/// Every case that is one step simpler.
+fn simpler(case: &Case) -> Vec<Case> {
+    let mut list = Vec::new();
+    if case.stencil.len() <= 10_000 {
+        list.extend((0..case.input.height.min(200)).filter_map(|k| without(case, true, k)));
+        list.extend((0..case.input.width.min(200)).filter_map(|k| without(case, false, k)));
+    }
+    let outlined = case.input.ends.last().copied().unwrap_or(0) == case.input.colours.len()
+        && case.input.ends.windows(2).all(|e| e[0] <= e[1])
+        && case.input.coords.len() == 2 * case.input.colours.len();
+    if outlined {
+        let contours = contours_of(&case.input);
+        for k in 0..contours.len() {
+            let mut fewer = contours.clone();
+            fewer.remove(k);
+            let mut c = case.clone();
+            set_contours(&mut c.input, &fewer);
+            list.push(c);
+        }
+    }
+    if case.samples.len() <= 64 {
+        for k in 0..case.samples.len() {
+            for v in [0.0, 0.5, 1.0, 0.25, 0.75] {
+                if case.samples[k].to_bits() == f32::to_bits(v) {
+                    break;
+                }
+                let mut c = case.clone();
+                c.samples[k] = v;
+                list.push(c);
+            }
+        }
+        for k in 0..4 {
+            for v in [0.0, 1.0, 0.25] {
+                let mut c = case.clone();
+                let setting = if k == 0 { &mut c.input.ratio } else { &mut c.input.lengths[k - 1] };
+                if setting.to_bits() == f64::to_bits(v) {
+                    break;
+                }
+                *setting = v;
+                list.push(c);
+            }
+        }
+    }
+    list
+}
+
+pub fn smallest(case: &Case) -> String {
+    let mut best = case.clone();
+    for _ in 0..400 {
+        match simpler(&best).into_iter().find(|c| differs(c).is_some()) {
+            Some(c) => best = c,
+            None => break,
+        }
+    }
+    format!("  smallest found: {}\n{}", differs(&best).unwrap_or_default(), text(&best))
+}

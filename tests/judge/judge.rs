@@ -1,0 +1,808 @@
+//! The second judge: a plain, slow reading of the scope document in Rust, whose f32 and f64 are IEEE 754 with each operation rounded once.
+//! It is written from that document and from the readings of its open points, not from the original and not from the proved pass,
+//! and it judges what the original cannot: refusals, places, counts and the sign of a zero.
+//! `Seen` counts how often each branch of the reading was reached.
+
+/// The largest size of a sample, a coordinate, a ratio or a length.
+pub const LIMIT: f64 = 1_048_576.0;
+pub const SIDE_LIMIT: usize = 4096;
+pub const SEGMENT_LIMIT: usize = 65_536;
+pub const PROTECTED: u8 = 2;
+pub const ERROR: u8 = 1;
+
+/// What comes in, the two lent slices aside.
+#[derive(Clone, Debug)]
+pub struct Input {
+    pub width: usize,
+    pub height: usize,
+    pub channels: usize,
+    pub mode: u8,
+    pub ratio: f64,
+    /// horizontal, vertical, diagonal
+    pub lengths: [f64; 3],
+    pub colours: Vec<u8>,
+    pub coords: Vec<f64>,
+    pub ends: Vec<usize>,
+}
+
+/// What comes back, the two lent slices aside.
+#[derive(Clone, Copy, PartialEq, Eq, Debug, Default)]
+pub struct Answer {
+    pub refusal: u8,
+    pub place: usize,
+    pub protected: usize,
+    pub error: usize,
+}
+
+macro_rules! branches {
+    ($($name:ident : $text:expr,)*) => {
+        #[allow(non_camel_case_types, clippy::upper_case_acronyms)]
+        #[derive(Clone, Copy)]
+        #[repr(usize)]
+        pub enum Branch { $($name,)* }
+        pub const BRANCHES: &[&str] = &[$($text,)*];
+    };
+}
+
+branches! {
+    Refused1: "refusal 1 0, channels",
+    Refused2Width0: "refusal 2 0, width 0",
+    Refused2WidthOver: "refusal 2 0, width over",
+    Refused2Height0: "refusal 2 0, height 0",
+    Refused2HeightOver: "refusal 2 0, height over",
+    Refused3Short: "refusal 3 0, samples short",
+    Refused3Long: "refusal 3 0, samples long",
+    Refused4Short: "refusal 4 0, stencil short",
+    Refused4Long: "refusal 4 0, stencil long",
+    Refused5Mode: "refusal 5 0, mode",
+    Refused5Ratio: "refusal 5 1, ratio",
+    Refused5Horizontal: "refusal 5 2, horizontal length",
+    Refused5Vertical: "refusal 5 3, vertical length",
+    Refused5Diagonal: "refusal 5 4, diagonal length",
+    Refused5Nan: "refusal 5, a NaN",
+    Refused5Below: "refusal 5, below 0",
+    Refused5Above: "refusal 5, above the limit",
+    Refused6Nan: "refusal 6, a NaN sample",
+    Refused6Infinite: "refusal 6, an infinite sample",
+    Refused6Above: "refusal 6, a finite sample above the limit",
+    Refused6First: "refusal 6 at the first sample",
+    Refused6Last: "refusal 6 at the last sample",
+    Refused6Fourth: "refusal 6 in a fourth channel",
+    Refused7Short: "refusal 7 0, coordinates short",
+    Refused7Long: "refusal 7 0, coordinates long",
+    Refused7Many: "refusal 7 0, too many segments",
+    Refused8Below: "refusal 8, an end below the one before",
+    Refused8Above: "refusal 8, an end above the segment count",
+    Refused8Last: "refusal 8, the last end short of the count",
+    Refused8Empty: "refusal 8, no ends for some segments",
+    Refused9Colour: "refusal 9, colour",
+    Refused9X: "refusal 9, x",
+    Refused9Y: "refusal 9, y",
+    Refused9Nan: "refusal 9, a NaN coordinate",
+    Refused9Infinite: "refusal 9, an infinite coordinate",
+    Refused9Above: "refusal 9, a finite coordinate above the limit",
+    Mode0: "accepted, mode 0",
+    Mode1: "accepted, mode 1",
+    Mode2: "accepted, mode 2",
+    Mode3: "accepted, mode 3",
+    Channels3: "accepted, 3 channels",
+    Channels4: "accepted, 4 channels",
+    Size1: "accepted, 1 x 1",
+    Row: "accepted, one row",
+    Column: "accepted, one column",
+    SideLimit: "accepted, a side of 4,096",
+    NoContours: "accepted, no contours",
+    CornerEmpty: "corners, an empty contour skipped",
+    CornerSingle: "corners, a contour of one segment",
+    CornerNone: "corners, no shared bit",
+    CornerOne: "corners, one shared bit",
+    CornerTwo: "corners, two shared bits",
+    CornerThree: "corners, three shared bits",
+    CornerInside: "corners, cell inside",
+    CornerLeft: "corners, cell off the left",
+    CornerRight: "corners, cell off the right",
+    CornerBelow: "corners, cell off the bottom",
+    CornerAbove: "corners, cell off the top",
+    CornerNegative: "corners, floor below -1",
+    CornerInteger: "corners, x - 0.5 whole",
+    EdgeFarHorizontal: "edges, horizontal pair too far",
+    EdgeFarVertical: "edges, vertical pair too far",
+    EdgeFarDiagonal: "edges, diagonal pair too far",
+    EdgeNearHorizontal: "edges, horizontal pair near",
+    EdgeNearVertical: "edges, vertical pair near",
+    EdgeNearRising: "edges, rising diagonal pair near",
+    EdgeNearFalling: "edges, falling diagonal pair near",
+    EdgeRadiusTie: "edges, sum equal to the radius",
+    EdgeTNan: "edges, t not a number",
+    EdgeTLow: "edges, t <= 0",
+    EdgeTZero: "edges, t = 0",
+    EdgeTHigh: "edges, t >= 1",
+    EdgeTOne: "edges, t = 1",
+    EdgeNotMedian: "edges, mixed channel is no median",
+    EdgeMasked0: "edges, channel 0 masked",
+    EdgeMasked1: "edges, channel 1 masked",
+    EdgeMasked2: "edges, channel 2 masked",
+    EdgeMaskedSeveral: "edges, several channels masked",
+    EdgeProtectsA: "edges, a protected",
+    EdgeProtectsB: "edges, b protected",
+    EdgeSparesA: "edges, masked and a not protected",
+    EdgeSparesB: "edges, masked and b not protected",
+    CandidateAbove: "range, both above and xm not",
+    CandidateAboveTie: "range, both above and xm = 0.5",
+    CandidateBelow: "range, both below and xm not",
+    CandidateBelowTie: "range, both below and xm = 0.5",
+    CandidateMedian: "range, unprotected and median not xm",
+    CandidateSaved: "range, protected and median not xm: no candidate",
+    CandidateNo: "range, median is xm: no candidate",
+    OutALow: "range, below a's range",
+    OutAHigh: "range, above a's range",
+    OutBLow: "range, within a's, below b's range",
+    OutBHigh: "range, within a's, above b's range",
+    Within: "range, candidate within both",
+    WithinEnd: "range, candidate on an end",
+    LinearLeft: "linear, left neighbour",
+    LinearRight: "linear, right neighbour",
+    LinearBelow: "linear, neighbour below",
+    LinearAbove: "linear, neighbour above",
+    LinearGuarded: "linear, guard fails",
+    LinearTie: "linear, guard at equality",
+    LinearNan: "linear, t not a number",
+    LinearLow: "linear, t <= 0.01",
+    LinearHigh: "linear, t >= 0.99",
+    LinearLowEqual: "linear, t = 0.01",
+    LinearHighEqual: "linear, t = 0.99",
+    LinearInside10: "linear, pair 1-0 inside",
+    LinearInside21: "linear, pair 2-1 inside",
+    LinearInside02: "linear, pair 0-2 inside",
+    LinearArtifact10: "linear, artifact at pair 1-0",
+    LinearArtifact21: "linear, artifact at pair 2-1",
+    LinearArtifact02: "linear, artifact at pair 0-2",
+    DiagonalLowerLeft: "diagonal, lower left",
+    DiagonalLowerRight: "diagonal, lower right",
+    DiagonalUpperLeft: "diagonal, upper left",
+    DiagonalUpperRight: "diagonal, upper right",
+    DiagonalGuarded: "diagonal, guard fails",
+    DiagonalTie: "diagonal, guard at equality",
+    QuadraticZero: "quadratic, a = 0",
+    QuadraticSteep: "quadratic, |b| > 1e12 |a| > 0",
+    QuadraticNone: "quadratic, a = 0 and b = 0",
+    QuadraticLine: "quadratic, -c/b",
+    QuadraticTwo: "quadratic, D > 0",
+    QuadraticOne: "quadratic, D = 0",
+    QuadraticNegative: "quadratic, D < 0",
+    RootLow: "diagonal, root <= 0.01",
+    RootHigh: "diagonal, root >= 0.99",
+    RootLowEqual: "diagonal, root = 0.01",
+    RootHighEqual: "diagonal, root = 0.99",
+    RootFirst: "diagonal, first of two roots inside",
+    RootSecond: "diagonal, second of two roots inside",
+    RootBoth: "diagonal, both roots inside",
+    RootOnly: "diagonal, only root inside",
+    TurnNan: "diagonal, turning point not a number",
+    TurnOut: "diagonal, turning point outside",
+    TurnUpper0: "diagonal, first turning point is the upper end",
+    TurnLower0: "diagonal, first turning point is the lower end",
+    TurnUpper1: "diagonal, second turning point is the upper end",
+    TurnLower1: "diagonal, second turning point is the lower end",
+    TurnAtRoot: "diagonal, turning point at the root",
+    DiagonalByPlain: "diagonal, artifact by the plain range",
+    DiagonalByTurn0: "diagonal, artifact by the first turning point alone",
+    DiagonalByTurn1: "diagonal, artifact by the second turning point alone",
+    DiagonalArtifactFirst: "diagonal, artifact at the first of two roots",
+    DiagonalArtifactSecond: "diagonal, artifact at the second of two roots",
+    DiagonalArtifact10: "diagonal, artifact at pair 1-0",
+    DiagonalArtifact21: "diagonal, artifact at pair 2-1",
+    DiagonalArtifact02: "diagonal, artifact at pair 0-2",
+    FlagLinearOnly: "flag, by linear alone",
+    FlagDiagonalOnly: "flag, by diagonal alone",
+    FlagBoth: "flag, by both",
+    FlagProtected: "flag, on a protected texel",
+    FlagNone: "no flag",
+    CollapseMinusZero: "collapse, to minus zero",
+    CollapseFourth: "collapse, fourth channel kept",
+    CollapseChanges: "collapse, a sample changed",
+}
+
+/// How often each branch was reached.
+#[derive(Clone)]
+pub struct Seen(pub Vec<u64>);
+
+impl Seen {
+    pub fn new() -> Seen {
+        Seen(vec![0; BRANCHES.len()])
+    }
+    fn hit(&mut self, b: Branch) {
+        self.0[b as usize] += 1;
+    }
+    fn hit_if(&mut self, yes: bool, b: Branch) {
+        if yes {
+            self.hit(b);
+        }
+    }
+}
+
+impl Default for Seen {
+    fn default() -> Seen {
+        Seen::new()
+    }
+}
+
+// Number rules.
+
+fn min(x: f32, y: f32) -> f32 {
+    if x.is_nan() || y < x {
+        y
+    } else {
+        x
+    }
+}
+
+fn max(x: f32, y: f32) -> f32 {
+    if x.is_nan() || x < y {
+        y
+    } else {
+        x
+    }
+}
+
+pub fn median(a: f32, b: f32, c: f32) -> f32 {
+    max(min(a, b), min(max(a, b), c))
+}
+
+fn median_of(t: [f32; 3]) -> f32 {
+    median(t[0], t[1], t[2])
+}
+
+fn narrow(x: f64) -> f32 {
+    if x.is_nan() {
+        f32::from_bits(0x7FC0_0000)
+    } else {
+        x as f32
+    }
+}
+
+fn mix(a: f32, b: f32, w: f64) -> f32 {
+    narrow((1.0 - w) * f64::from(a) + w * f64::from(b))
+}
+
+/// The roots in the order of the rule: how many, and their values.
+pub fn solve_quadratic(a: f64, b: f64, c: f64, seen: &mut Seen) -> (usize, [f64; 2]) {
+    if a == 0.0 || b.abs() > 1e12 * a.abs() {
+        seen.hit(if a == 0.0 { Branch::QuadraticZero } else { Branch::QuadraticSteep });
+        if b == 0.0 {
+            seen.hit(Branch::QuadraticNone);
+            return (0, [0.0; 2]);
+        }
+        seen.hit(Branch::QuadraticLine);
+        return (1, [-c / b, 0.0]);
+    }
+    let d = b * b - 4.0 * a * c;
+    if d > 0.0 {
+        seen.hit(Branch::QuadraticTwo);
+        let root = d.sqrt();
+        (2, [(-b + root) / (2.0 * a), (-b - root) / (2.0 * a)])
+    } else if d == 0.0 {
+        seen.hit(Branch::QuadraticOne);
+        (1, [-b / (2.0 * a), 0.0])
+    } else {
+        seen.hit(Branch::QuadraticNegative);
+        (0, [0.0; 2])
+    }
+}
+
+// Checks.
+
+fn bad_setting(v: f64) -> bool {
+    v.is_nan() || v < 0.0 || v > LIMIT
+}
+
+fn bad_sample(v: f32) -> bool {
+    v.is_nan() || v.is_infinite() || f64::from(v).abs() > LIMIT
+}
+
+fn bad_coordinate(v: f64) -> bool {
+    v.is_nan() || v.is_infinite() || v.abs() > LIMIT
+}
+
+/// The number and the place of the first check that fails, if one does.
+fn refusal(input: &Input, samples: &[f32], stencil_len: usize, seen: &mut Seen) -> Option<(u8, usize)> {
+    use Branch::*;
+    let (w, h, n) = (input.width, input.height, input.channels);
+    if n != 3 && n != 4 {
+        seen.hit(Refused1);
+        return Some((1, 0));
+    }
+    for (side, zero, over) in [(w, Refused2Width0, Refused2WidthOver), (h, Refused2Height0, Refused2HeightOver)] {
+        if !(1..=SIDE_LIMIT).contains(&side) {
+            seen.hit(if side == 0 { zero } else { over });
+            return Some((2, 0));
+        }
+    }
+    if samples.len() != w * h * n {
+        seen.hit(if samples.len() < w * h * n { Refused3Short } else { Refused3Long });
+        return Some((3, 0));
+    }
+    if stencil_len != w * h {
+        seen.hit(if stencil_len < w * h { Refused4Short } else { Refused4Long });
+        return Some((4, 0));
+    }
+    if input.mode > 3 {
+        seen.hit(Refused5Mode);
+        return Some((5, 0));
+    }
+    let settings = [input.ratio, input.lengths[0], input.lengths[1], input.lengths[2]];
+    let names = [Refused5Ratio, Refused5Horizontal, Refused5Vertical, Refused5Diagonal];
+    for i in 0..4 {
+        if bad_setting(settings[i]) {
+            seen.hit(names[i]);
+            seen.hit(if settings[i].is_nan() {
+                Refused5Nan
+            } else if settings[i] < 0.0 {
+                Refused5Below
+            } else {
+                Refused5Above
+            });
+            return Some((5, i + 1));
+        }
+    }
+    for (i, &v) in samples.iter().enumerate() {
+        if bad_sample(v) {
+            seen.hit(if v.is_nan() {
+                Refused6Nan
+            } else if v.is_infinite() {
+                Refused6Infinite
+            } else {
+                Refused6Above
+            });
+            seen.hit_if(i == 0, Refused6First);
+            seen.hit_if(i + 1 == samples.len(), Refused6Last);
+            seen.hit_if(n == 4 && i % 4 == 3, Refused6Fourth);
+            return Some((6, i));
+        }
+    }
+    let segments = input.colours.len();
+    if input.coords.len() != 2 * segments {
+        seen.hit(if input.coords.len() < 2 * segments { Refused7Short } else { Refused7Long });
+        return Some((7, 0));
+    }
+    if segments > SEGMENT_LIMIT {
+        seen.hit(Refused7Many);
+        return Some((7, 0));
+    }
+    let mut before = 0;
+    for (i, &end) in input.ends.iter().enumerate() {
+        if end < before {
+            seen.hit(Refused8Below);
+            return Some((8, i));
+        }
+        if end > segments {
+            seen.hit(Refused8Above);
+            return Some((8, i));
+        }
+        before = end;
+    }
+    if before != segments {
+        seen.hit(if input.ends.is_empty() { Refused8Empty } else { Refused8Last });
+        return Some((8, input.ends.len()));
+    }
+    for s in 0..segments {
+        if input.colours[s] > 7 {
+            seen.hit(Refused9Colour);
+            return Some((9, s));
+        }
+        for (v, name) in [(input.coords[2 * s], Refused9X), (input.coords[2 * s + 1], Refused9Y)] {
+            if bad_coordinate(v) {
+                seen.hit(name);
+                seen.hit(if v.is_nan() {
+                    Refused9Nan
+                } else if v.is_infinite() {
+                    Refused9Infinite
+                } else {
+                    Refused9Above
+                });
+                return Some((9, s));
+            }
+        }
+    }
+    None
+}
+
+// The pass.
+
+struct Field<'a> {
+    width: usize,
+    height: usize,
+    channels: usize,
+    samples: &'a [f32],
+}
+
+impl Field<'_> {
+    /// The first three channels of a texel.
+    fn texel(&self, x: usize, y: usize) -> [f32; 3] {
+        let at = (y * self.width + x) * self.channels;
+        [self.samples[at], self.samples[at + 1], self.samples[at + 2]]
+    }
+    fn inside(&self, x: i64, y: i64) -> bool {
+        0 <= x && x < self.width as i64 && 0 <= y && y < self.height as i64
+    }
+}
+
+fn protect_corners(input: &Input, stencil: &mut [u8], seen: &mut Seen) {
+    let mut start = 0;
+    for &end in &input.ends {
+        seen.hit_if(start == end, Branch::CornerEmpty);
+        seen.hit_if(start + 1 == end, Branch::CornerSingle);
+        for s in start..end {
+            let before = if s == start { end - 1 } else { s - 1 };
+            let shared = (input.colours[s] & input.colours[before]).count_ones();
+            seen.hit([Branch::CornerNone, Branch::CornerOne, Branch::CornerTwo, Branch::CornerThree][shared as usize]);
+            if shared > 1 {
+                continue;
+            }
+            let (x, y) = (input.coords[2 * s], input.coords[2 * s + 1]);
+            let (l, b) = ((x - 0.5).floor() as i64, (y - 0.5).floor() as i64);
+            seen.hit_if(l < -1 || b < -1, Branch::CornerNegative);
+            seen.hit_if(x - 0.5 == (x - 0.5).floor(), Branch::CornerInteger);
+            for (cx, cy) in [(l, b), (l + 1, b), (l, b + 1), (l + 1, b + 1)] {
+                let (w, h) = (input.width as i64, input.height as i64);
+                seen.hit_if(cx < 0, Branch::CornerLeft);
+                seen.hit_if(cx >= w, Branch::CornerRight);
+                seen.hit_if(cy < 0, Branch::CornerBelow);
+                seen.hit_if(cy >= h, Branch::CornerAbove);
+                if 0 <= cx && cx < w && 0 <= cy && cy < h {
+                    seen.hit(Branch::CornerInside);
+                    stencil[cy as usize * input.width + cx as usize] |= PROTECTED;
+                }
+            }
+        }
+        start = end;
+    }
+}
+
+/// Whether a and b of an edge pair are protected.
+fn edge_pair(a: [f32; 3], b: [f32; 3], radius: f32, near: Branch, far: Branch, seen: &mut Seen) -> (bool, bool) {
+    let (am, bm) = (median_of(a), median_of(b));
+    let sum = (am - 0.5f32).abs() + (bm - 0.5f32).abs();
+    seen.hit_if(sum == radius, Branch::EdgeRadiusTie);
+    if !(sum < radius) {
+        seen.hit(far);
+        return (false, false);
+    }
+    seen.hit(near);
+    let mut mask = [false; 3];
+    for i in 0..3 {
+        let divisor: f32 = a[i] - b[i];
+        let t = (f64::from(a[i]) - 0.5) / f64::from(divisor);
+        if 0.0 < t && t < 1.0 {
+            let mixed = [mix(a[0], b[0], t), mix(a[1], b[1], t), mix(a[2], b[2], t)];
+            mask[i] = mixed[i] == median_of(mixed);
+            seen.hit_if(!mask[i], Branch::EdgeNotMedian);
+        } else {
+            seen.hit(if t.is_nan() {
+                Branch::EdgeTNan
+            } else if t <= 0.0 {
+                Branch::EdgeTLow
+            } else {
+                Branch::EdgeTHigh
+            });
+            seen.hit_if(t == 0.0, Branch::EdgeTZero);
+            seen.hit_if(t == 1.0, Branch::EdgeTOne);
+        }
+    }
+    seen.hit_if(mask[0], Branch::EdgeMasked0);
+    seen.hit_if(mask[1], Branch::EdgeMasked1);
+    seen.hit_if(mask[2], Branch::EdgeMasked2);
+    seen.hit_if(mask.iter().filter(|&&m| m).count() > 1, Branch::EdgeMaskedSeveral);
+    let differs = |t: [f32; 3], m: f32| (0..3).any(|i| mask[i] && t[i] != m);
+    let (pa, pb) = (differs(a, am), differs(b, bm));
+    let any = mask.iter().any(|&m| m);
+    seen.hit_if(pa, Branch::EdgeProtectsA);
+    seen.hit_if(pb, Branch::EdgeProtectsB);
+    seen.hit_if(any && !pa, Branch::EdgeSparesA);
+    seen.hit_if(any && !pb, Branch::EdgeSparesB);
+    (pa, pb)
+}
+
+fn protect_edges(input: &Input, field: &Field, stencil: &mut [u8], seen: &mut Seen) {
+    use Branch::*;
+    let radius = |length: f64| narrow(1.001 * length);
+    let [horizontal, vertical, diagonal] = input.lengths;
+    let (w, h) = (field.width, field.height);
+    let mut pair = |ax: usize, ay: usize, bx: usize, by: usize, length: f64, near: Branch, far: Branch| {
+        let (pa, pb) = edge_pair(field.texel(ax, ay), field.texel(bx, by), radius(length), near, far, seen);
+        if pa {
+            stencil[ay * w + ax] |= PROTECTED;
+        }
+        if pb {
+            stencil[by * w + bx] |= PROTECTED;
+        }
+    };
+    for y in 0..h {
+        for x in 0..w {
+            if x + 1 < w {
+                pair(x, y, x + 1, y, horizontal, EdgeNearHorizontal, EdgeFarHorizontal);
+            }
+            if y + 1 < h {
+                pair(x, y, x, y + 1, vertical, EdgeNearVertical, EdgeFarVertical);
+            }
+            if x + 1 < w && y + 1 < h {
+                pair(x, y, x + 1, y + 1, diagonal, EdgeNearRising, EdgeFarDiagonal);
+                pair(x + 1, y, x, y + 1, diagonal, EdgeNearFalling, EdgeFarDiagonal);
+            }
+        }
+    }
+}
+
+/// What a detector is handed: the span of its direction and whether its texel is protected.
+#[derive(Clone, Copy)]
+struct Detector {
+    span: f64,
+    protected: bool,
+}
+
+impl Detector {
+    fn range_test(self, at: f64, bt: f64, xt: f64, am: f32, bm: f32, xm: f32, seen: &mut Seen) -> bool {
+        use Branch::*;
+        let above = am > 0.5 && bm > 0.5 && xm <= 0.5;
+        let below = am < 0.5 && bm < 0.5 && xm >= 0.5;
+        let not_median = median(am, bm, xm) != xm;
+        seen.hit_if(above, CandidateAbove);
+        seen.hit_if(above && xm == 0.5, CandidateAboveTie);
+        seen.hit_if(below, CandidateBelow);
+        seen.hit_if(below && xm == 0.5, CandidateBelowTie);
+        if !(above || below || (!self.protected && not_median)) {
+            seen.hit(if not_median { CandidateSaved } else { CandidateNo });
+            return false;
+        }
+        seen.hit_if(!above && !below, CandidateMedian);
+        let (am, bm, xm) = (f64::from(am), f64::from(bm), f64::from(xm));
+        let a_reach = (xt - at) * self.span;
+        let b_reach = (bt - xt) * self.span;
+        let ends = [am - a_reach, am + a_reach, bm - b_reach, bm + b_reach];
+        let within = ends[0] <= xm && xm <= ends[1] && ends[2] <= xm && xm <= ends[3];
+        seen.hit_if(within, Within);
+        seen.hit_if(within && ends.contains(&xm), WithinEnd);
+        if !within {
+            seen.hit(if xm < ends[0] {
+                OutALow
+            } else if xm > ends[1] {
+                OutAHigh
+            } else if xm < ends[2] {
+                OutBLow
+            } else {
+                OutBHigh
+            });
+        }
+        !within
+    }
+}
+
+const EPSILON: f64 = 0.01;
+
+fn strictly_inside(t: f64) -> bool {
+    t > EPSILON && t < 1.0 - EPSILON
+}
+
+const PAIRS: [(usize, usize); 3] = [(1, 0), (2, 1), (0, 2)];
+
+fn guard(am: f32, bm: f32, guarded: Branch, tie: Branch, seen: &mut Seen) -> bool {
+    let (a, b) = ((am - 0.5f32).abs(), (bm - 0.5f32).abs());
+    seen.hit_if(a == b, tie);
+    seen.hit_if(!(a >= b), guarded);
+    a >= b
+}
+
+fn linear(d: Detector, a: [f32; 3], b: [f32; 3], seen: &mut Seen) -> bool {
+    use Branch::*;
+    let (am, bm) = (median_of(a), median_of(b));
+    if !guard(am, bm, LinearGuarded, LinearTie, seen) {
+        return false;
+    }
+    for (p, (i, j)) in PAIRS.into_iter().enumerate() {
+        let (da, db): (f32, f32) = (a[i] - a[j], b[i] - b[j]);
+        let divisor: f32 = da - db;
+        let t = f64::from(da) / f64::from(divisor);
+        if !strictly_inside(t) {
+            seen.hit(if t.is_nan() {
+                LinearNan
+            } else if t <= EPSILON {
+                LinearLow
+            } else {
+                LinearHigh
+            });
+            seen.hit_if(t == EPSILON, LinearLowEqual);
+            seen.hit_if(t == 1.0 - EPSILON, LinearHighEqual);
+            continue;
+        }
+        seen.hit([LinearInside10, LinearInside21, LinearInside02][p]);
+        let xm = median(mix(a[0], b[0], t), mix(a[1], b[1], t), mix(a[2], b[2], t));
+        if d.range_test(0.0, 1.0, t, am, bm, xm, seen) {
+            seen.hit([LinearArtifact10, LinearArtifact21, LinearArtifact02][p]);
+            return true;
+        }
+    }
+    false
+}
+
+/// The four texels of a diagonal test and the bilinear form along the diagonal, whose formulas the document takes from the original:
+/// abc, l and q in f32, value(t) = t·(t·q + l) + a in f64 and narrowed, turning point −0.5·l / q in f64.
+struct Bilinear {
+    a: [f32; 3],
+    l: [f32; 3],
+    q: [f32; 3],
+}
+
+impl Bilinear {
+    fn new(a: [f32; 3], b: [f32; 3], c: [f32; 3], d: [f32; 3]) -> Bilinear {
+        let (mut l, mut q) = ([0f32; 3], [0f32; 3]);
+        for i in 0..3 {
+            let abc: f32 = a[i] - b[i] - c[i];
+            l[i] = -a[i] - abc;
+            q[i] = d[i] + abc;
+        }
+        Bilinear { a, l, q }
+    }
+    fn median_at(&self, t: f64) -> f32 {
+        let value = |i: usize| narrow(t * (t * f64::from(self.q[i]) + f64::from(self.l[i])) + f64::from(self.a[i]));
+        median(value(0), value(1), value(2))
+    }
+    fn turning_point(&self, i: usize) -> f64 {
+        -0.5 * f64::from(self.l[i]) / f64::from(self.q[i])
+    }
+}
+
+/// Whether the root is an artifact: its plain range test, and one for each turning point strictly inside 0..1.
+fn root_is_artifact(det: Detector, form: &Bilinear, am: f32, dm: f32, t: f64, turns: [f64; 2], seen: &mut Seen) -> bool {
+    use Branch::*;
+    let xm = form.median_at(t);
+    let plain = det.range_test(0.0, 1.0, t, am, dm, xm, seen);
+    let mut says = [false; 2];
+    for (k, turn) in turns.into_iter().enumerate() {
+        if !(turn > 0.0 && turn < 1.0) {
+            seen.hit(if turn.is_nan() { TurnNan } else { TurnOut });
+            continue;
+        }
+        let em = form.median_at(turn);
+        seen.hit_if(turn == t, TurnAtRoot);
+        says[k] = if turn > t {
+            seen.hit([TurnUpper0, TurnUpper1][k]);
+            det.range_test(0.0, turn, t, am, em, xm, seen)
+        } else {
+            seen.hit([TurnLower0, TurnLower1][k]);
+            det.range_test(turn, 1.0, t, em, dm, xm, seen)
+        };
+    }
+    seen.hit_if(plain, DiagonalByPlain);
+    seen.hit_if(!plain && says[0] && !says[1], DiagonalByTurn0);
+    seen.hit_if(!plain && says[1] && !says[0], DiagonalByTurn1);
+    plain || says[0] || says[1]
+}
+
+fn diagonal(det: Detector, a: [f32; 3], b: [f32; 3], c: [f32; 3], d: [f32; 3], seen: &mut Seen) -> bool {
+    use Branch::*;
+    let (am, dm) = (median_of(a), median_of(d));
+    if !guard(am, dm, DiagonalGuarded, DiagonalTie, seen) {
+        return false;
+    }
+    let form = Bilinear::new(a, b, c, d);
+    for (p, (i, j)) in PAIRS.into_iter().enumerate() {
+        let d_a: f32 = a[i] - a[j];
+        let d_bc: f32 = b[i] - b[j] + c[i] - c[j];
+        let d_d: f32 = d[i] - d[j];
+        let (qa, qb): (f32, f32) = (d_d - d_bc + d_a, d_bc - d_a - d_a);
+        let (count, roots) = solve_quadratic(f64::from(qa), f64::from(qb), f64::from(d_a), seen);
+        let turns = [form.turning_point(j), form.turning_point(i)];
+        let inside = [count > 0 && strictly_inside(roots[0]), count > 1 && strictly_inside(roots[1])];
+        seen.hit_if(count == 1 && inside[0], RootOnly);
+        seen.hit_if(count == 2 && inside[0], RootFirst);
+        seen.hit_if(inside[1], RootSecond);
+        seen.hit_if(inside[0] && inside[1], RootBoth);
+        for k in 0..count {
+            let t = roots[k];
+            seen.hit_if(t <= EPSILON, RootLow);
+            seen.hit_if(t >= 1.0 - EPSILON, RootHigh);
+            seen.hit_if(t == EPSILON, RootLowEqual);
+            seen.hit_if(t == 1.0 - EPSILON, RootHighEqual);
+            if inside[k] && root_is_artifact(det, &form, am, dm, t, turns, seen) {
+                seen.hit([DiagonalArtifact10, DiagonalArtifact21, DiagonalArtifact02][p]);
+                seen.hit_if(count == 2, [DiagonalArtifactFirst, DiagonalArtifactSecond][k]);
+                return true;
+            }
+        }
+    }
+    false
+}
+
+/// Whether the texel is an error, from its neighbourhood, its protected bit and the spans.
+fn verdict(input: &Input, field: &Field, x: usize, y: usize, protected: bool, seen: &mut Seen) -> bool {
+    use Branch::*;
+    let span = |k: usize| input.ratio * input.lengths[k];
+    let a = field.texel(x, y);
+    let (x, y) = (x as i64, y as i64);
+    let at = |x: i64, y: i64| field.texel(x as usize, y as usize);
+    let mut by_linear = false;
+    for (dx, dy, name) in [(-1, 0, LinearLeft), (1, 0, LinearRight), (0, -1, LinearBelow), (0, 1, LinearAbove)] {
+        if field.inside(x + dx, y + dy) {
+            seen.hit(name);
+            let det = Detector { span: span(if dy == 0 { 0 } else { 1 }), protected };
+            by_linear |= linear(det, a, at(x + dx, y + dy), seen);
+        }
+    }
+    let mut by_diagonal = false;
+    for (dx, dy, name) in [
+        (-1, -1, DiagonalLowerLeft),
+        (1, -1, DiagonalLowerRight),
+        (-1, 1, DiagonalUpperLeft),
+        (1, 1, DiagonalUpperRight),
+    ] {
+        if field.inside(x + dx, y + dy) {
+            seen.hit(name);
+            let det = Detector { span: span(2), protected };
+            let (b, c, d) = (at(x + dx, y), at(x, y + dy), at(x + dx, y + dy));
+            by_diagonal |= diagonal(det, a, b, c, d, seen);
+        }
+    }
+    seen.hit(match (by_linear, by_diagonal) {
+        (true, false) => FlagLinearOnly,
+        (false, true) => FlagDiagonalOnly,
+        (true, true) => FlagBoth,
+        (false, false) => FlagNone,
+    });
+    seen.hit_if(protected && (by_linear || by_diagonal), FlagProtected);
+    by_linear || by_diagonal
+}
+
+fn collapse(field_channels: usize, samples: &mut [f32], stencil: &[u8], seen: &mut Seen) {
+    for (cell, texel) in stencil.iter().zip(samples.chunks_mut(field_channels)) {
+        if cell & ERROR != 0 {
+            let m = median(texel[0], texel[1], texel[2]);
+            seen.hit_if(m.to_bits() == 0x8000_0000, Branch::CollapseMinusZero);
+            seen.hit_if(field_channels == 4, Branch::CollapseFourth);
+            seen.hit_if(texel[..3].iter().any(|v| v.to_bits() != m.to_bits()), Branch::CollapseChanges);
+            texel[..3].fill(m);
+        }
+    }
+}
+
+/// The whole pass over lent samples and a lent stencil.
+pub fn judge(input: &Input, samples: &mut [f32], stencil: &mut [u8], seen: &mut Seen) -> Answer {
+    use Branch::*;
+    if let Some((refusal, place)) = refusal(input, samples, stencil.len(), seen) {
+        return Answer { refusal, place, protected: 0, error: 0 };
+    }
+    let (w, h) = (input.width, input.height);
+    seen.hit([Mode0, Mode1, Mode2, Mode3][input.mode as usize]);
+    seen.hit(if input.channels == 3 { Channels3 } else { Channels4 });
+    seen.hit_if(w == 1 && h == 1, Size1);
+    seen.hit_if(h == 1, Row);
+    seen.hit_if(w == 1, Column);
+    seen.hit_if(w == SIDE_LIMIT || h == SIDE_LIMIT, SideLimit);
+    seen.hit_if(input.ends.is_empty(), NoContours);
+    stencil.fill(0);
+    if input.mode == 0 {
+        return Answer::default();
+    }
+    let field = Field { width: w, height: h, channels: input.channels, samples };
+    if input.mode == 2 {
+        protect_corners(input, stencil, seen);
+        protect_edges(input, &field, stencil, seen);
+    }
+    if input.mode == 3 {
+        stencil.fill(PROTECTED);
+    }
+    for y in 0..h {
+        for x in 0..w {
+            let protected = stencil[y * w + x] & PROTECTED != 0;
+            if verdict(input, &field, x, y, protected, seen) {
+                stencil[y * w + x] |= ERROR;
+            }
+        }
+    }
+    collapse(input.channels, samples, stencil, seen);
+    Answer {
+        refusal: 0,
+        place: 0,
+        protected: stencil.iter().filter(|&&s| s & PROTECTED != 0).count(),
+        error: stencil.iter().filter(|&&s| s & ERROR != 0).count(),
+    }
+}
