@@ -1,0 +1,58 @@
+// What the pass answers and leaves, held to the list.
+ghost use Prim.Native.Nat.{_+_, _*_, _<_};
+ghost use lib.ListN.{length};
+use crate::number;
+use correction::pass::Answer;
+
+// Refusal, place and both counts; what an answer lacks is 0.
+pub fn is_answer(list: &[u8], at: usize, a: Answer) -> bool
+    requires { ⌜ at < 800000 ⌝ }
+{
+    let number = number::byte(list, at);
+    let place = number::word(list, at + 1);
+    let protected = number::word(list, at + 9);
+    let error = number::word(list, at + 17);
+    match a {
+        Answer::Accepted(c) => {
+            number == 0
+                && (place == 0 && (protected == c.protected as u64 && error == c.error as u64))
+        }
+        Answer::Refused(n, p) => {
+            number == n && (place == p as u64 && (protected == 0 && error == 0))
+        }
+    }
+}
+
+// The same bits, or a NaN on both sides.
+pub fn is_sample(bits: u32, x: f32) -> bool {
+    if x != x {
+        return number::is_nan(bits);
+    }
+    bits == f32::to_bits(x)
+}
+
+pub fn are_samples(list: &[u8], at: usize, xs: &[f32]) -> bool
+    requires { ⌜ at + 4 * length (now xs) < 900000 ⌝ }
+{
+    let mut i = 0usize;
+    while i < xs.len() {
+        if !is_sample(number::half(list, at + 4 * i), xs[i]) {
+            return false;
+        }
+        i += 1;
+    }
+    true
+}
+
+pub fn are_cells(list: &[u8], at: usize, cells: &[u8]) -> bool
+    requires { ⌜ at + length (now cells) < 900000 ⌝ }
+{
+    let mut i = 0usize;
+    while i < cells.len() {
+        if number::byte(list, at + i) != cells[i] {
+            return false;
+        }
+        i += 1;
+    }
+    true
+}
