@@ -1,0 +1,188 @@
+-- What an accepted case leaves in the stencil and in the samples is what is printed of it. Assumes nothing.
+use mathlib.Core.Bool.{Bool, true, false, cond, not, _&&_, _||_}
+use mathlib.Core.List.{List, [], _++_}
+use mathlib.Core.Path.{_≡_, refl, sym, ap, _∙_}
+use Prim.Native.Nat.{ℕ, zero, suc, _+_, _*_, _/_, _%_, _≤_, _<_}
+use native.Mathlib.Nat.{not-suc-le-zero, le-of-suc-le-suc, add-zero, mul-le-mul-right, mul-le-mul-left}
+use native.Mathlib.Numerals.{add-one-le}
+use native.Mathlib.Omega.{arith}
+use lib.Arith.{digits-div, digits-mod}
+use lib.Dec.{eqb, leb}
+use lib.Ieee.{Float, nan, binary32, toBits}
+use lib.ListN.{length, getD}
+use borrow.Author.Tests.{eqb-true, leb-true, not-false}
+use Rattle.correction.specs.Bitmap.{stencilByte, isError}
+use Rattle.correction.specs.Checks.{Input, badChannels, badSide, sizeRefusal, refusalNumber, accepted}
+use Rattle.correction.specs.Collapse.{cellMedian, collapsedSample, collapsed}
+use Rattle.correction.specs.Lists.{tab}
+use Rattle.correction.specs.Pass.{protects, flags, byteAt, passStencil, passSamples, answer, stencilAfter, samplesAfter}
+use Rattle.correction.specs.declared.pass.Answer.the-variants.{Accepted, Refused}
+use Rattle.correction.specs.declared.pass.Counts.{Counts}
+use Rattle.reading.specs.Answer.{answerText}
+use Rattle.reading.specs.Lists.{joined}
+use Rattle.reading.specs.Text.{texelText, flaggedText, acceptedText, sizeText, countsText, rowsText, refusedText}
+use Rattle.reading.proofs.Sizes.{next-row}
+
+-- ---- lists by what stands at each index
+
+tab-length : {A : Type 0} (n : ℕ) (f : ℕ → A) → length (tab n f) ≡ n
+unfolding tab
+tab-length zero f = refl
+tab-length (suc n) f = ap suc (tab-length n (λ k. f (suc k)))
+
+tab-at : {A : Type 0} (n : ℕ) (f : ℕ → A) (i : ℕ) (d : A) → i < n → getD (tab n f) i d ≡ f i
+unfolding tab
+tab-at zero f i d p = absurd (not-suc-le-zero p)
+tab-at (suc n) f zero d p = refl
+tab-at (suc n) f (suc i) d p = tab-at n (λ k. f (suc k)) i d (le-of-suc-le-suc p)
+
+joined-same : {A : Type 0} (n : ℕ) (f g : ℕ → List A) → ((k : ℕ) → k < n → f k ≡ g k) → joined n f ≡ joined n g
+unfolding joined
+joined-same zero f g h = refl
+joined-same (suc n) f g h = rw (joined-same n f g (λ k l. h k (omega arith)), h n (omega arith))
+
+-- ---- what acceptance says of the sizes
+
+test-zero : (t : Bool) (x y : ℕ) → (x ≡ 0 → ⊥) → cond t x y ≡ 0 → (t ≡ false) × (y ≡ 0)
+test-zero true x y n e = absurd (n e)
+test-zero false x y n e = (refl, e)
+
+first-zero-go : (n y : ℕ) (t : Bool) → eqb n 0 ≡ t → cond (not t) n y ≡ 0 → n ≡ 0
+first-zero-go n y true h e = eqb-true n 0 h
+first-zero-go n y false h e = e
+
+both : (a b : Bool) → (a && b) ≡ true → (a ≡ true) × (b ≡ true)
+both true true e = (refl, refl)
+both true false e = absurd (let z : _≡_ {A = ℕ} 0 1 = cc in omega arith)
+both false b e = absurd (let z : _≡_ {A = ℕ} 0 1 = cc in omega arith)
+
+either : (a b : Bool) (c : ℕ) → eqb c 3 ≡ a → eqb c 4 ≡ b → (a || b) ≡ true → 3 ≤ c
+either true b c p q e = omega (arith, eqb-true c 3 p)
+either false true c p q e = omega (arith, eqb-true c 4 q)
+either false false c p q e = absurd (let z : _≡_ {A = ℕ} 0 1 = cc in omega arith)
+
+pub record Sized (i : Input) : Type 0 where
+  pub wide : 1 ≤ i .width
+  pub high : i .height ≤ 4096
+  pub deep : 3 ≤ i .channels
+  pub samples : length (i .samples) ≡ i .width * i .height * i .channels
+  pub cells : length (i .stencil) ≡ i .width * i .height
+
+-- acceptance says the sizes
+pub sized : (i : Input) → accepted i ≡ true → Sized i
+unfolding accepted refusalNumber sizeRefusal badChannels badSide
+sized i a =
+    let z = first-zero-go _ _ _ refl (eqb-true (refusalNumber i) 0 a) in
+    let c = test-zero (badChannels (i .channels)) 1 _ (λ e. omega arith) z in
+    let w = test-zero (badSide (i .width)) 2 _ (λ e. omega arith) (c .1) in
+    let h = test-zero (badSide (i .height)) 2 _ (λ e. omega arith) (w .1) in
+    let n = test-zero (not (eqb (length (i .samples)) (i .width * i .height * i .channels))) 3 _ (λ e. omega arith) (h .1) in
+    let m = test-zero (not (eqb (length (i .stencil)) (i .width * i .height))) 4 0 (λ e. omega arith) (n .1) in
+    record {
+      wide = leb-true 1 (i .width) (both (leb 1 (i .width)) (leb (i .width) 4096) (not-false _ (w .0)) .0);
+      high = leb-true (i .height) 4096 (both (leb 1 (i .height)) (leb (i .height) 4096) (not-false _ (h .0)) .1);
+      deep = either (eqb (i .channels) 3) (eqb (i .channels) 4) (i .channels) refl refl (not-false _ (c .0));
+      samples = eqb-true _ _ (not-false _ (n .0));
+      cells = eqb-true _ _ (not-false _ (m .0));
+    }
+
+-- ---- the answer
+
+accepted-go : (t : Bool) (c d : Counts) (n p : ℕ) → Accepted c ≡ cond t (Accepted d) (Refused n p) → t ≡ true
+accepted-go true c d n p e = refl
+accepted-go false c d n p e = absurd (let z : _≡_ {A = ℕ} 0 1 = cc in omega arith)
+
+-- an answer that counts is one of acceptance
+pub was-accepted : (i : Input) (c : Counts) → Accepted c ≡ answer i → accepted i ≡ true
+unfolding answer
+was-accepted i c e = accepted-go (accepted i) c _ _ _ e
+
+module _ (i : Input) (a : accepted i ≡ true) where
+  -- what an accepted pass leaves in the stencil, and in the samples
+  pub stencil-left : stencilAfter i ≡ passStencil i
+  unfolding stencilAfter
+  stencil-left = simp a
+
+  pub samples-left : samplesAfter i ≡ passSamples i
+  unfolding samplesAfter
+  samples-left = simp a
+
+  -- and how long they are
+  pub stencil-length : length (passStencil i) ≡ i .width * i .height
+  unfolding passStencil
+  stencil-length = tab-length (i .width * i .height) (byteAt i)
+
+  pub samples-length : length (passSamples i) ≡ length (i .samples)
+  unfolding passSamples collapsed
+  samples-length = tab-length (length (i .samples)) _
+
+-- ---- the printed medians
+
+byte-flags : (p f : Bool) → (cond p 2 0 + cond f 1 0) % 2 ≡ 1 → f ≡ true
+byte-flags true true e = refl
+byte-flags true false e = absurd (omega arith)
+byte-flags false true e = refl
+byte-flags false false e = absurd (omega arith)
+
+-- the first sample of a flagged cell is its median
+median-at : (xs : List Float) (ch : ℕ) (flag : ℕ → Bool) (k : ℕ) → 3 ≤ ch → flag k ≡ true → collapsedSample xs ch flag (k * ch) ≡ cellMedian xs ch k
+unfolding collapsedSample
+median-at xs ch flag k l e =
+    let d : k * ch / ch ≡ k = ap (λ (n : ℕ). n / ch) (sym (add-zero (k * ch))) ∙ digits-div k (omega arith) in
+    let m : k * ch % ch ≡ 0 = ap (λ (n : ℕ). n % ch) (sym (add-zero (k * ch))) ∙ digits-mod k (omega arith) in
+    rw (d, m) (simp e)
+
+module _ (i : Input) (z : Sized i) where
+  cell-inside : (k : ℕ) → k < i .width * i .height → k * i .channels < length (i .samples)
+  cell-inside k l = omega (arith, z .samples, z .deep, mul-le-mul-right (i .channels) (add-one-le l), next-row (i .channels) k)
+
+  -- the first sample of a flagged texel is its median
+  pub printed-median : (k : ℕ) → k < i .width * i .height → isError (getD (passStencil i) k 0) ≡ true → getD (passSamples i) (k * i .channels) nan ≡ cellMedian (i .samples) (i .channels) k
+  unfolding passStencil passSamples collapsed byteAt stencilByte isError
+  printed-median k l e =
+      let flag : ℕ → Bool = λ j. flags i (j % i .width) (j / i .width) in
+      let f : flag k ≡ true = byte-flags (protects i (k % i .width) (k / i .width)) (flag k) (sym (ap (λ (n : ℕ). n % 2) (tab-at (i .width * i .height) (byteAt i) k 0 l)) ∙ eqb-true _ _ e) in
+      tab-at (length (i .samples)) (collapsedSample (i .samples) (i .channels) flag) (k * i .channels) nan (cell-inside k l) ∙ median-at (i .samples) (i .channels) flag k (z .deep) f
+
+-- ---- the text
+
+flagged-go : (t : Bool) (x y : ℕ) (u v : Float) → (t ≡ true → u ≡ v) → cond t (texelText x y (toBits binary32 u)) [] ≡ cond t (texelText x y (toBits binary32 v)) []
+flagged-go true x y u v h = rw (h refl)
+flagged-go false x y u v h = refl
+
+-- two ways to say the medians that agree where a cell is flagged
+same-text : (w h ch p e : ℕ) (st : List ℕ) (f g : ℕ → Float) → ((k : ℕ) → k < w * h → isError (getD st k 0) ≡ true → f k ≡ g k) → acceptedText w h ch p e st f ≡ acceptedText w h ch p e st g
+unfolding acceptedText flaggedText
+same-text w h ch p e st f g same =
+    ap (λ (l : List ℕ). sizeText w h ch ++ (countsText p e ++ (rowsText w h st ++ l)))
+    (joined-same (w * h) (flaggedText w st f) (flaggedText w st g) (λ k l. flagged-go (isError (getD st k 0)) (k % w) (k / w) (f k) (g k) (same k l)))
+
+-- what is printed from the stencil and the samples that an accepted pass leaves
+pub accepted-text : (i : Input) (c : Counts) (st : List ℕ) (xs : List Float) → Accepted c ≡ answer i → st ≡ stencilAfter i → xs ≡ samplesAfter i → acceptedText (i .width) (i .height) (i .channels) (c .protected) (c .error) st (λ k. getD xs (k * i .channels) nan) ≡ answerText i (answer i)
+unfolding answerText
+accepted-text i c st xs e p q =
+    let a = was-accepted i c e in
+    rw (p, q, stencil-left i a, samples-left i a)
+    (same-text (i .width) (i .height) (i .channels) (c .protected) (c .error) (passStencil i) _ (cellMedian (i .samples) (i .channels)) (printed-median i (sized i a)) ∙ ap (answerText i) e)
+
+-- there is room for it
+pub record Roomy (i : Input) (st : List ℕ) (xs : List Float) : Type 0 where
+  pub sizes : (0 < i .width) × (0 < i .channels) × (i .height ≤ 4096) × (i .width * i .height ≤ 4096)
+  pub cells : i .width * i .height ≤ length st
+  pub samples : i .width * i .height * i .channels ≤ length xs
+
+-- the stencil and the samples are long enough to be printed
+pub roomy : (i : Input) (c : Counts) (st : List ℕ) (xs : List Float) → Accepted c ≡ answer i → length (i .samples) ≤ 12288 → st ≡ stencilAfter i → xs ≡ samplesAfter i → Roomy i st xs
+roomy i c st xs e few p q =
+    let a = was-accepted i c e in
+    let z = sized i a in
+    record {
+      sizes = (z .wide, omega (arith, z .deep), z .high, omega (arith, z .samples, mul-le-mul-left (i .width * i .height) (z .deep)));
+      cells = omega (arith, ap length (p ∙ stencil-left i a), stencil-length i a);
+      samples = omega (arith, ap length (q ∙ samples-left i a), samples-length i a, z .samples);
+    }
+
+-- what is printed of a refusal
+pub refused-text : (i : Input) (n p : ℕ) → Refused n p ≡ answer i → refusedText n p ≡ answerText i (answer i)
+unfolding answerText
+refused-text i n p e = ap (answerText i) e

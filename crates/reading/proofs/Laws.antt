@@ -1,0 +1,2 @@
+-- What follows from the promise of the reading library.
+pub mod Alike

@@ -1,0 +1,11 @@
+pub mod Laws
+mod Patterns
+mod Breaches
+mod Sizes
+mod Outlines
+mod Layouts
+mod Writes
+mod Decoded
+mod Lengths
+mod Answered
+mod Printed

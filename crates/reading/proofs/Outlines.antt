@@ -1,0 +1,82 @@
+-- The loop through the contours: how far it has come, and that it ends where the definition has it. Assumes nothing.
+use mathlib.Core.Bool.{true, false}
+use mathlib.Core.List.{List}
+use mathlib.Core.Path.{_≡_, refl, sym, ap, _∙_}
+use Prim.Native.Nat.{ℕ, zero, suc, _+_, _-_, _/_, _≤_}
+use native.Mathlib.Numerals.{add-one}
+use native.Mathlib.Omega.{arith}
+use lib.ListN.{length}
+use borrow.Author.Tests.{eq-eqb, ne-eqb}
+use Rattle.reading.specs.Grammar.{lengthAt, contourBreach, start, before, goodContour, contoursFrom, contours}
+use Rattle.reading.specs.Written.{Outlined}
+use Rattle.reading.proofs.Breaches.{contour-fine}
+
+-- k contours with n segments are read, and the next field is at a place
+pub record Reached (s : List ℕ) (at k n : ℕ) : Type 0 where
+  pub place : at ≡ start s k
+  pub segments : n ≡ before s k
+  pub inside : at ≤ length s
+  pub few : k ≤ 64
+  pub sparse : n ≤ 256
+  pub same : contours s ≡ contoursFrom (64 - k) s k
+
+-- before the first contour
+pub reached-none : (s : List ℕ) → 44 ≤ length s → Reached s 44 0 0
+unfolding start before contours
+reached-none s h = record { place = refl; segments = refl; inside = h; few = omega arith; sparse = omega arith; same = refl }
+
+-- where the next contour starts, and how many segments stand before it
+pub start-next : (s : List ℕ) (k : ℕ) → start s (k + 1) ≡ start s k + 3 + lengthAt s (start s k)
+unfolding start
+start-next s k = ap (start s) (add-one k)
+
+-- how many segments stand before the next contour
+pub before-next : (s : List ℕ) (k : ℕ) → before s (k + 1) ≡ before s k + lengthAt s (start s k) / 17
+unfolding before
+before-next s k = ap (before s) (add-one k)
+
+-- one more where contour k is good, and no more where it is not
+from-good : (room : ℕ) (s : List ℕ) (k : ℕ) → goodContour s k ≡ true → contoursFrom (suc room) s k ≡ contoursFrom room s (suc k)
+unfolding contoursFrom
+from-good room s k e = simp e
+
+from-bad : (room : ℕ) (s : List ℕ) (k : ℕ) → goodContour s k ≡ false → contoursFrom room s k ≡ k
+unfolding contoursFrom
+from-bad zero s k e = refl
+from-bad (suc room) s k e = simp e
+
+module _ (s : List ℕ) (short : length s ≤ 65536) (at k n : ℕ) (r : Reached s at k n) where
+  good : contourBreach s at k n ≡ 65537 → goodContour s k ≡ true
+  unfolding goodContour
+  good e = rw (← r .place, ← r .segments) (eq-eqb (contourBreach s at k n) 65537 e)
+
+  bad : (contourBreach s at k n ≡ 65537 → ⊥) → goodContour s k ≡ false
+  unfolding goodContour
+  bad e = rw (← r .place, ← r .segments) (ne-eqb (contourBreach s at k n) 65537 e)
+
+  -- one more contour that is good
+  pub reached-more : contourBreach s at k n ≡ 65537 → Reached s (at + 3 + lengthAt s at) (k + 1) (n + lengthAt s at / 17)
+  reached-more e =
+      let i = r .inside in
+      let f = contour-fine s short at k n (omega arith) e in
+      let z : 64 - k ≡ suc (64 - (k + 1)) = omega (arith, f .room) in
+      record {
+        place = ap (λ (a : ℕ). a + 3 + lengthAt s a) (r .place) ∙ sym (start-next s k);
+        segments = rw (r .place, r .segments) (sym (before-next s k));
+        inside = f .whole;
+        few = omega (arith, f .room);
+        sparse = f .few;
+        same = r .same ∙ ap (λ (m : ℕ). contoursFrom m s k) z ∙ from-good (64 - (k + 1)) s k (good e) ∙ ap (contoursFrom (64 - (k + 1)) s) (sym (add-one k));
+      }
+
+  -- the first that is not
+  pub reached-end : (contourBreach s at k n ≡ 65537 → ⊥) → Outlined s at k n
+  reached-end e =
+      record {
+        count = sym (r .same ∙ from-bad (64 - k) s k (bad e));
+        place = r .place;
+        segments = r .segments;
+        inside = r .inside;
+        few = r .few;
+        sparse = r .sparse;
+      }

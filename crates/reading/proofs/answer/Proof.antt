@@ -1,0 +1,35 @@
+-- `reading::answer` meets its contract: there is room, or nothing is written. Assumes nothing.
+use borrow.Author.Needs.{needs}
+use Prim.Native.Nat.{ℕ, _≤_, _<_}
+use mathlib.Core.Bool.{Bool, cond}
+use mathlib.Core.List.{List, []}
+use mathlib.Core.Path.{_≡_, refl, ap}
+use lib.Arith.{lt→nleb}
+use lib.Dec.{leb, le→leb}
+use lib.Ieee.Bits.{cond-no, is-true}
+use Rattle.reading.specs.Answer.{printed, written}
+use Rattle.reading.proofs.answer.Statement.{statement}
+use Rattle.reading.proofs.answer.Tie as tie
+
+short : (n : ℕ) (s : List ℕ) → n < 98304 → written n s ≡ []
+unfolding written
+short n s h = cond-no (leb 98304 n) (printed s) [] (lt→nleb 98304 n h)
+
+enough : (n : ℕ) (s : List ℕ) → 98304 ≤ n → written n s ≡ printed s
+unfolding written
+enough n s h = ap (λ (b : Bool). cond b (printed s) []) (is-true (leb 98304 n) (le→leb 98304 n h))
+
+returns : tie.Need-returns
+returns c = rw (short _ _ (c .if1 .taken)) (refl, refl)
+
+answer-into-requires : tie.Need-answer-into-requires
+answer-into-requires c κs = search needs
+
+same-length : tie.Need-same-length
+same-length c = search needs
+
+returns-2 : tie.Need-returns-2
+returns-2 c = rw (enough _ _ (c .before .before .before .before .if1 .left)) (c .before .before .answer-into .ensures)
+
+pub answer-spec : {M : Type 1} → statement M
+answer-spec = tie.close (tie.spec returns answer-into-requires same-length returns-2)

@@ -1,0 +1,103 @@
+-- `reading::decode::decode_ends` meets its contract: before contour i those below it are decoded. Assumes nothing.
+use mathlib.Core.List.{List}
+use mathlib.Core.Path.{_≡_, refl, _∙_}
+use Prim.Native.Nat.{ℕ, _+_, _-_, _/_, _≤_}
+use native.Mathlib.Omega.{arith}
+use lib.ListN.{length, length-set}
+use denote.Ref.{now}
+use Rattle.reading.specs.Case.{endsOf}
+use Rattle.reading.specs.Grammar.{start, before, contours}
+use Rattle.reading.specs.Lists.{listed}
+use Rattle.reading.specs.Written.{Written}
+use Rattle.reading.proofs.Decoded.{start-zero, before-zero, contour-inside, place-next, count-next}
+use Rattle.reading.proofs.Writes.{written-to, listed-none, listed-next, listed-all}
+use Rattle.reading.proofs.decode.decode_ends.Statement.{statement}
+use Rattle.reading.proofs.decode.decode_ends.Tie as tie
+
+-- the end of contour i
+abbrev ends : List ℕ → ℕ → ℕ
+ends s i = before s (i + 1)
+
+record Inv (s : List ℕ) (k : ℕ) (out₀ out : List ℕ) (last place i : ℕ) : Type 0 where
+  within : i ≤ k
+  there : place ≡ start s i
+  count : last ≡ before s i
+  len : length out ≡ length out₀
+  written : Written out₀ 0 (listed i (ends s)) i out
+
+abbrev Inv-loop : tie.InvT-loop
+Inv-loop s end k n out₀ last₀ place₀ i₀ out last place i = Inv s k out₀ out last place i
+
+abbrev μ-loop : tie.MeasureT-loop
+μ-loop s end k n out₀ last₀ place₀ i₀ out last place i = k - i
+
+loop-holds : tie.Need-loop-holds Inv-loop μ-loop
+loop-holds c = record { within = omega arith; there = start-zero _; count = before-zero _; len = refl; written = listed-none _ 0 _ }
+
+add-be16 : tie.Need-add-be16 Inv-loop μ-loop
+add-be16 c = omega (arith, contour-inside (c .before .before .before .before .pre .0) (c .before .loop .inv .there) (c .loop-test .taken))
+
+be16-requires : tie.Need-be16-requires Inv-loop μ-loop
+be16-requires c κs = omega (arith, contour-inside (c .before .before .before .before .pre .0) (c .before .loop .inv .there) (c .loop-test .taken))
+
+add-last : tie.Need-add-last Inv-loop μ-loop
+add-last c = omega (arith, c .be16 .ensures .1, contour-inside (c .before .before .before .before .before .pre .0) (c .before .before .loop .inv .there) (c .before .loop-test .taken))
+
+mul-out : tie.Need-mul-out Inv-loop μ-loop
+mul-out c = omega arith
+
+slice-write-out : tie.Need-slice-write-out Inv-loop μ-loop
+slice-write-out c = omega (arith, c .before .before .loop .inv .len)
+
+add-place : tie.Need-add-place Inv-loop μ-loop
+add-place c = omega (arith, contour-inside (c .before .before .before .before .before .pre .0) (c .before .before .loop .inv .there) (c .before .loop-test .taken))
+
+add-place-2 : tie.Need-add-place-2 Inv-loop μ-loop
+add-place-2 c = omega (arith, c .be16 .ensures .0, contour-inside (c .before .before .before .before .before .pre .0) (c .before .before .loop .inv .there) (c .before .loop-test .taken))
+
+add-i : tie.Need-add-i Inv-loop μ-loop
+add-i c = omega arith
+
+loop-less : tie.Need-loop-less Inv-loop μ-loop
+loop-less c = omega arith
+
+loop-again : tie.Need-loop-again Inv-loop μ-loop
+loop-again c =
+    let l = c .before .before .loop in
+    let s = now (c .before .before .before .before .before .args .s) in
+    let e = c .be16 .ensures .0 in
+    let w : l .last + c .be16 .result / 17 ≡ before s (l .i + 1) = rw (l .inv .count) (count-next s (l .i) (l .inv .there) e) in
+    record {
+      within = omega arith;
+      there = place-next s (l .i) (l .inv .there) e;
+      count = w;
+      len = simp length-set (l .inv .len);
+      written = listed-next (l .i) (ends s) _ (l .inv .written) w;
+    }
+
+same-length : tie.Need-same-length Inv-loop μ-loop
+same-length c = c .before .loop .inv .len
+
+returns : tie.Need-returns Inv-loop μ-loop
+unfolding endsOf
+returns c = let z : c .before .loop .i ≡ c .before .before .before .before .args .k = omega arith in (written-to _ z (listed-all (contours (now (c .before .before .before .before .args .s))) (ends (now (c .before .before .before .before .args .s))) (c .before .loop .inv .written) (z ∙ c .before .before .before .before .pre .0 .count)), refl)
+
+pub decode-ends-spec : {M : Type 1} → statement M
+decode-ends-spec =
+    tie.close
+    (tie.spec
+    Inv-loop
+    μ-loop
+    loop-holds
+    add-be16
+    be16-requires
+    add-last
+    mul-out
+    slice-write-out
+    add-place
+    add-place-2
+    add-i
+    loop-less
+    loop-again
+    same-length
+    returns)

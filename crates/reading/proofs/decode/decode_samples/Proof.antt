@@ -1,0 +1,95 @@
+-- `reading::decode::decode_samples` meets its contract: before row y those below it are decoded. Assumes nothing.
+use mathlib.Core.List.{List}
+use mathlib.Core.Path.{_≡_, refl, _∙_, ap}
+use Prim.Native.Nat.{ℕ, _+_, _-_, _*_, _≤_, _<_}
+use native.Mathlib.Nat.{zero-mul}
+use native.Mathlib.Omega.{arith}
+use lib.Ieee.{Float}
+use lib.ListN.{length}
+use denote.Ref.{now}
+use Rattle.reading.specs.Case.{rowSamples}
+use Rattle.reading.specs.Lists.{joined}
+use Rattle.reading.specs.Written.{Written}
+use Rattle.reading.proofs.Decoded.{row-length}
+use Rattle.reading.proofs.Sizes.{next-row, row-within}
+use Rattle.reading.proofs.Writes.{joined-none, joined-next, joined-all, written-as, written-length}
+use Rattle.reading.proofs.decode.decode_samples.Statement.{statement}
+use Rattle.reading.proofs.decode.decode_samples.Tie as tie
+
+-- row y
+abbrev row : List ℕ → ℕ → ℕ → ℕ → List Float
+row s from n y = rowSamples s (from + y * (3 + 4 * n)) n
+
+record Inv (s : List ℕ) (from h n : ℕ) (out₀ out : List Float) (at place y : ℕ) : Type 0 where
+  within : y ≤ h
+  there : place ≡ from + y * (3 + 4 * n)
+  count : at ≡ y * n
+  len : length out ≡ length out₀
+  written : Written out₀ 0 (joined y (row s from n)) at out
+
+-- row y is inside, and there is room for it
+fits : {s : List ℕ} {from h n : ℕ} {out₀ out : List Float} {at place y : ℕ} → Inv s from h n out₀ out at place y → y < h → from + h * (3 + 4 * n) ≤ length s → h * n ≤ length out₀ → (place + 3 + 4 * n ≤ length s) × (at + n ≤ length out)
+fits {s} {from} {h} {n} i l p q = (omega (arith, i .there, row-within (3 + 4 * n) l), omega (arith, i .count, i .len, row-within n l))
+
+abbrev Inv-loop : tie.InvT-loop
+Inv-loop s from h n out₀ at₀ place₀ y₀ out at place y = Inv s from h n out₀ out at place y
+
+abbrev μ-loop : tie.MeasureT-loop
+μ-loop s from h n out₀ at₀ place₀ y₀ out at place y = h - y
+
+loop-holds : tie.Need-loop-holds Inv-loop μ-loop
+loop-holds c = record { within = omega arith; there = omega (arith, zero-mul (3 + 4 * c .before .before .args .n)); count = omega (arith, zero-mul (c .before .before .args .n)); len = refl; written = joined-none _ _ _ }
+
+decode-row-requires : tie.Need-decode-row-requires Inv-loop μ-loop
+decode-row-requires c κs = (fits (c .before .before .loop .inv) (c .before .loop-test .taken) (c .before .before .before .before .before .pre .0) (c .before .before .before .before .before .pre .1))
+
+mul-place : tie.Need-mul-place Inv-loop μ-loop
+mul-place c = omega (arith, (fits (c .before .before .before .before .before .loop .inv) (c .before .before .before .before .loop-test .taken) (c .before .before .before .before .before .before .before .before .pre .0) (c .before .before .before .before .before .before .before .before .pre .1)))
+
+add-place : tie.Need-add-place Inv-loop μ-loop
+add-place c = omega (arith, (fits (c .before .before .before .before .before .loop .inv) (c .before .before .before .before .loop-test .taken) (c .before .before .before .before .before .before .before .before .pre .0) (c .before .before .before .before .before .before .before .before .pre .1)))
+
+add-place-2 : tie.Need-add-place-2 Inv-loop μ-loop
+add-place-2 c = omega (arith, (fits (c .before .before .before .before .before .loop .inv) (c .before .before .before .before .loop-test .taken) (c .before .before .before .before .before .before .before .before .pre .0) (c .before .before .before .before .before .before .before .before .pre .1)))
+
+add-y : tie.Need-add-y Inv-loop μ-loop
+add-y c = omega arith
+
+loop-less : tie.Need-loop-less Inv-loop μ-loop
+loop-less c = omega arith
+
+loop-again : tie.Need-loop-again Inv-loop μ-loop
+loop-again c =
+    let i = c .before .before .before .before .before .loop .inv in
+    let d = c .before .before .before .before .before .before .before .before .args in
+    let w = c .before .before .decode-row .ensures in
+    record {
+      within = omega arith;
+      there = omega (arith, i .there, next-row (3 + 4 * d .n) (c .before .before .before .before .before .loop .y));
+      count = omega (arith, i .count, next-row (d .n) (c .before .before .before .before .before .loop .y), w .to, row-length (now (d .s)) (c .before .before .before .before .before .loop .place) (d .n));
+      len = written-length w ∙ i .len;
+      written = joined-next _ (row (now (d .s)) (d .from) (d .n)) (i .written) (written-as (row (now (d .s)) (d .from) (d .n) (c .before .before .before .before .before .loop .y)) (ap (λ (p : ℕ). rowSamples (now (d .s)) p (d .n)) (i .there)) w);
+    }
+
+same-length : tie.Need-same-length Inv-loop μ-loop
+same-length c = c .before .loop .inv .len
+
+returns : tie.Need-returns Inv-loop μ-loop
+returns c = let z : c .before .loop .y ≡ c .before .before .before .before .args .h = omega arith in (joined-all _ (row _ _ _) (c .before .loop .inv .written) (omega arith), c .before .loop .inv .count ∙ ap (λ x. x * c .before .before .before .before .args .n) z)
+
+pub decode-samples-spec : {M : Type 1} → statement M
+decode-samples-spec =
+    tie.close
+    (tie.spec
+    Inv-loop
+    μ-loop
+    loop-holds
+    decode-row-requires
+    mul-place
+    add-place
+    add-place-2
+    add-y
+    loop-less
+    loop-again
+    same-length
+    returns)

@@ -1,0 +1,28 @@
+-- `reading::text::put_bad` meets its contract. Assumes nothing.
+use Prim.Native.Nat.{_-_}
+use borrow.Author.Needs.{needs}
+use Rattle.reading.specs.Text.{badText}
+use Rattle.reading.proofs.Writes.{written-then}
+use Rattle.reading.proofs.text.put_bad.Statement.{statement}
+use Rattle.reading.proofs.text.put_bad.Tie as tie
+
+slice-aggregate-put-all : tie.Need-slice-aggregate-put-all
+slice-aggregate-put-all c = search needs
+
+put-all-requires : tie.Need-put-all-requires
+put-all-requires c κs = search needs
+
+put-number-requires : tie.Need-put-number-requires
+put-number-requires c κs = search needs
+
+same-length : tie.Need-same-length
+same-length c = search needs
+
+returns : tie.Need-returns
+unfolding badText
+returns c = written-then (c .before .before .before .before .before .before .put-all .ensures) (c .before .before .put-number .ensures)
+
+pub put-bad-spec : {M : Type 1} → statement M
+put-bad-spec =
+    tie.close
+    (tie.spec slice-aggregate-put-all put-all-requires put-number-requires same-length returns)

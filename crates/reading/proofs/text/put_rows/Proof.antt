@@ -1,0 +1,66 @@
+-- `reading::text::put_rows` meets its contract: before row y those below it are written. Assumes nothing.
+use mathlib.Core.Path.{_≡_, refl, _∙_}
+use Prim.Native.Nat.{_+_, _-_, _*_, _≤_}
+use native.Mathlib.Nat.{zero-mul}
+use native.Mathlib.Omega.{arith}
+use lib.ListN.{length}
+use denote.Ref.{now}
+use Rattle.reading.specs.Lists.{joined}
+use Rattle.reading.specs.Text.{rowText, rowsText}
+use Rattle.reading.specs.Written.{Written}
+use Rattle.reading.proofs.Lengths.{row-length}
+use Rattle.reading.proofs.Sizes.{next-row, row-within}
+use Rattle.reading.proofs.Writes.{joined-none, joined-next, joined-all, written-length}
+use Rattle.reading.proofs.text.put_rows.Statement.{statement}
+use Rattle.reading.proofs.text.put_rows.Tie as tie
+
+abbrev Inv-loop : tie.InvT-loop
+Inv-loop out₀ at st w h next₀ y₀ out next y = (y ≤ h) × (length out ≡ length out₀) × (next ≡ at + y * (w + 1)) × Written out₀ at (joined y (rowText w st)) next out
+
+abbrev μ-loop : tie.MeasureT-loop
+μ-loop out₀ at st w h next₀ y₀ out next y = h - y
+
+loop-holds : tie.Need-loop-holds Inv-loop μ-loop
+loop-holds c = (omega arith, refl, omega (arith, zero-mul (c .before .before .args .w + 1)), joined-none _ _ _)
+
+put-row-requires : tie.Need-put-row-requires Inv-loop μ-loop
+put-row-requires c κs = (omega (arith, row-within (c .before .before .before .before .before .args .w + 1) (c .before .loop-test .taken), row-within (c .before .before .before .before .before .args .w) (c .before .loop-test .taken), c .before .before .loop .inv .2), omega (arith, row-within (c .before .before .before .before .before .args .w + 1) (c .before .loop-test .taken), row-within (c .before .before .before .before .before .args .w) (c .before .loop-test .taken), c .before .before .loop .inv .2))
+
+add-y : tie.Need-add-y Inv-loop μ-loop
+add-y c = omega arith
+
+loop-less : tie.Need-loop-less Inv-loop μ-loop
+loop-less c = omega arith
+
+loop-again : tie.Need-loop-again Inv-loop μ-loop
+loop-again c =
+    let i = c .before .before .before .before .before .loop .inv in
+    let d = c .before .before .before .before .before .before .before .before .args in
+    let w = c .before .before .put-row .ensures in
+    let y = c .before .before .before .before .before .loop .y in (
+      omega arith,
+      written-length w ∙ i .1,
+      omega (arith, w .to, i .2, row-length (d .w) (now (d .st)) y, next-row (d .w + 1) y),
+      joined-next y (rowText (d .w) (now (d .st))) (i .3) w,
+    )
+
+same-length : tie.Need-same-length Inv-loop μ-loop
+same-length c = c .before .loop .inv .1
+
+returns : tie.Need-returns Inv-loop μ-loop
+unfolding rowsText
+returns c = joined-all _ (rowText (c .before .before .before .before .args .w) (now (c .before .before .before .before .args .st))) (c .before .loop .inv .3) (omega arith)
+
+pub put-rows-spec : {M : Type 1} → statement M
+put-rows-spec =
+    tie.close
+    (tie.spec
+    Inv-loop
+    μ-loop
+    loop-holds
+    put-row-requires
+    add-y
+    loop-less
+    loop-again
+    same-length
+    returns)

@@ -1,0 +1,48 @@
+-- `reading::text::put_texel` meets its contract. Assumes nothing.
+use Prim.Native.Nat.{_-_}
+use native.Mathlib.Omega.{arith}
+use borrow.Author.Needs.{needs}
+use Rattle.reading.specs.Text.{texelText}
+use Rattle.reading.proofs.Lengths.{numbered-length, hex-length}
+use Rattle.reading.proofs.Writes.{written-then, written-room}
+use Rattle.reading.proofs.text.put_texel.Statement.{statement}
+use Rattle.reading.proofs.text.put_texel.Tie as tie
+
+put-number-requires : tie.Need-put-number-requires
+put-number-requires c κs = search needs
+
+put-number-requires-2 : tie.Need-put-number-requires-2
+put-number-requires-2 c κs =
+    let r1 = written-room 6 15 (c .before .before .before .put-number .ensures) (numbered-length (c .before .before .before .before .before .before .args .x) 32) (omega arith) in
+    omega (arith, r1)
+
+put-hex-requires : tie.Need-put-hex-requires
+put-hex-requires c κs =
+    let r1 = written-room 6 15 (c .before .before .before .before .before .before .before .put-number .ensures) (numbered-length (c .before .before .before .before .before .before .before .before .before .before .args .x) 32) (omega arith) in
+    let r2 = written-room 6 9 (c .before .before .before .put-number2 .ensures) (numbered-length (c .before .before .before .before .before .before .before .before .before .before .args .y) 32) (omega (arith, r1)) in
+    omega (arith, r2)
+
+put-requires : tie.Need-put-requires
+put-requires c κs =
+    let r1 = written-room 6 15 (c .before .before .before .before .before .before .before .before .before .before .before .put-number .ensures) (numbered-length (c .before .before .before .before .before .before .before .before .before .before .before .before .before .before .args .x) 32) (omega arith) in
+    let r2 = written-room 6 9 (c .before .before .before .before .before .before .before .put-number2 .ensures) (numbered-length (c .before .before .before .before .before .before .before .before .before .before .before .before .before .before .args .y) 32) (omega (arith, r1)) in
+    let r3 = written-room 8 1 (c .before .before .before .put-hex .ensures) (hex-length (c .before .before .before .before .before .before .before .before .before .before .before .before .before .before .args .bits)) (omega (arith, r2)) in
+    omega (arith, r3)
+
+same-length : tie.Need-same-length
+same-length c = search needs
+
+returns : tie.Need-returns
+unfolding texelText
+returns c = written-then (c .before .before .before .before .before .before .before .before .before .before .before .before .before .before .put-number .ensures) (written-then (c .before .before .before .before .before .before .before .before .before .before .put-number2 .ensures) (written-then (c .before .before .before .before .before .before .put-hex .ensures) (c .before .before .put .ensures)))
+
+pub put-texel-spec : {M : Type 1} → statement M
+put-texel-spec =
+    tie.close
+    (tie.spec
+    put-number-requires
+    put-number-requires-2
+    put-hex-requires
+    put-requires
+    same-length
+    returns)

@@ -1,0 +1,66 @@
+-- `reading::text::put_texels` meets its contract: before cell k those below it are written. Assumes nothing.
+use mathlib.Core.Path.{_≡_, refl, _∙_}
+use Prim.Native.Nat.{_+_, _-_, _*_, _≤_}
+use native.Mathlib.Omega.{arith}
+use lib.Ieee.{nan}
+use lib.ListN.{length, getD}
+use denote.Ref.{now}
+use Rattle.reading.specs.Lists.{joined}
+use Rattle.reading.specs.Text.{flaggedText}
+use Rattle.reading.specs.Written.{Written}
+use Rattle.reading.proofs.Lengths.{flagged-length}
+use Rattle.reading.proofs.Sizes.{row-within}
+use Rattle.reading.proofs.Writes.{joined-none, joined-next, joined-all, written-length}
+use Rattle.reading.proofs.text.put_texels.Statement.{statement}
+use Rattle.reading.proofs.text.put_texels.Tie as tie
+
+abbrev Inv-loop : tie.InvT-loop
+Inv-loop out₀ at st xs w ch n next₀ k₀ out next k = (k ≤ n) × (length out ≡ length out₀) × (next ≤ at + 21 * k) × Written out₀ at (joined k (flaggedText w st (λ i. getD xs (i * ch) nan))) next out
+
+abbrev μ-loop : tie.MeasureT-loop
+μ-loop out₀ at st xs w ch n next₀ k₀ out next k = n - k
+
+loop-holds : tie.Need-loop-holds Inv-loop μ-loop
+loop-holds c = (omega arith, refl, omega arith, joined-none _ _ _)
+
+put-flagged-requires : tie.Need-put-flagged-requires Inv-loop μ-loop
+put-flagged-requires c κs = ((omega arith, omega arith), (omega (arith, row-within (c .before .before .before .before .before .before .args .ch) (c .before .loop-test .taken)), c .before .before .before .before .before .before .pre .1 .2))
+
+add-k : tie.Need-add-k Inv-loop μ-loop
+add-k c = omega arith
+
+loop-less : tie.Need-loop-less Inv-loop μ-loop
+loop-less c = omega arith
+
+loop-again : tie.Need-loop-again Inv-loop μ-loop
+loop-again c =
+    let i = c .before .before .before .before .before .loop .inv in
+    let d = c .before .before .before .before .before .before .before .before .before .args in
+    let f = flaggedText (d .w) (now (d .st)) (λ i. getD (now (d .xs)) (i * d .ch) nan) in
+    let w = c .before .before .put-flagged .ensures in
+    let k = c .before .before .before .before .before .loop .k in (
+      omega arith,
+      written-length w ∙ i .1,
+      omega (arith, w .to, i .2, flagged-length (d .w) (now (d .st)) (λ i. getD (now (d .xs)) (i * d .ch) nan) k),
+      joined-next k f (i .3) w,
+    )
+
+same-length : tie.Need-same-length Inv-loop μ-loop
+same-length c = c .before .loop .inv .1
+
+returns : tie.Need-returns Inv-loop μ-loop
+returns c = joined-all _ _ (c .before .loop .inv .3) (omega arith)
+
+pub put-texels-spec : {M : Type 1} → statement M
+put-texels-spec =
+    tie.close
+    (tie.spec
+    Inv-loop
+    μ-loop
+    loop-holds
+    put-flagged-requires
+    add-k
+    loop-less
+    loop-again
+    same-length
+    returns)

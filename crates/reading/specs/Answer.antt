@@ -1,0 +1,36 @@
+-- What the program prints for an input: the grammar, the pass and the text put together. Definitions only.
+use Prim.Native.Nat.{ℕ, _*_}
+use mathlib.Core.Bool.{cond}
+use mathlib.Core.List.{List, []}
+use lib.Dec.{eqb, leb}
+use Rattle.correction.specs.declared.config.Settings.{Settings}
+use Rattle.correction.specs.declared.pass.Answer.{Answer}
+use Rattle.correction.specs.declared.pass.Answer.the-variants.{Accepted, Refused}
+use Rattle.correction.specs.Checks.{Input, input}
+use Rattle.correction.specs.Collapse.{cellMedian}
+use Rattle.correction.specs.Pass.{answer, passStencil}
+use Rattle.reading.specs.Lists.{listed}
+use Rattle.reading.specs.Grammar.{fine, width, height, channels, breach}
+use Rattle.reading.specs.Case.{modeOf, ratioOf, horizontalOf, verticalOf, diagonalOf, coloursOf, coordsOf, endsOf, samplesOf}
+use Rattle.reading.specs.Text.{badText, refusedText, acceptedText}
+
+abbrev pub settingsOf : List ℕ → Settings
+settingsOf s = record { ratio = ratioOf s; horizontal = horizontalOf s; vertical = verticalOf s; diagonal = diagonalOf s }
+
+-- what the pass is given: the stencil has a cell, 0, for each texel
+abbrev pub caseOf : List ℕ → Input
+caseOf s =
+    input (width s) (height s) (channels s) (samplesOf s) (listed (width s * height s) (λ k. 0)) (modeOf s) (settingsOf s) (coloursOf s) (coordsOf s) (endsOf s)
+
+-- the text of the pass's answer
+unfoldable pub answerText : Input → Answer → List ℕ
+answerText i (Accepted c) = acceptedText (i .width) (i .height) (i .channels) (c .protected) (c .error) (passStencil i) (cellMedian (i .samples) (i .channels))
+answerText i (Refused n place) = refusedText n place
+
+-- all that is printed
+unfoldable pub printed : List ℕ → List ℕ
+printed s = cond (eqb (breach s) fine) (answerText (caseOf s) (answer (caseOf s))) (badText (breach s))
+
+-- What is written for an input into a slice of n bytes: all that is printed, and nothing where there is less room than the longest text needs.
+unfoldable pub written : ℕ → List ℕ → List ℕ
+written n s = cond (leb 98304 n) (printed s) []

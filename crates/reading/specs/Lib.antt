@@ -1,0 +1,7 @@
+pub mod Lists
+pub mod Bytes
+pub mod Grammar
+pub mod Case
+pub mod Text
+pub mod Written
+pub mod Answer

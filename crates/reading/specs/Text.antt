@@ -1,0 +1,82 @@
+-- What is printed. Each line ends in one line feed. Definitions only.
+use Prim.Native.Nat.{ℕ, _+_, _*_, _/_, _%_}
+use mathlib.Core.Bool.{cond}
+use mathlib.Core.List.{List, [], _∷_, _++_}
+use lib.ListN.{getD}
+use lib.Dec.{ltb, leb}
+use lib.Ieee.{Float, binary32, toBits}
+use Rattle.correction.specs.Bitmap.{isProtected, isError}
+use Rattle.reading.specs.Lists.{joined, listed}
+
+-- ---- numbers
+
+-- the digit of n at a power of ten, where n reaches it
+unfoldable pub digit : ℕ → ℕ → List ℕ
+digit n p = cond (leb p n) ((48 + n / p % 10) ∷ []) []
+
+-- a number below 100,000, in decimal
+unfoldable pub decimal : ℕ → List ℕ
+decimal n = digit n 10000 ++ (digit n 1000 ++ (digit n 100 ++ (digit n 10 ++ ((48 + n % 10) ∷ []))))
+
+-- a number below 16 as an upper-case hex digit
+unfoldable pub hexDigit : ℕ → ℕ
+hexDigit d = cond (ltb d 10) (48 + d) (55 + d)
+
+-- two hex digits of a byte, and eight of a u32
+unfoldable pub hexPair : ℕ → List ℕ
+hexPair b = hexDigit (b / 16 % 16) ∷ hexDigit (b % 16) ∷ []
+
+unfoldable pub hex : ℕ → List ℕ
+hex v = hexPair (v / 16777216) ++ (hexPair (v / 65536) ++ (hexPair (v / 256) ++ hexPair v))
+
+-- a number and the byte after it: 32 is a space, 10 a line feed
+unfoldable pub numbered : ℕ → ℕ → List ℕ
+numbered n b = decimal n ++ (b ∷ [])
+
+-- ---- `bad input AT`
+
+unfoldable pub badText : ℕ → List ℕ
+badText at = (98 ∷ 97 ∷ 100 ∷ 32 ∷ 105 ∷ 110 ∷ 112 ∷ 117 ∷ 116 ∷ 32 ∷ []) ++ numbered at 10
+
+-- ---- `refused N PLACE`
+
+unfoldable pub refusedText : ℕ → ℕ → List ℕ
+refusedText n place = (114 ∷ 101 ∷ 102 ∷ 117 ∷ 115 ∷ 101 ∷ 100 ∷ 32 ∷ []) ++ (numbered n 32 ++ numbered place 10)
+
+-- ---- an accepted pass
+
+-- `size W H C`
+unfoldable pub sizeText : ℕ → ℕ → ℕ → List ℕ
+sizeText w h ch = (115 ∷ 105 ∷ 122 ∷ 101 ∷ 32 ∷ []) ++ (numbered w 32 ++ (numbered h 32 ++ numbered ch 10))
+
+-- `protected P error E`
+unfoldable pub countsText : ℕ → ℕ → List ℕ
+countsText p e = (112 ∷ 114 ∷ 111 ∷ 116 ∷ 101 ∷ 99 ∷ 116 ∷ 101 ∷ 100 ∷ 32 ∷ []) ++ (numbered p 32 ++ ((101 ∷ 114 ∷ 114 ∷ 111 ∷ 114 ∷ 32 ∷ []) ++ numbered e 10))
+
+-- a cell's mark: `.` none, `P`, `E`, `B` both
+unfoldable pub mark : ℕ → ℕ
+mark v = cond (isProtected v) (cond (isError v) 66 80) (cond (isError v) 69 46)
+
+-- the marks of w cells from one on
+unfoldable pub marksText : ℕ → List ℕ → ℕ → List ℕ
+marksText w st from = listed w (λ x. mark (getD st (from + x) 0))
+
+-- row y, and the rows from the bottom
+unfoldable pub rowText : ℕ → List ℕ → ℕ → List ℕ
+rowText w st y = marksText w st (y * w) ++ (10 ∷ [])
+
+unfoldable pub rowsText : ℕ → ℕ → List ℕ → List ℕ
+rowsText w h st = joined h (rowText w st)
+
+-- `X Y BITS` of a texel whose median has these bits
+unfoldable pub texelText : ℕ → ℕ → ℕ → List ℕ
+texelText x y bits = numbered x 32 ++ (numbered y 32 ++ (hex bits ++ (10 ∷ [])))
+
+-- cell k, where it is flagged
+unfoldable pub flaggedText : ℕ → List ℕ → (ℕ → Float) → ℕ → List ℕ
+flaggedText w st medians k = cond (isError (getD st k 0)) (texelText (k % w) (k / w) (toBits binary32 (medians k))) []
+
+-- the size, the counts, the rows, then each flagged texel, row by row
+unfoldable pub acceptedText : ℕ → ℕ → ℕ → ℕ → ℕ → List ℕ → (ℕ → Float) → List ℕ
+acceptedText w h ch p e st medians =
+    sizeText w h ch ++ (countsText p e ++ (rowsText w h st ++ joined (w * h) (flaggedText w st medians)))

@@ -1,0 +1,54 @@
+// The reading program's library: the input's fields, the case that they mean, and the text that is printed.
+ghost use mathlib.Core.Path.{_≡_};
+ghost use Prim.Native.Nat.{_≤_};
+ghost use mathlib.Core.List.{_++_};
+ghost use lib.ListN.{length, drop};
+ghost use Rattle.reading.specs.Answer.{printed, written};
+
+mod bytes;
+mod decode;
+mod fields;
+mod reader;
+mod run;
+mod text;
+
+// Writes what the program prints for an input into the front of `out`, and answers how many bytes that is.
+fn answer_into(input: &[u8], out: &mut [u8]) -> usize
+    requires { ⌜ 98304 ≤ length (now out) ⌝ }
+    ensures { λ r. ⌜ (r ≡ length (printed (now (input .entry)))) × (now (out .exit) ≡ printed (now (input .entry)) ++ drop r (now (out .entry))) ⌝ }
+{
+    let l = fields::read(input);
+    if l.breach != reader::FINE {
+        return text::put_bad(out, l.breach);
+    }
+    if input[7] == 0 {
+        return text::put_refused(out, 1, 0);
+    }
+    let mut samples = [0.0f32; 12288];
+    let mut stencil = [0u8; 12288];
+    let mut colours = [0u8; 256];
+    let mut coords = [0.0f64; 512];
+    let mut ends = [0usize; 64];
+    run::answer_case(
+        input,
+        l.rows,
+        l.contours,
+        l.segments,
+        out,
+        &mut samples,
+        &mut stencil,
+        &mut colours,
+        &mut coords,
+        &mut ends,
+    )
+}
+
+// The same for any slice: one with less room than the longest text needs is left alone, and the answer is 0.
+pub fn answer(input: &[u8], out: &mut [u8]) -> usize
+    ensures { λ r. ⌜ (r ≡ length (written (length (now (out .entry))) (now (input .entry)))) × (now (out .exit) ≡ written (length (now (out .entry))) (now (input .entry)) ++ drop r (now (out .entry))) ⌝ }
+{
+    if out.len() < 98304 {
+        return 0;
+    }
+    answer_into(input, out)
+}

@@ -1,0 +1,108 @@
+// The case through the pass, and what is printed of it.
+ghost use mathlib.Core.Path.{_≡_};
+ghost use Prim.Native.Nat.{_≤_, _<_};
+ghost use lib.ListN.{length};
+ghost use Rattle.correction.specs.Checks.{input};
+ghost use Rattle.correction.specs.Pass as Pass;
+ghost use Rattle.reading.specs.Answer as Answers;
+ghost use Rattle.reading.specs.Grammar.{channels};
+ghost use Rattle.reading.specs.Lists.{listed};
+ghost use Rattle.reading.specs.Written.{Written, Whole, Lent};
+use crate::bytes;
+use crate::decode;
+use crate::text;
+use correction::config::Settings;
+use correction::pass;
+use correction::pass::Answer;
+
+// The pass on a decoded case.
+fn run(
+    out: &mut [u8],
+    w: usize,
+    h: usize,
+    ch: usize,
+    samples: &mut [f32],
+    stencil: &mut [u8],
+    mode: u8,
+    s: Settings,
+    colours: &[u8],
+    coords: &[f64],
+    ends: &[usize],
+) -> usize
+    requires { ⌜ (98304 ≤ length (now out)) × (length (now samples) ≤ 12288) ⌝ }
+    ensures { λ r. ⌜ Written (now (out .entry)) 0 (Answers.answerText (input w h ch (now (samples .entry)) (now (stencil .entry)) mode s (now (colours .entry)) (now (coords .entry)) (now (ends .entry))) (Pass.answer (input w h ch (now (samples .entry)) (now (stencil .entry)) mode s (now (colours .entry)) (now (coords .entry)) (now (ends .entry))))) r (now (out .exit)) ⌝ }
+{
+    match pass::msdf_error_correction(w, h, ch, samples, stencil, mode, s, colours, coords, ends) {
+        Answer::Accepted(c) => {
+            text::put_accepted(out, w, h, ch, c.protected, c.error, stencil, samples)
+        }
+        Answer::Refused(n, p) => text::put_refused(out, n as usize, p),
+    }
+}
+
+// The settings field.
+fn settings(s: &[u8]) -> Settings
+    requires { ⌜ 44 ≤ length (now s) ⌝ }
+    ensures { λ r. ⌜ r ≡ Answers.settingsOf (now (s .entry)) ⌝ }
+{
+    Settings {
+        ratio: bytes::f64_at(s, 12),
+        horizontal: bytes::f64_at(s, 20),
+        vertical: bytes::f64_at(s, 28),
+        diagonal: bytes::f64_at(s, 36),
+    }
+}
+
+// Zeros in the first n cells.
+fn clear(out: &mut [u8], n: usize) -> usize
+    requires { ⌜ n ≤ length (now out) ⌝ }
+    ensures { λ r. ⌜ Written (now (out .entry)) 0 (listed n (λ k. 0)) r (now (out .exit)) × (r ≡ n) ⌝ }
+{
+    let mut i = 0usize;
+    while i < n {
+        out[i] = 0;
+        i += 1;
+    }
+    n
+}
+
+// A well formed input, whose rows start at a place and whose k contours have n segments, decoded into what is lent.
+pub fn answer_case(
+    s: &[u8],
+    rows: usize,
+    k: usize,
+    n: usize,
+    out: &mut [u8],
+    samples: &mut [f32],
+    stencil: &mut [u8],
+    colours: &mut [u8],
+    coords: &mut [f64],
+    ends: &mut [usize],
+) -> usize
+    requires { ⌜ Whole (now s) rows k n ⌝ }
+    requires { ⌜ (98304 ≤ length (now out)) × (0 < channels (now s)) ⌝ }
+    requires { ⌜ Lent (now samples) (now stencil) (now colours) (now coords) (now ends) ⌝ }
+    ensures { λ r. ⌜ Written (now (out .entry)) 0 (Answers.answerText (Answers.caseOf (now (s .entry))) (Pass.answer (Answers.caseOf (now (s .entry))))) r (now (out .exit)) ⌝ }
+{
+    let w = bytes::be16(s, 3);
+    let h = bytes::be16(s, 5);
+    let ch = s[7] as usize;
+    let a = decode::decode_samples(s, rows, h, w * ch, samples);
+    let b = clear(stencil, w * h);
+    let c = decode::decode_colours(s, rows, k, n, colours);
+    let d = decode::decode_coords(s, rows, k, n, coords);
+    let e = decode::decode_ends(s, rows, k, n, ends);
+    run(
+        out,
+        w,
+        h,
+        ch,
+        &mut samples[..a],
+        &mut stencil[..b],
+        s[11],
+        settings(s),
+        &colours[..c],
+        &coords[..d],
+        &ends[..e],
+    )
+}

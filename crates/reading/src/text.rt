@@ -1,0 +1,258 @@
+// What is printed, written into a lent slice.
+ghost use mathlib.Core.Path.{_≡_};
+ghost use Prim.Native.Nat.{_+_, _*_, _≤_, _<_};
+ghost use mathlib.Core.List.{[], _∷_};
+ghost use lib.ListN.{length, getD};
+ghost use lib.Ieee.{nan};
+ghost use Rattle.reading.specs.Lists.{joined};
+ghost use Rattle.reading.specs.Text as Text;
+ghost use Rattle.reading.specs.Written.{Written};
+use crate::bytes;
+
+fn put(out: &mut [u8], at: usize, b: u8) -> usize
+    requires { ⌜ at < length (now out) ⌝ }
+    ensures { λ r. ⌜ Written (now (out .entry)) at (b ∷ []) r (now (out .exit)) ⌝ }
+{
+    out[at] = b;
+    at + 1
+}
+
+fn put_all(out: &mut [u8], at: usize, t: &[u8]) -> usize
+    requires { ⌜ at + length (now t) ≤ length (now out) ⌝ }
+    ensures { λ r. ⌜ Written (now (out .entry)) at (now (t .entry)) r (now (out .exit)) ⌝ }
+{
+    let mut j = 0usize;
+    while j < t.len() {
+        out[at + j] = t[j];
+        j += 1;
+    }
+    at + j
+}
+
+// The digit of n at a power of ten, where n reaches it.
+fn put_digit(out: &mut [u8], at: usize, n: usize, p: usize) -> usize
+    requires { ⌜ (at < length (now out)) × (0 < p) ⌝ }
+    ensures { λ r. ⌜ Written (now (out .entry)) at (Text.digit n p) r (now (out .exit)) ⌝ }
+{
+    if p <= n {
+        return put(out, at, (48 + n / p % 10) as u8);
+    }
+    at
+}
+
+fn put_decimal(out: &mut [u8], at: usize, n: usize) -> usize
+    requires { ⌜ at + 5 ≤ length (now out) ⌝ }
+    ensures { λ r. ⌜ Written (now (out .entry)) at (Text.decimal n) r (now (out .exit)) ⌝ }
+{
+    let a = put_digit(out, at, n, 10000);
+    let b = put_digit(out, a, n, 1000);
+    let c = put_digit(out, b, n, 100);
+    let d = put_digit(out, c, n, 10);
+    put(out, d, (48 + n % 10) as u8)
+}
+
+// A number and the byte after it.
+fn put_number(out: &mut [u8], at: usize, n: usize, b: u8) -> usize
+    requires { ⌜ at + 6 ≤ length (now out) ⌝ }
+    ensures { λ r. ⌜ Written (now (out .entry)) at (Text.numbered n b) r (now (out .exit)) ⌝ }
+{
+    let a = put_decimal(out, at, n);
+    put(out, a, b)
+}
+
+fn hex_digit(d: u32) -> u8
+    requires { ⌜ d < 16 ⌝ }
+    ensures { λ r. ⌜ r ≡ Text.hexDigit d ⌝ }
+{
+    if d < 10 {
+        return (48 + d) as u8;
+    }
+    (55 + d) as u8
+}
+
+// The last two hex digits of a number.
+fn put_hex_pair(out: &mut [u8], at: usize, v: u32) -> usize
+    requires { ⌜ at + 2 ≤ length (now out) ⌝ }
+    ensures { λ r. ⌜ Written (now (out .entry)) at (Text.hexPair v) r (now (out .exit)) ⌝ }
+{
+    out[at] = hex_digit(v / 16 % 16);
+    out[at + 1] = hex_digit(v % 16);
+    at + 2
+}
+
+fn put_hex(out: &mut [u8], at: usize, v: u32) -> usize
+    requires { ⌜ at + 8 ≤ length (now out) ⌝ }
+    ensures { λ r. ⌜ Written (now (out .entry)) at (Text.hex v) r (now (out .exit)) ⌝ }
+{
+    let a = put_hex_pair(out, at, v / 16777216);
+    let b = put_hex_pair(out, a, v / 65536);
+    let c = put_hex_pair(out, b, v / 256);
+    put_hex_pair(out, c, v)
+}
+
+fn mark(v: u8) -> u8
+    ensures { λ r. ⌜ r ≡ Text.mark v ⌝ }
+{
+    if v / 2 % 2 == 1 {
+        if v % 2 == 1 {
+            return 66;
+        }
+        return 80;
+    }
+    if v % 2 == 1 {
+        return 69;
+    }
+    46
+}
+
+// `bad input AT`
+pub fn put_bad(out: &mut [u8], place: usize) -> usize
+    requires { ⌜ 16 ≤ length (now out) ⌝ }
+    ensures { λ r. ⌜ Written (now (out .entry)) 0 (Text.badText place) r (now (out .exit)) ⌝ }
+{
+    let a = put_all(out, 0, b"bad input ");
+    put_number(out, a, place, 10)
+}
+
+// `refused N PLACE`
+pub fn put_refused(out: &mut [u8], n: usize, place: usize) -> usize
+    requires { ⌜ 20 ≤ length (now out) ⌝ }
+    ensures { λ r. ⌜ Written (now (out .entry)) 0 (Text.refusedText n place) r (now (out .exit)) ⌝ }
+{
+    let a = put_all(out, 0, b"refused ");
+    let b = put_number(out, a, n, 32);
+    put_number(out, b, place, 10)
+}
+
+// `size W H C`
+fn put_size(out: &mut [u8], at: usize, w: usize, h: usize, ch: usize) -> usize
+    requires { ⌜ at + 23 ≤ length (now out) ⌝ }
+    ensures { λ r. ⌜ Written (now (out .entry)) at (Text.sizeText w h ch) r (now (out .exit)) ⌝ }
+{
+    let a = put_all(out, at, b"size ");
+    let b = put_number(out, a, w, 32);
+    let c = put_number(out, b, h, 32);
+    put_number(out, c, ch, 10)
+}
+
+// `protected P error E`
+fn put_counts(out: &mut [u8], at: usize, p: usize, e: usize) -> usize
+    requires { ⌜ at + 28 ≤ length (now out) ⌝ }
+    ensures { λ r. ⌜ Written (now (out .entry)) at (Text.countsText p e) r (now (out .exit)) ⌝ }
+{
+    let a = put_all(out, at, b"protected ");
+    let b = put_number(out, a, p, 32);
+    let c = put_all(out, b, b"error ");
+    put_number(out, c, e, 10)
+}
+
+fn put_marks(out: &mut [u8], at: usize, st: &[u8], from: usize, w: usize) -> usize
+    requires { ⌜ (at + w ≤ length (now out)) × (from + w ≤ length (now st)) ⌝ }
+    ensures { λ r. ⌜ Written (now (out .entry)) at (Text.marksText w (now (st .entry)) from) r (now (out .exit)) ⌝ }
+{
+    let mut x = 0usize;
+    while x < w {
+        out[at + x] = mark(st[from + x]);
+        x += 1;
+    }
+    at + w
+}
+
+// Row y of w cells.
+fn put_row(out: &mut [u8], at: usize, st: &[u8], w: usize, y: usize) -> usize
+    requires { ⌜ (at + w + 1 ≤ length (now out)) × (y * w + w ≤ length (now st)) ⌝ }
+    ensures { λ r. ⌜ Written (now (out .entry)) at (Text.rowText w (now (st .entry)) y) r (now (out .exit)) ⌝ }
+{
+    let a = put_marks(out, at, st, y * w, w);
+    put(out, a, 10)
+}
+
+// The rows from the bottom.
+fn put_rows(out: &mut [u8], at: usize, st: &[u8], w: usize, h: usize) -> usize
+    requires { ⌜ (at + h * (w + 1) ≤ length (now out)) × (h * w ≤ length (now st)) ⌝ }
+    ensures { λ r. ⌜ Written (now (out .entry)) at (Text.rowsText w h (now (st .entry))) r (now (out .exit)) ⌝ }
+{
+    let mut next = at;
+    let mut y = 0usize;
+    while y < h {
+        next = put_row(out, next, st, w, y);
+        y += 1;
+    }
+    next
+}
+
+// `X Y BITS`
+fn put_texel(out: &mut [u8], at: usize, x: usize, y: usize, bits: u32) -> usize
+    requires { ⌜ at + 21 ≤ length (now out) ⌝ }
+    ensures { λ r. ⌜ Written (now (out .entry)) at (Text.texelText x y bits) r (now (out .exit)) ⌝ }
+{
+    let a = put_number(out, at, x, 32);
+    let b = put_number(out, a, y, 32);
+    let c = put_hex(out, b, bits);
+    put(out, c, 10)
+}
+
+// Cell k, where it is flagged; xs has its median first in its texel.
+fn put_flagged(
+    out: &mut [u8],
+    at: usize,
+    st: &[u8],
+    xs: &[f32],
+    w: usize,
+    ch: usize,
+    k: usize,
+) -> usize
+    requires { ⌜ (at + 21 ≤ length (now out)) × (k < length (now st)) ⌝ }
+    requires { ⌜ (k * ch < length (now xs)) × (0 < w) ⌝ }
+    ensures { λ r. ⌜ Written (now (out .entry)) at (Text.flaggedText w (now (st .entry)) (λ i. getD (now (xs .entry)) (i * ch) nan) k) r (now (out .exit)) ⌝ }
+{
+    if st[k] % 2 == 1 {
+        let bits = bytes::bits_of_float32(xs[k * ch]);
+        return put_texel(out, at, k % w, k / w, bits);
+    }
+    at
+}
+
+// Each flagged texel of n cells, row by row.
+fn put_texels(
+    out: &mut [u8],
+    at: usize,
+    st: &[u8],
+    xs: &[f32],
+    w: usize,
+    ch: usize,
+    n: usize,
+) -> usize
+    requires { ⌜ (at + 21 * n ≤ length (now out)) × (n ≤ length (now st)) ⌝ }
+    requires { ⌜ (n * ch ≤ length (now xs)) × (0 < ch) × (0 < w) ⌝ }
+    ensures { λ r. ⌜ Written (now (out .entry)) at (joined n (Text.flaggedText w (now (st .entry)) (λ i. getD (now (xs .entry)) (i * ch) nan))) r (now (out .exit)) ⌝ }
+{
+    let mut next = at;
+    let mut k = 0usize;
+    while k < n {
+        next = put_flagged(out, next, st, xs, w, ch, k);
+        k += 1;
+    }
+    next
+}
+
+// The size, the counts, the rows, then each flagged texel.
+pub fn put_accepted(
+    out: &mut [u8],
+    w: usize,
+    h: usize,
+    ch: usize,
+    p: usize,
+    e: usize,
+    st: &[u8],
+    xs: &[f32],
+) -> usize
+    requires { ⌜ (0 < w) × (0 < ch) × (h ≤ 4096) × (w * h ≤ 4096) ⌝ }
+    requires { ⌜ (w * h ≤ length (now st)) × (w * h * ch ≤ length (now xs)) × (98304 ≤ length (now out)) ⌝ }
+    ensures { λ r. ⌜ Written (now (out .entry)) 0 (Text.acceptedText w h ch p e (now (st .entry)) (λ i. getD (now (xs .entry)) (i * ch) nan)) r (now (out .exit)) ⌝ }
+{
+    let a = put_size(out, 0, w, h, ch);
+    let b = put_counts(out, a, p, e);
+    let c = put_rows(out, b, st, w, h);
+    put_texels(out, c, st, xs, w, ch, w * h)
+}

@@ -1,0 +1,91 @@
+"""compare.py JUDGE COUNT SEED PROGRAM-WORDS: gives the program each input and holds what it prints to the judge's answer."""
+import concurrent.futures
+import os
+import re
+import struct
+import subprocess
+import sys
+import tempfile
+import time
+
+sys.dont_write_bytecode = True
+import cases
+
+SHOWN = 10
+
+
+def by_program(words, data, slow=False):
+    """What the program prints and how it ended; `slow` gives the input in pieces, so that reads come back short."""
+    if not slow:
+        ran = subprocess.run(words, input=data, capture_output=True)
+        return ran.stdout, ran.stderr, ran.returncode
+    with tempfile.TemporaryFile() as out, tempfile.TemporaryFile() as err:
+        ran = subprocess.Popen(words, stdin=subprocess.PIPE, stdout=out, stderr=err, bufsize=0)
+        step = max(1, len(data) // 7)
+        try:
+            for i in range(0, len(data), step):
+                ran.stdin.write(data[i:i + step])
+                time.sleep(0.02)
+            ran.stdin.close()
+        except BrokenPipeError:
+            pass  # it has seen that the input is too long
+        status = ran.wait()
+        out.seek(0)
+        err.seek(0)
+        return out.read(), err.read(), status
+
+
+def check_figures(answers):
+    """The judge's answers to document 01's figures, held to what that document says of them."""
+    for name, data, says in cases.figures():
+        text = answers[data].decode()
+        rows = "\n".join(text.split("\n")[2:2 + struct.unpack_from(">H", data, 5)[0]])
+        if says not in (text, rows):
+            sys.exit(f"tests/reading: the judge and document 01 differ at {name}: {text!r}")
+
+
+def check_reach(answers):
+    """The inputs have to reach every kind of answer, or the comparison says little."""
+    text = b"".join(answers.values()).decode()
+    wanted = [f"refused {n} {place}\n" for n, place in [(1, 0), (2, 0), (5, 0), (5, 1), (5, 2), (5, 3), (5, 4), (6, 0), (6, 15), (9, 0), (9, 3)]]
+    missing = [w.strip() for w in wanted if w not in text]
+    missing += [letter for letter in ".PEB" if not re.search(rf"^[.PEB]*[{letter}][.PEB]*$", text, re.M)]
+    places = set(re.findall(r"^bad input (\d+)$", text, re.M))
+    if missing or len(places) < 100 or "65536" not in places:
+        sys.exit(f"tests/reading: the inputs do not reach {', '.join(missing) or 'enough places'}")
+    return len(places)
+
+
+def main():
+    judge, count, seed, words = sys.argv[1], int(sys.argv[2]), int(sys.argv[3]), sys.argv[4:]
+    environment = {name: value for name, value in os.environ.items() if not name.startswith("QEMU_")}
+    os.environ.clear()
+    os.environ.update(environment)
+    begin = time.time()
+    with open("examples/three.bin", "rb") as fields, open("examples/three.txt", "rb") as text:
+        example, said = fields.read(), text.read()
+    tried = [("examples/three.bin", example)] + cases.all_cases(count, seed)
+    answers = dict(zip((data for _, data in tried), cases.judged(judge, [data for _, data in tried])))
+    if answers[example] != said:
+        sys.exit("tests/reading: examples/three.txt is not the judge's answer")
+    check_figures(answers)
+    places = check_reach(answers)
+    large = [(f"{name}, in pieces", data, True) for name, data in tried if len(data) > 60000 or name in ("P", "65536 bytes", "good cut at 100")]
+    work = [(name, data, False) for name, data in tried] + large
+    bad = 0
+    with concurrent.futures.ThreadPoolExecutor(os.cpu_count() or 1) as pool:
+        for (name, data, _), got in zip(work, pool.map(lambda w: by_program(words, w[1], w[2]), work)):
+            if got != (answers[data], b"", 0):
+                bad += 1
+                if bad <= SHOWN:
+                    print(f"tests/reading: {name}: {len(data)} bytes {data[:200].hex()}")
+                    print(f"  the judge: {answers[data][:200]!r}")
+                    print(f"  the program: {got[0][:200]!r}" + ("" if got[1:] == (b"", 0) else f", status {got[2]}, error output {got[1][:200]!r}"))
+    accepted = sum(a.startswith(b"size") for a in answers.values())
+    refused = sum(a.startswith(b"refused") for a in answers.values())
+    print(f"tests/reading: {len(work)} inputs ({accepted} accepted, {refused} refused, {len(tried) - accepted - refused} bad at {places} places, "
+          f"{len(large)} again in pieces), {bad} differ, {time.time() - begin:.0f} s")
+    sys.exit(1 if bad else 0)
+
+
+main()
