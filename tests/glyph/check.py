@@ -1,0 +1,227 @@
+"""check.py COUNT SEED [JUDGE]: what tests/glyph/run promises."""
+import importlib.machinery
+import importlib.util
+import os
+import re
+import struct
+import subprocess
+import sys
+import tempfile
+import zlib
+
+sys.dont_write_bytecode = True
+ROOT = os.path.dirname(os.path.dirname(os.path.dirname(os.path.abspath(__file__))))
+TOOL = os.path.join(ROOT, "tools", "glyph")
+sys.path.insert(0, os.path.join(ROOT, "tests", "reading"))
+import cases
+
+
+def loaded():
+    loader = importlib.machinery.SourceFileLoader("glyph", TOOL)
+    module = importlib.util.module_from_spec(importlib.util.spec_from_loader("glyph", loader))
+    loader.exec_module(module)
+    return module
+
+
+glyph = loaded()
+
+
+def need(true, what):
+    if not true:
+        sys.exit(f"tests/glyph: {what}")
+
+
+def example(name):
+    with open(os.path.join(ROOT, "examples", name), "rb") as f:
+        return f.read()
+
+
+def there_and_back(data):
+    """The place of the breach, or nothing after the input went through every form and came back."""
+    try:
+        read = glyph.from_fields("in", data)
+    except glyph.Bad as e:
+        return int(re.match(r"in: byte (\d+): ", str(e))[1])
+    text = glyph.to_text(read)
+    again = glyph.from_text("in", text)
+    need(glyph.to_fields(again, "in") == data, f"{data[:80].hex()} does not come back from its description")
+    need(glyph.to_text(again) == text, f"the description of {data[:80].hex()} changes")
+    if read.size[2] == 3:
+        pfm, settings = glyph.to_pfm("in", read), glyph.to_text(read, False)
+        head = pfm.index(b"-1.0\n")
+        swapped = pfm[:head] + b"1.0\n" + b"".join(struct.pack(">I", *v) for v in struct.iter_unpack("<I", pfm[head + 5:]))
+        for form in (pfm, swapped):
+            back = glyph.from_text("in", settings, False)
+            glyph.from_pfm("in", form, back)
+            need(glyph.to_fields(back, "in") == data, f"{data[:80].hex()} does not come back from PFM")
+    return None
+
+
+def check_inputs(count, seed, judge):
+    inputs = [data for _, data in cases.all_cases(count, seed)]
+    answers = [text.decode() for text in cases.judged(judge, inputs)] if judge else [None] * len(inputs)
+    good = 0
+    for data, says in zip(inputs, answers):
+        place = there_and_back(data)
+        good += place is None
+        if says is not None:
+            wanted = re.fullmatch(r"bad input (\d+)\n", says)
+            need(place == (int(wanted[1]) if wanted else None), f"{data[:80].hex()} is bad at {place} for tools/glyph, and the judge says {says[:40]!r}")
+            if says.startswith("size"):
+                check_answer(data, says)
+    return len(inputs), good
+
+
+def check_answer(data, says):
+    """The corrected field has each flagged texel at its median, as Python sorts it (a zero's sign aside), and the others as they were."""
+    read = glyph.from_fields("in", data)
+    channels = read.size[2]
+    answer = glyph.Answer("answer", says, read)
+    for y, (old, new) in enumerate(zip(read.rows, answer.corrected())):
+        for x in range(read.size[0]):
+            texel, after = old[x * channels:(x + 1) * channels], new[x * channels:(x + 1) * channels]
+            if answer.rows[y][x] in "EB":
+                middle = sorted(map(glyph.value_of, texel[:3]))[1]
+                need([glyph.value_of(v) for v in after[:3]] == [middle] * 3 and after[3:] == texel[3:], f"texel {x} {y} of {data[:80].hex()}")
+            else:
+                need(after == texel, f"texel {x} {y} of {data[:80].hex()}")
+
+
+def pixels(png):
+    """Width, height and the bytes below the compression, whose layout may differ from one zlib to the next."""
+    width, height = struct.unpack_from(">II", png, 16)
+    packed, at = b"", 8
+    while at < len(png):
+        n, kind = struct.unpack_from(">I4s", png, at)
+        packed += png[at + 8:at + 8 + n] if kind == b"IDAT" else b""
+        need(zlib.crc32(png[at + 4:at + 8 + n]) == struct.unpack_from(">I", png, at + 8 + n)[0], "a PNG chunk's sum is wrong")
+        at += 12 + n
+    data = zlib.decompress(packed)
+    need(len(data) == height * (3 * width + 1), "the PNG has not as many bytes as its size says")
+    return width, height, data
+
+
+def check_example(judge):
+    fields, text, answer = example("three.bin"), example("three.glyph").decode(), example("three.txt").decode()
+    made = subprocess.run([sys.executable, os.path.join(ROOT, "examples", "three.py")], capture_output=True, check=True).stdout.decode()
+    need(made == text, "examples/three.py no longer writes examples/three.glyph")
+    need(glyph.to_fields(glyph.from_text("three", text), "three") == fields, "examples/three.bin is not examples/three.glyph packed")
+    need(there_and_back(fields) is None, "examples/three.bin is bad")
+    if judge:
+        need(cases.judged(judge, [fields]) == [answer.encode()], "examples/three.txt is not the judge's answer")
+    check_answer(fields, answer)
+    with tempfile.TemporaryDirectory() as room:
+        out = os.path.join(room, "out.png")
+        subprocess.run([TOOL, "draw", "examples/three.bin", "examples/three.txt", out], cwd=ROOT, check=True)
+        with open(out, "rb") as f:
+            need(pixels(f.read()) == pixels(example("three.png")), "examples/three.png is not what tools/glyph draws")
+        for height in ("1", "9", "200"):
+            subprocess.run([TOOL, "draw", "--height", height, "examples/three.bin", "examples/three.txt", out], cwd=ROOT, check=True)
+            with open(out, "rb") as f:
+                pixels(f.read())
+
+
+GOOD = "size 2 1 3\nmode 1\nratio 1\nlengths 1 1 1\ncontour\n  red 1 1\nrow 0\n  1 0 0.75\n  0 1 0.75\n"
+ANSWER = "size 2 1 3\nprotected 0 error 2\nEE\n0 0 3F400000\n1 0 3F400000\n"
+
+
+def bad_texts():
+    """A description with one thing wrong, and the place and the words of the message."""
+    yield "", "a:1:1: 'size' should stand here, and the file ends"
+    yield "sise 2 1 3\n", "a:1:1: 'size' should stand here, not 'sise'"
+    yield "# nothing\n  size 2 x 3", "a:2:10: 'x' is not the height"
+    yield GOOD.replace("size 2 1 3", "size 70000 1 3"), "a:1:6: the width is 70000, and at most 65535"
+    yield GOOD.replace("size 2 1 3", "size 4097 1 3"), "a:1:6: width x height x channels is 12291"
+    yield GOOD.replace("mode 1", "mode Edge"), "a:2:6: 'Edge' is not the mode: one of Disabled"
+    yield GOOD.replace("mode 1", "mode 256"), "a:2:6: the mode is 256"
+    yield GOOD.replace("ratio 1\n", "ratio one\n"), "a:3:7: 'one' is not the ratio"
+    yield GOOD.replace("ratio 1\n", "ratio 1,5\n"), "a:3:7: '1,5' is not the ratio"
+    yield GOOD.replace("ratio 1\n", "ratio 0x3F800000\n"), "a:3:7: '0x3F800000' is not the bits of the ratio: 0x and 16 hex digits"
+    yield GOOD.replace("lengths 1 1 1", "lengths 1 1"), "a:5:1: 'contour' is not the diagonal length"
+    yield GOOD.replace("red", "pink"), "a:6:3: 'pink' is not a colour: one of black"
+    yield GOOD.replace("red 1 1", "red 1"), "a:7:1: 'row' is not a segment's y"
+    yield GOOD.replace("row 0", "row 1"), "a:7:5: this is row 0, not 1"
+    yield GOOD.replace("0.75", "1e60", 1), "a:8:7: '1e60' is too large for channel 2 of texel 0"
+    yield GOOD.replace("  0 1 0.75\n", "  0 1\n"), "a:10:1: row 0 ends after 5 of its 2 x 3 samples"
+    yield GOOD + "  1\n", "a:10:3: nothing should follow here, and '1' does"
+    yield GOOD.replace("contour\n", "contour\n" * 65), "a:69:1: this is contour 65"
+    yield GOOD.replace("  red 1 1\n", "  red 1 1\n" * 257), "a:262:3: this is segment 257"
+    yield GOOD.encode() + b"\xff", "a:10:1: this is no text"
+    rows = "".join(f"row {y} 0 0 0\n" for y in range(4096))
+    yield "size 1 4096 3\nmode 1\nratio 1\nlengths 1 1 1\ncontour\n" + "red 1 1\n" * 239 + rows, "a: this makes 65553 bytes"
+
+
+def bad_answers():
+    yield "bad input 3\n", "b:1:1: the program answered 'bad input 3'"
+    yield "refused 5 1\n", "b:1:1: the program answered 'refused 5 1'"
+    yield "", "b:1:1: 'size WIDTH"
+    yield ANSWER.replace("2 1 3", "2 2 3"), "b:1:6: this answer is for 2 x 2 x 3"
+    yield ANSWER.replace("error 2", "error 1"), "b:2:1: 1 are counted here, and the rows have 2"
+    yield ANSWER.replace("protected 0", "protected 1"), "b:2:11: 1 are counted here"
+    yield ANSWER.replace("EE", "EX"), "b:3:1: row 0, 2 letters"
+    yield ANSWER.replace("1 0 3F", "0 0 3F"), "b:5:1: the next flagged texel is 1 0, not 0 0"
+    yield ANSWER.replace("1 0 3F400000\n", ""), "b:5:1: flagged texel 1 0 and its median should stand here"
+    yield ANSWER + "more\n", "b:6:1: nothing should follow"
+
+
+def bad_pfms():
+    samples = bytes(24)
+    yield b"", "c:1:1: this is no PFM"
+    yield b"P6\n2 1\n255\n", "c:1:1: this is no PFM"
+    yield b"Pf\n2 1\n-1.0\n" + samples, "c:1:1: this PFM has one channel"
+    yield b"PF\nx 1\n-1.0\n" + samples, "c:2:1: 'x' is not a width"
+    yield b"PF\n2 -1\n-1.0\n" + samples, "c:2:3: '-1' is not a height"
+    yield b"PF\n2 1\n0\n" + samples, "c:3:1: '0' is not a scale"
+    yield b"PF\n200 100\n-1.0\n" + samples, "c:2:1: 200 x 100 x 3 is 60000 samples"
+    yield b"PF\n2 1\n-1.0\n" + samples[1:], "c: 24 bytes of samples should follow byte 12, and 23 do"
+
+
+def check_bad():
+    """Each bad file and each bad call ends with its message and its status, and writes nothing."""
+    tried = 0
+    with tempfile.TemporaryDirectory() as room:
+        def put(name, data):
+            with open(os.path.join(room, name), "wb") as f:
+                f.write(data if isinstance(data, bytes) else data.encode())
+
+        def refuses(status, says, *words):
+            ran = subprocess.run([TOOL, *words], cwd=room, capture_output=True, text=True, stdin=subprocess.DEVNULL)
+            need(ran.returncode == status and ran.stderr.startswith(f"glyph: {says}") and not os.path.exists(os.path.join(room, "out")),
+                 f"{' '.join(words)} should say {says!r} with status {status}, and said {ran.stderr[-300:]!r} with {ran.returncode}")
+
+        put("good", glyph.to_fields(glyph.from_text("good", GOOD), "good"))
+        put("wide", cases.bitmap(4096, 1, 3, cases.settings(0, 1.0, 1.0), [], [0.0] * 12288))
+        put("plain", "size 4096 1 3\nprotected 0 error 0\n" + "." * 4096 + "\n")
+        put("settings", "mode 1\nratio 1\nlengths 1 1 1\n")
+        put("more", cases.figures()[0][1] + bytes(3))
+        put("four", cases.bitmap(1, 1, 4, cases.PLAIN, [], [0.0] * 4))
+        for name, command, files in (("a", ["pack", "a", "out"], bad_texts()), ("b", ["draw", "good", "b", "out"], bad_answers()),
+                                     ("c", ["from-pfm", "c", "settings", "out"], bad_pfms())):
+            for data, says in files:
+                put(name, data)
+                refuses(1, says, *command)
+                tried += 1
+        for status, says, words in (
+                (1, "none: cannot be read: No such file", ["unpack", "none", "out"]), (1, "more: byte 74: 3 more bytes follow the end", ["unpack", "more", "out"]),
+                (1, "four: a PFM has three channels, and this field has 4", ["to-pfm", "four", "out", "out"]),
+                (1, "wide: drawn 32 pixels high it would be 131072 wide", ["draw", "wide", "plain", "out"]),
+                (1, "nowhere/out: cannot be written", ["unpack", "good", "nowhere/out"]),
+                (2, "a command is missing", []), (2, "there is no command 'fold'", ["fold"]), (2, "pack takes TEXT FIELDS, and 1 words", ["pack", "a"]),
+                (2, "draw has no option '--size'", ["draw", "--size", "3", "good", "b", "out"]),
+                (2, "--height takes a whole number from 1 to 512, not '0'", ["draw", "--height", "0", "good", "b", "out"]),
+                (2, "--height takes", ["draw", "good", "b", "out", "--height"])):
+            refuses(status, says, *words)
+            tried += 1
+    return tried
+
+
+def main():
+    judge = sys.argv[3] if len(sys.argv) > 3 else None
+    check_example(judge)
+    count, good = check_inputs(int(sys.argv[1]), int(sys.argv[2]), judge)
+    bad = check_bad()
+    print(f"tests/glyph: the example, {count} inputs ({good} there and back, {count - good} refused{' where the judge says' if judge else ''}), "
+          f"{bad} bad files and calls")
+
+
+main()
