@@ -1,4 +1,5 @@
 -- What follows from the definitions, for any bitmap.
+pub mod Answer
 pub mod Neighbourhood
 pub mod Finite
 pub mod Alike

@@ -23,12 +23,13 @@ use Rattle.correction.specs.Edges.{edgesProtect}
 use Rattle.correction.specs.Errors.{hasArtifact}
 use Rattle.correction.specs.Collapse.{collapsed}
 use Rattle.correction.specs.Bounds.{Sized, Outlined, painted, found}
-use Rattle.correction.specs.Pass.{texels, edgePriorityProtects, protects, flags, byteAt, passStencil, passSamples, countsOf, answer, stencilAfter, samplesAfter}
+use Rattle.correction.specs.Pass.{texels, edgePriorityProtects, protects, flags, byteAt, passStencil, passSamples, countsOf, Answers, answer, stencilAfter, samplesAfter}
 use Rattle.correction.proofs.Filled.{tab-length, tab-at}
 use Rattle.correction.proofs.Painted.{painted-then}
 use Rattle.correction.proofs.Staged.{tab-same, found-staged, error-staged, collapsed-same, collapsed-none}
 use Rattle.correction.proofs.Measures.{sizes, sized, cells}
 use Rattle.correction.proofs.Passed.{passed}
+use Rattle.correction.proofs.Laws.Answer.{as-answered}
 
 -- every entry of a list of 2 and 0 is below 255
 tab-small : (n : ℕ) (p : ℕ → Bool) (k : ℕ) → getD (tab n (λ j. cond (p j) 2 0)) k 0 < 255
@@ -128,11 +129,11 @@ module _ (i : Input) where
           )
 
   -- the number n and the place p of a refusal
-  pub refused : (n p : ℕ) → n ≡ refusalNumber i → p ≡ refusalPlace i → (n ≡ 0 → ⊥) → (Refused n p ≡ answer i) × ((i .stencil ≡ stencilAfter i) × (i .samples ≡ samplesAfter i))
+  pub refused : (n p : ℕ) → n ≡ refusalNumber i → p ≡ refusalPlace i → (n ≡ 0 → ⊥) → Answers i (Refused n p) × ((i .stencil ≡ stencilAfter i) × (i .samples ≡ samplesAfter i))
   unfolding answer stencilAfter samplesAfter accepted
   refused n p e f h =
       let t : eqb (refusalNumber i) 0 ≡ false = ne-eqb _ 0 (λ q. h (e ∙ q)) in
-      (simp (e, f, t), (simp t, simp t))
+      (as-answered i (Refused n p) (simp (e, f, t)), (simp t, simp t))
 
   -- what the stages ask for once the checks pass
   pub ready : refusalNumber i ≡ 0 → Sized (i .width) (i .height) (i .channels) (i .samples) × ((length (i .stencil) ≡ i .height * i .width) × Outlined (i .colours) (i .coords) (i .ends))
@@ -141,8 +142,8 @@ module _ (i : Input) where
       let s = sizes _ _ _ _ _ (o .sizes) in
       (sized _ _ _ _ _ s, (cells _ _ _ _ _ s, o .outlined))
 
-  pub answered : (st : List ℕ) (xs : List Float) (c : Counts) → refusalNumber i ≡ 0 → st ≡ passStencil i → xs ≡ passSamples i → c ≡ countsOf st → (Accepted c ≡ answer i) × ((st ≡ stencilAfter i) × (xs ≡ samplesAfter i))
+  pub answered : (st : List ℕ) (xs : List Float) (c : Counts) → refusalNumber i ≡ 0 → st ≡ passStencil i → xs ≡ passSamples i → c ≡ countsOf st → Answers i (Accepted c) × ((st ≡ stencilAfter i) × (xs ≡ samplesAfter i))
   unfolding answer stencilAfter samplesAfter accepted
   answered st xs c z p q r =
       let t : eqb (refusalNumber i) 0 ≡ true = eq-eqb _ 0 z in
-      (simp t (ap Accepted (r ∙ ap countsOf p)), (simp t p, simp t q))
+      (as-answered i (Accepted c) (simp t (ap Accepted (r ∙ ap countsOf p))), (simp t p, simp t q))

@@ -1,4 +1,5 @@
 -- The pass: what it answers, and what it leaves in the stencil and in the samples, for every input. Definitions only.
+use mathlib.Core.Path.{_≡_}
 use Prim.Native.Nat.{ℕ, _+_, _*_, _/_, _%_}
 use mathlib.Core.Bool.{Bool, true, false, cond, not, _&&_, _||_}
 use mathlib.Core.List.{List}
@@ -55,7 +56,50 @@ errorCount st = count (length st) (λ k. isError (getD st k 0))
 abbrev pub countsOf : List ℕ → Counts
 countsOf st = record { protected = protectedCount st; error = errorCount st }
 
--- what the pass answers
+-- ---- an answer's case, and its number, place and counts
+
+-- whether an answer accepts
+unfoldable pub isAccepted : Answer → Bool
+isAccepted (Accepted c) = true
+isAccepted (Refused n p) = false
+
+-- its number, 0 where it accepts
+unfoldable pub numberOf : Answer → ℕ
+numberOf (Accepted c) = 0
+numberOf (Refused n p) = n
+
+-- its place, 0 where it accepts
+unfoldable pub placeIn : Answer → ℕ
+placeIn (Accepted c) = 0
+placeIn (Refused n p) = p
+
+-- its counts of protected cells and of errors, 0 where it refuses
+unfoldable pub protectedIn : Answer → ℕ
+protectedIn (Accepted c) = c .protected
+protectedIn (Refused n p) = 0
+
+unfoldable pub errorsIn : Answer → ℕ
+errorsIn (Accepted c) = c .error
+errorsIn (Refused n p) = 0
+
+-- ---- what the pass answers, and leaves
+
+-- the counts of an input: those of the stencil that an accepted pass leaves, and zeros for a refusal
+unfoldable pub protectedCells : Input → ℕ
+protectedCells i = cond (accepted i) (protectedCount (passStencil i)) 0
+
+unfoldable pub errorCells : Input → ℕ
+errorCells i = cond (accepted i) (errorCount (passStencil i)) 0
+
+-- The answer accepts where no check fails, and has the number and the place of the first that does, and the counts.
+pub record Answers (i : Input) (r : Answer) : Type 0 where
+  pub accepts : isAccepted r ≡ accepted i
+  pub number : numberOf r ≡ refusalNumber i
+  pub place : placeIn r ≡ refusalPlace i
+  pub protected : protectedIn r ≡ protectedCells i
+  pub errors : errorsIn r ≡ errorCells i
+
+-- the one such answer
 unfoldable pub answer : Input → Answer
 answer i = cond (accepted i) (Accepted (countsOf (passStencil i))) (Refused (refusalNumber i) (refusalPlace i))
 
@@ -65,21 +109,3 @@ stencilAfter i = cond (accepted i) (passStencil i) (i .stencil)
 
 unfoldable pub samplesAfter : Input → List Float
 samplesAfter i = cond (accepted i) (passSamples i) (i .samples)
-
--- ---- an answer's number, place and counts
-
-unfoldable pub numberOf : Answer → ℕ
-numberOf (Accepted c) = 0
-numberOf (Refused n p) = n
-
-unfoldable pub placeIn : Answer → ℕ
-placeIn (Accepted c) = 0
-placeIn (Refused n p) = p
-
-unfoldable pub protectedIn : Answer → ℕ
-protectedIn (Accepted c) = c .protected
-protectedIn (Refused n p) = 0
-
-unfoldable pub errorsIn : Answer → ℕ
-errorsIn (Accepted c) = c .error
-errorsIn (Refused n p) = 0

@@ -124,7 +124,7 @@ pub fn msdf_error_correction(
     coords: &[f64],
     ends: &[usize],
 ) -> Answer
-    ensures answers { λ r. ⌜ r ≡ Pass.answer (input width height channels (now (samples .entry)) (now (stencil .entry)) mode settings (now (colours .entry)) (now (coords .entry)) (now (ends .entry))) ⌝ }
+    ensures answers { λ r. ⌜ Pass.Answers (input width height channels (now (samples .entry)) (now (stencil .entry)) mode settings (now (colours .entry)) (now (coords .entry)) (now (ends .entry))) r ⌝ }
     ensures leaves { λ r. ⌜ now (stencil .exit) ≡ Pass.stencilAfter (input width height channels (now (samples .entry)) (now (stencil .entry)) mode settings (now (colours .entry)) (now (coords .entry)) (now (ends .entry))) ⌝ }
     ensures writes { λ r. ⌜ now (samples .exit) ≡ Pass.samplesAfter (input width height channels (now (samples .entry)) (now (stencil .entry)) mode settings (now (colours .entry)) (now (coords .entry)) (now (ends .entry))) ⌝ }
 {

@@ -2,6 +2,7 @@
 -- `Post κs a z e` is the promise as it is read from the source: of the arguments a, the result z and the arguments at exit e. Assumes nothing.
 use mathlib.Core.Path.{_≡_, sym, _∙_}
 use denote.Ref.{now}
+use Rattle.correction.proofs.Laws.Answer.{answers-alike}
 use Rattle.correction.proofs.pass.msdf_error_correction.Reads as entry
 use Rattle.correction.proofs.view.texel_view.Reads as view
 
@@ -11,7 +12,7 @@ alike defined x y p q = p ∙ sym q
 
 -- Two answers of the pass are the same,
 pub pass-answers-alike : (κs : _) (a : _) (z z' : _) (e e' : _) → entry.Post κs a z e → entry.Post κs a z' e' → z ≡ z'
-pass-answers-alike κs a z z' e e' p q = alike _ z z' (p .0) (q .0)
+pass-answers-alike κs a z z' e e' p q = answers-alike _ z z' (p .0) (q .0)
 
 -- so are two stencils at its exit, the fifth argument,
 pub pass-stencils-alike : (κs : _) (a : _) (z z' : _) (e e' : _) → entry.Post κs a z e → entry.Post κs a z' e' → now (e .1 .1 .1 .1 .0) ≡ now (e' .1 .1 .1 .1 .0)

@@ -21,20 +21,19 @@ use lib.Ieee.{Float, nan, le}
 use denote.Ref.{now}
 use contract.Lifetimes.{Lfts}
 use borrow.Fn.Kinds.{Dens}
-use borrow.Author.Tests.{eqb-true, eq-eqb, ne-eqb, lt-ltb}
+use borrow.Author.Tests.{eqb-true, ne-eqb, lt-ltb}
 use Rattle.numbers.proofs.Laws.Order as Order
 use Rattle.numbers.proofs.Laws.Order.{nought}
 use Rattle.correction.specs.declared.config.Settings.{Settings}
 use Rattle.correction.specs.declared.pass.Answer.{Answer}
-use Rattle.correction.specs.declared.pass.Answer.the-variants.{Accepted, Refused}
 use Rattle.correction.specs.Lists.{count}
 use Rattle.correction.specs.Bitmap.{isError}
 use Rattle.correction.specs.Settings.{disabled}
-use Rattle.correction.specs.Checks.{Input, input, badLength, refusalNumber, refusalPlace, accepted}
+use Rattle.correction.specs.Checks.{Input, input, badLength, refusalNumber, accepted}
 use Rattle.correction.specs.Corners.{Segment, contours}
 use Rattle.correction.specs.Errors.{hasArtifact}
 use Rattle.correction.specs.Collapse.{cellMedian, collapsed, collapsedSample}
-use Rattle.correction.specs.Pass.{texels, protects, flags, byteAt, passStencil, passSamples, countsOf, errorCount, answer, stencilAfter, samplesAfter, numberOf}
+use Rattle.correction.specs.Pass.{texels, protects, flags, byteAt, passStencil, passSamples, errorCount, numberOf, Answers, stencilAfter, samplesAfter}
 use Rattle.correction.specs.Stricter.{Outlines, Stricter, withRatio}
 use Rattle.correction.specs.Stricter.Outlines.{none, kept}
 use Rattle.correction.proofs.Implied.{and-implies}
@@ -44,6 +43,7 @@ use Rattle.correction.proofs.Measures.{sizes}
 use Rattle.correction.proofs.Staged.{error-staged}
 use Rattle.correction.proofs.pass.msdf_error_correction.Kinds.{ps}
 use Rattle.correction.proofs.pass.msdf_error_correction.Reads as entry
+use Rattle.correction.proofs.Laws.Answer.{zero-accepts}
 use Rattle.correction.proofs.Laws.Grows.{InLimits, length-not-negative, texels-same, protects-grows}
 use Rattle.correction.proofs.Laws.Falls.{has-artifact-falls}
 
@@ -58,15 +58,6 @@ pub accepted-in-limits : (i : Input) → accepted i ≡ true → InLimits (i .se
 accepted-in-limits i p =
     let q = passed i (number-zero i p) in
     record { ratio = q .ratio; horizontal = q .horizontal; vertical = q .vertical; diagonal = q .diagonal }
-
--- A pass answers with the number of its refusal, and 0 where it accepts.
-pub answer-number : (i : Input) → numberOf (answer i) ≡ refusalNumber i
-unfolding answer numberOf
-answer-number i = go (accepted i) refl
-  where
-    go : (b : Bool) → accepted i ≡ b → numberOf (cond b (Accepted (countsOf (passStencil i))) (Refused (refusalNumber i) (refusalPlace i))) ≡ refusalNumber i
-    go true p = unfold numberOf in sym (number-zero i p)
-    go false p = unfold numberOf in refl
 
 -- ---- the flag of a texel
 
@@ -128,13 +119,10 @@ monotony i j s p q k e = dite (decLt k (j .width * j .height)) inner outer
     outer n = absurd (true≢false (sym e ∙ no-error (stencilAfter j) k (omega (arith, stencil-length j q))))
 
 -- The same of whatever two passes answer and leave, if both answer 0.
-pub runs-monotony : (i j : Input) → Stricter i j → (r r' : Answer) (st st' : List ℕ) → r ≡ answer i → st ≡ stencilAfter i → r' ≡ answer j → st' ≡ stencilAfter j → numberOf r ≡ 0 → numberOf r' ≡ 0 → (k : ℕ) → isError (getD st' k 0) ≡ true → isError (getD st k 0) ≡ true
+pub runs-monotony : (i j : Input) → Stricter i j → (r r' : Answer) (st st' : List ℕ) → Answers i r → st ≡ stencilAfter i → Answers j r' → st' ≡ stencilAfter j → numberOf r ≡ 0 → numberOf r' ≡ 0 → (k : ℕ) → isError (getD st' k 0) ≡ true → isError (getD st k 0) ≡ true
 runs-monotony i j s r r' st st' a b a' b' n n' k e =
     ap (λ (z : List ℕ). isError (getD z k 0)) b
-    ∙ monotony i j s (answered i r a n) (answered j r' a' n') k (ap (λ (z : List ℕ). isError (getD z k 0)) (sym b') ∙ e)
-  where
-    answered : (i : Input) (r : Answer) → r ≡ answer i → numberOf r ≡ 0 → accepted i ≡ true
-    answered i r a n = unfold accepted in eq-eqb (refusalNumber i) 0 (sym (answer-number i) ∙ ap numberOf (sym a) ∙ n)
+    ∙ monotony i j s (zero-accepts i r a n) (zero-accepts j r' a' n') k (ap (λ (z : List ℕ). isError (getD z k 0)) (sym b') ∙ e)
 
 -- what comes in with a run's arguments
 abbrev pub given : (κs : Lfts 5) → Dens κs ps → Input
