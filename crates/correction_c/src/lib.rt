@@ -1,5 +1,6 @@
 // The pass for C and Rust to call.
 ghost use mathlib.Core.Path.{_≡_};
+ghost use Rattle.correction.specs.Checks as Checks;
 ghost use Rattle.correction.specs.Pass as Pass;
 ghost use Rattle.correction_c.specs.Call.{called};
 use correction::config::Settings;
@@ -26,10 +27,10 @@ pub extern "C" fn rungtwine_error_correction(
     protected: &mut usize,
     error: &mut usize,
 ) -> u8
-    ensures numbers { λ r. ⌜ r ≡ Pass.numberOf (Pass.answer (called width height channels (now (samples .entry)) (now (stencil .entry)) mode ratio horizontal vertical diagonal (now (colours .entry)) (now (coords .entry)) (now (ends .entry)))) ⌝ }
-    ensures places { λ _. ⌜ now (place .exit) ≡ Pass.placeIn (Pass.answer (called width height channels (now (samples .entry)) (now (stencil .entry)) mode ratio horizontal vertical diagonal (now (colours .entry)) (now (coords .entry)) (now (ends .entry)))) ⌝ }
-    ensures protects { λ _. ⌜ now (protected .exit) ≡ Pass.protectedIn (Pass.answer (called width height channels (now (samples .entry)) (now (stencil .entry)) mode ratio horizontal vertical diagonal (now (colours .entry)) (now (coords .entry)) (now (ends .entry)))) ⌝ }
-    ensures flags { λ _. ⌜ now (error .exit) ≡ Pass.errorsIn (Pass.answer (called width height channels (now (samples .entry)) (now (stencil .entry)) mode ratio horizontal vertical diagonal (now (colours .entry)) (now (coords .entry)) (now (ends .entry)))) ⌝ }
+    ensures numbers { λ r. ⌜ r ≡ Checks.refusalNumber (called width height channels (now (samples .entry)) (now (stencil .entry)) mode ratio horizontal vertical diagonal (now (colours .entry)) (now (coords .entry)) (now (ends .entry))) ⌝ }
+    ensures places { λ _. ⌜ now (place .exit) ≡ Checks.refusalPlace (called width height channels (now (samples .entry)) (now (stencil .entry)) mode ratio horizontal vertical diagonal (now (colours .entry)) (now (coords .entry)) (now (ends .entry))) ⌝ }
+    ensures protects { λ _. ⌜ now (protected .exit) ≡ Pass.protectedCells (called width height channels (now (samples .entry)) (now (stencil .entry)) mode ratio horizontal vertical diagonal (now (colours .entry)) (now (coords .entry)) (now (ends .entry))) ⌝ }
+    ensures flags { λ _. ⌜ now (error .exit) ≡ Pass.errorCells (called width height channels (now (samples .entry)) (now (stencil .entry)) mode ratio horizontal vertical diagonal (now (colours .entry)) (now (coords .entry)) (now (ends .entry))) ⌝ }
     ensures leaves { λ _. ⌜ now (stencil .exit) ≡ Pass.stencilAfter (called width height channels (now (samples .entry)) (now (stencil .entry)) mode ratio horizontal vertical diagonal (now (colours .entry)) (now (coords .entry)) (now (ends .entry))) ⌝ }
     ensures writes { λ _. ⌜ now (samples .exit) ≡ Pass.samplesAfter (called width height channels (now (samples .entry)) (now (stencil .entry)) mode ratio horizontal vertical diagonal (now (colours .entry)) (now (coords .entry)) (now (ends .entry))) ⌝ }
 {
