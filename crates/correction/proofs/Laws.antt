@@ -1,5 +1,6 @@
 -- What follows from the definitions, for any bitmap.
 pub mod Answer
+pub mod Leaves
 pub mod Neighbourhood
 pub mod Finite
 pub mod Alike

@@ -10,6 +10,7 @@ pub mod Edges
 pub mod Errors
 pub mod Collapse
 pub mod Pass
+pub mod Neighbourhood
 pub mod Stricter
 pub mod View
 pub mod Figures

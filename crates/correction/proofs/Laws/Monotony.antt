@@ -21,7 +21,7 @@ use lib.Ieee.{Float, nan, le}
 use denote.Ref.{now}
 use contract.Lifetimes.{Lfts}
 use borrow.Fn.Kinds.{Dens}
-use borrow.Author.Tests.{eqb-true, ne-eqb, lt-ltb}
+use borrow.Author.Tests.{ne-eqb, lt-ltb}
 use Rattle.numbers.proofs.Laws.Order as Order
 use Rattle.numbers.proofs.Laws.Order.{nought}
 use Rattle.correction.specs.declared.config.Settings.{Settings}
@@ -29,29 +29,25 @@ use Rattle.correction.specs.declared.pass.Answer.{Answer}
 use Rattle.correction.specs.Lists.{count}
 use Rattle.correction.specs.Bitmap.{isError}
 use Rattle.correction.specs.Settings.{disabled}
-use Rattle.correction.specs.Checks.{Input, input, badLength, refusalNumber, accepted}
+use Rattle.correction.specs.Checks.{Input, badLength, accepted}
 use Rattle.correction.specs.Corners.{Segment, contours}
 use Rattle.correction.specs.Errors.{hasArtifact}
 use Rattle.correction.specs.Collapse.{cellMedian, collapsed, collapsedSample}
-use Rattle.correction.specs.Pass.{texels, protects, flags, byteAt, passStencil, passSamples, errorCount, numberOf, Answers, stencilAfter, samplesAfter}
+use Rattle.correction.specs.Pass.{texels, protects, flags, passSamples, errorCount, numberOf, Answers, stencilAfter, samplesAfter}
 use Rattle.correction.specs.Stricter.{Outlines, Stricter, withRatio}
 use Rattle.correction.specs.Stricter.Outlines.{none, kept}
 use Rattle.correction.proofs.Implied.{and-implies}
-use Rattle.correction.proofs.Filled.{tab-length, tab-at}
+use Rattle.correction.proofs.Filled.{tab-at}
 use Rattle.correction.proofs.Passed.{passed}
 use Rattle.correction.proofs.Measures.{sizes}
-use Rattle.correction.proofs.Staged.{error-staged}
 use Rattle.correction.proofs.pass.msdf_error_correction.Kinds.{ps}
 use Rattle.correction.proofs.pass.msdf_error_correction.Reads as entry
 use Rattle.correction.proofs.Laws.Answer.{zero-accepts}
+use Rattle.correction.proofs.Laws.Leaves.{number-zero, accepted-leaves, cell-error, stencil-length, given}
 use Rattle.correction.proofs.Laws.Grows.{InLimits, length-not-negative, texels-same, protects-grows}
 use Rattle.correction.proofs.Laws.Falls.{has-artifact-falls}
 
 -- ---- what acceptance says
-
-number-zero : (i : Input) → accepted i ≡ true → refusalNumber i ≡ 0
-unfolding accepted
-number-zero i p = eqb-true (refusalNumber i) 0 p
 
 -- An accepted input's settings are in their limits.
 pub accepted-in-limits : (i : Input) → accepted i ≡ true → InLimits (i .settings)
@@ -79,24 +75,6 @@ flags-fall i j s p q x y =
 
 -- ---- what the pass leaves
 
--- An accepted pass leaves its stencil and its samples.
-pub accepted-leaves : (i : Input) → accepted i ≡ true → (stencilAfter i ≡ passStencil i) × (samplesAfter i ≡ passSamples i)
-unfolding stencilAfter samplesAfter
-accepted-leaves i p = (ap (λ (b : Bool). cond b (passStencil i) (i .stencil)) p, ap (λ (b : Bool). cond b (passSamples i) (i .samples)) p)
-
--- The error bit of a cell says whether its texel is flagged.
-pub cell-error : (i : Input) → accepted i ≡ true → (k : ℕ) → k < i .width * i .height → isError (getD (stencilAfter i) k 0) ≡ flags i (k % i .width) (k / i .width)
-unfolding passStencil byteAt
-cell-error i p k l =
-    ap (λ (st : List ℕ). isError (getD st k 0)) (accepted-leaves i p .0)
-    ∙ ap isError (tab-at (i .width * i .height) (byteAt i) k 0 l)
-    ∙ error-staged (protects i (k % i .width) (k / i .width)) (flags i (k % i .width) (k / i .width))
-
--- The stencil has a cell for each texel.
-pub stencil-length : (i : Input) → accepted i ≡ true → length (stencilAfter i) ≡ i .width * i .height
-unfolding passStencil
-stencil-length i p = ap length (accepted-leaves i p .0) ∙ tab-length (i .width * i .height) (byteAt i)
-
 -- beyond the last cell there is no error
 no-error : (st : List ℕ) (k : ℕ) → length st ≤ k → isError (getD st k 0) ≡ false
 unfolding isError
@@ -123,11 +101,6 @@ pub runs-monotony : (i j : Input) → Stricter i j → (r r' : Answer) (st st' :
 runs-monotony i j s r r' st st' a b a' b' n n' k e =
     ap (λ (z : List ℕ). isError (getD z k 0)) b
     ∙ monotony i j s (zero-accepts i r a n) (zero-accepts j r' a' n') k (ap (λ (z : List ℕ). isError (getD z k 0)) (sym b') ∙ e)
-
--- what comes in with a run's arguments
-abbrev pub given : (κs : Lfts 5) → Dens κs ps → Input
-given κs a =
-    input (a .0) (a .1 .0) (a .1 .1 .0) (now (a .1 .1 .1 .0)) (now (a .1 .1 .1 .1 .0)) (a .1 .1 .1 .1 .1 .0) (a .1 .1 .1 .1 .1 .1 .0) (now (a .1 .1 .1 .1 .1 .1 .1 .0)) (now (a .1 .1 .1 .1 .1 .1 .1 .1 .0)) (now (a .1 .1 .1 .1 .1 .1 .1 .1 .1 .0))
 
 -- Demand 3 of two runs of `msdf_error_correction` that answer 0: each keeps the promise as it is read from the source, of the arguments a, the answer z and the arguments at exit e, of which the stencil is the fifth.
 pub promise-monotony : (κs κs' : Lfts 5) (a : Dens κs ps) (a' : Dens κs' ps) (z z' : _) (e e' : _) → entry.Post κs a z e → entry.Post κs' a' z' e' → Stricter (given κs a) (given κs' a') → numberOf z ≡ 0 → numberOf z' ≡ 0 → (k : ℕ) → isError (getD (now (e' .1 .1 .1 .1 .0)) k 0) ≡ true → isError (getD (now (e .1 .1 .1 .1 .0)) k 0) ≡ true
