@@ -32,6 +32,10 @@ unfolding first
 past f zero h = refl
 past f (suc n) h = rw (h 0 (omega arith), past (λ k. f (suc k)) n (λ k b. h (suc k) (omega arith)))
 
+-- where each fails the answer is n
+pub first-is-end : (f : ℕ → Bool) (n : ℕ) → ((k : ℕ) → k < n → f k ≡ false) → first n f ≡ n
+first-is-end f n h = past f n h
+
 pub first-found : (f : ℕ → Bool) (n i : ℕ) → any i f ≡ false → i < n → f i ≡ true → first n f ≡ i
 first-found f n i p l q = found f n i (none-below f i p) l q
 

@@ -3,6 +3,7 @@ pub mod Answer
 pub mod Leaves
 pub mod Neighbourhood
 pub mod Finite
+pub mod Again
 pub mod Alike
 pub mod Grows
 pub mod Falls

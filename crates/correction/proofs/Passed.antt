@@ -1,4 +1,5 @@
 -- What an answer 0 of all the checks says, check by check. Assumes nothing.
+--     stages         what each stage of the checks answers
 --     passed         each check's fact
 --     good-outlines  the coordinates are twice the colours, and these are few
 --     length-bounds  a length that is not bad is from 0 to the limit
@@ -117,24 +118,36 @@ outlines-pass colours coords ends p =
     let c = cond-zero (ltb (segmentsPlace colours coords) (length colours)) 8 0 (b .1) in
     (a .0, (b .0, c .0))
 
-pub passed : (i : Input) → refusalNumber i ≡ 0 → Passed i
+-- an answer 0 stage by stage, before each is taken apart
+pub record Stages (i : Input) : Type 0 where
+  pub sizes : sizeRefusal (i .width) (i .height) (i .channels) (length (i .samples)) (length (i .stencil)) ≡ 0
+  pub settings : ltb (settingsPlace (i .mode) (i .settings)) 5 ≡ false
+  pub samples : ltb (samplesPlace (i .samples)) (length (i .samples)) ≡ false
+  pub outlines : outlineRefusal (i .colours) (i .coords) (i .ends) ≡ 0
+
+pub stages : (i : Input) → refusalNumber i ≡ 0 → Stages i
 unfolding refusalNumber
-passed i p =
+stages i p =
     let n = sizeRefusal (i .width) (i .height) (i .channels) (length (i .samples)) (length (i .stencil)) in
     let a = number-zero n _ (eqb n 0) refl p in
     let b = cond-zero (ltb (settingsPlace (i .mode) (i .settings)) 5) 4 _ (a .1) in
     let c = cond-zero (ltb (samplesPlace (i .samples)) (length (i .samples))) 5 (outlineRefusal (i .colours) (i .coords) (i .ends)) (b .1) in
-    let s = good-settings (i .mode) (i .settings) (ltb-false (settingsPlace (i .mode) (i .settings)) 5 (b .0)) in
-    let o = outlines-pass (i .colours) (i .coords) (i .ends) (c .1) in
+    record { sizes = a .0; settings = b .0; samples = c .0; outlines = c .1 }
+
+pub passed : (i : Input) → refusalNumber i ≡ 0 → Passed i
+passed i p =
+    let t = stages i p in
+    let s = good-settings (i .mode) (i .settings) (ltb-false (settingsPlace (i .mode) (i .settings)) 5 (t .settings)) in
+    let o = outlines-pass (i .colours) (i .coords) (i .ends) (t .outlines) in
     let e = good-ends (i .ends) (length (i .colours)) (o .1 .0) in
     record {
-      sizes = a .0;
+      sizes = t .sizes;
       mode = s .0;
       ratio = s .1 .0;
       horizontal = s .1 .1 .0;
       vertical = s .1 .1 .1 .0;
       diagonal = s .1 .1 .1 .1;
-      samples = good-samples (i .samples) (c .0);
+      samples = good-samples (i .samples) (t .samples);
       outlines = o .0;
       ends = e .0;
       last = e .1;

@@ -12,7 +12,7 @@ use Rattle.correction.specs.declared.pass.Counts.{Counts}
 use Rattle.correction.specs.Lists.{tab, count}
 use Rattle.correction.specs.Bitmap.{texel, stencilByte, isProtected, isError}
 use Rattle.correction.specs.Settings.{disabled, edgePriority, edgeOnly}
-use Rattle.correction.specs.Checks.{Input, accepted, refusalNumber, refusalPlace}
+use Rattle.correction.specs.Checks.{Input, input, accepted, refusalNumber, refusalPlace}
 use Rattle.correction.specs.Corners.{contours, cornersProtect}
 use Rattle.correction.specs.Edges.{edgesProtect}
 use Rattle.correction.specs.Errors.{hasArtifact}
@@ -109,3 +109,7 @@ stencilAfter i = cond (accepted i) (passStencil i) (i .stencil)
 
 unfoldable pub samplesAfter : Input → List Float
 samplesAfter i = cond (accepted i) (passSamples i) (i .samples)
+
+-- the samples and the stencil that the pass leaves of the first input, with the sizes, the mode, the settings and the outlines of the second: what a pass over its result is given
+abbrev pub fedBack : Input → Input → Input
+fedBack i j = input (j .width) (j .height) (j .channels) (samplesAfter i) (stencilAfter i) (j .mode) (j .settings) (j .colours) (j .coords) (j .ends)

@@ -33,9 +33,9 @@ inRange span at bt xt am bm xm = within xm am (mul binary64 (sub binary64 xt at)
 unfoldable pub rangeTest : Float → Bool → Float → Float → Float → Float → Float → Float → Bool
 rangeTest span protected at bt xt am bm xm = candidate protected am bm xm && not (inRange span at bt xt am bm xm)
 
--- the values that the range test compares: the three medians, and the ends of both ranges
+-- the values that the range test compares: the three medians, 0.5 and the median of the three, and the ends of both ranges
 unfoldable pub compared : Float → Float → Float → Float → Float → Float → Float → List Float
 compared span at bt xt am bm xm =
     let d = mul binary64 (sub binary64 xt at) span in
     let e = mul binary64 (sub binary64 bt xt) span in
-    am ∷ bm ∷ xm ∷ sub binary64 am d ∷ add binary64 am d ∷ sub binary64 bm e ∷ add binary64 bm e ∷ []
+    am ∷ bm ∷ xm ∷ halfOf binary32 ∷ medianOf am bm xm ∷ sub binary64 am d ∷ add binary64 am d ∷ sub binary64 bm e ∷ add binary64 bm e ∷ []

@@ -9,6 +9,7 @@ use lib.Dec.{T}
 use lib.ListN.{getD, length}
 use lib.Ieee.{Float, binary32, binary64, le, lt, add, sub, mul, neg, isNan, ofBits}
 use Rattle.numbers.specs.Constants.{zeroOf, oneOf, limitOf, epsilon, oneLessEpsilon}
+use Rattle.numbers.specs.Select.{medianOf}
 use Rattle.numbers.proofs.Laws.Order.{nought, one, finite, abs-le, le-of-lt, le-trans}
 use Rattle.numbers.proofs.Laws.Monotone.{mul-not-negative, sub-not-negative}
 use Rattle.numbers.proofs.Laws.Bounds.{Within, within-more, within-finite, within-no-nan, within-limit, between-within, neg-within, median-within, narrow-within, mix-within, add-within, sub-within, mul-within}
@@ -218,11 +219,11 @@ AllFinite (x ∷ xs) = finite x × AllFinite xs
 
 -- A range test between weights, with medians of at most 2 ^ 25 and a span of at most 2 ^ 40, compares finite values.
 pub compared-finite : (span at bt xt am bm xm : Float) → Span span → Weight at → Weight bt → Weight xt → Within 25 am → Within 25 bm → Within 25 xm → AllFinite (compared span at bt xt am bm xm)
-unfolding compared AllFinite
+unfolding compared AllFinite ofBits
 compared-finite span at bt xt am bm xm s p q r a b x =
     let d = reach (sub binary64 xt at) (gap-within xt at r p) in
     let e = reach (sub binary64 bt xt) (gap-within bt xt q r) in
-    (within-finite 25 am a, (within-finite 25 bm b, (within-finite 25 xm x, (lower am _ a d, (upper am _ a d, (lower bm _ b e, (upper bm _ b e, tt)))))))
+    (within-finite 25 am a, (within-finite 25 bm b, (within-finite 25 xm x, (tt, (within-finite 25 (medianOf am bm xm) (median-within 25 am bm xm a b x), (lower am _ a d, (upper am _ a d, (lower bm _ b e, (upper bm _ b e, tt)))))))))
   where
     reach : (g : Float) → Within 1 g → Within 41 (mul binary64 g span)
     reach g w = mul-within binary64 1 40 g span (omega arith) w (s .bounded)
