@@ -2,12 +2,14 @@
 //!
 //! `run COUNT SEED`: every refusal at every place, then COUNT cases; totals, and how often each branch was reached.
 //! `monotony COUNT SEED`: pairs of passes in demand 3's relation, and pairs with the relation broken.
+//! `again COUNT SEED`: what a pass leaves as the input of the next.
 //! `show SEED INDEX`: one case of a run.
 //! `example`: the glyph of examples/glyph.txt.
 //! `patch FILE OUT FROM TO`: a copy of a library in which the f64 FROM is TO, wherever its bytes are.
 //! `make-fixed FILE`, `check-fixed FILE`, `show-fixed FILE`: the fixed list.
 //! Exit status 1 if any two sides differ, or a long run leaves a branch out.
 
+mod again;
 mod cases;
 mod fixed;
 mod glyphs;
@@ -82,6 +84,7 @@ fn main() {
     let good = match (args.first().map(String::as_str), number(1), number(2)) {
         (Some("run"), Some(count), Some(seed)) => run(count, seed),
         (Some("monotony"), Some(count), Some(seed)) => monotony::run(count, seed),
+        (Some("again"), Some(count), Some(seed)) => again::run(count, seed),
         (Some("show"), Some(seed), Some(index)) => {
             println!("{}", shrink::text(&cases::case(seed, index)));
             true
@@ -113,6 +116,6 @@ fn patch(file: &str, out: &str, from: &str, to: &str) -> bool {
 }
 
 fn usage() -> ! {
-    eprintln!("usage: differential run COUNT SEED | monotony COUNT SEED | show SEED INDEX | example | patch FILE OUT FROM TO | make-fixed FILE | check-fixed FILE | show-fixed FILE");
+    eprintln!("usage: differential run COUNT SEED | monotony COUNT SEED | again COUNT SEED | show SEED INDEX | example | patch FILE OUT FROM TO | make-fixed FILE | check-fixed FILE | show-fixed FILE");
     std::process::exit(2)
 }
