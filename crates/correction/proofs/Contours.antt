@@ -1,5 +1,5 @@
 -- Contours by the numbers of their segments, and all of them by the numbers of their ends. Assumes nothing.
---     hit          a segment that is a corner, as the code goes: j is the segment before it, and s how many colour bits they share
+--     hit          a segment that is a corner, as the code goes: j is the segment before it, and b whether they make a corner
 --     miss         one that isn't
 --     start-next   a contour ends where the next starts
 --     start-le     a contour starts at most where it ends
@@ -11,7 +11,7 @@ use Prim.Native.Nat.{ℕ, zero, suc, _+_, _-_, _*_, _/_, _%_, _<_, _≤_, zero-l
 use native.Mathlib.Nat.{le-refl}
 use native.Mathlib.Numerals.{add-one}
 use native.Mathlib.Omega.{arith}
-use lib.Dec.{eqb}
+use lib.Dec.{eqb, ltb}
 use lib.ListN.{length, getD, drop, length-drop}
 use lib.Seq.{length-take-le, getD-take, getD-drop}
 use lib.Ieee.{Float, nan}
@@ -22,19 +22,19 @@ use Rattle.correction.specs.Bounds.{Outlined, painted, cornerHits, conto
 use Rattle.correction.proofs.Filled.{tab-length, tab-at}
 use Rattle.correction.proofs.Painted.{painted-same, painted-none}
 
-module _ (w : ℕ) (colours : List ℕ) (coords : List Float) (from end i j s : ℕ) (e : j ≡ cond (eqb i from) (end - 1) (i - 1)) (f : s ≡ shared (getD colours j 0) (getD colours i 0)) where
-  share : s ≡ shared (getD colours (cond (eqb i from) (end - 1) (i - 1)) 0) (getD colours i 0)
-  share = f ∙ ap (λ (m : ℕ). shared (getD colours m 0) (getD colours i 0)) e
+module _ (w : ℕ) (colours : List ℕ) (coords : List Float) (from end i j : ℕ) (b : Bool) (e : j ≡ cond (eqb i from) (end - 1) (i - 1)) (f : b ≡ ltb (shared (getD colours j 0) (getD colours i 0)) 2) where
+  corner : b ≡ ltb (shared (getD colours (cond (eqb i from) (end - 1) (i - 1)) 0) (getD colours i 0)) 2
+  corner = f ∙ ap (λ (m : ℕ). ltb (shared (getD colours m 0) (getD colours i 0)) 2) e
 
-  pub hit : s < 2 → (st st' : List ℕ)
+  pub hit : b ≡ true → (st st' : List ℕ)
       → st' ≡ painted (λ k. beside (lower (getD coords (2 * i) nan)) (k % w) && beside (lower (getD coords (2 * i + 1) nan)) (k / w)) st
       → st' ≡ painted (cornerHits w colours coords from end i) st
   unfolding cornerHits
-  hit l st st' p = p ∙ painted-same _ _ st (λ k. simp (lt-ltb _ 2 (subst (λ (m : ℕ). m < 2) share l)))
+  hit l st st' p = p ∙ painted-same _ _ st (λ k. simp (sym corner ∙ l))
 
-  pub miss : 2 ≤ s → (st : List ℕ) → st ≡ painted (cornerHits w colours coords from end i) st
+  pub miss : b ≡ false → (st : List ℕ) → st ≡ painted (cornerHits w colours coords from end i) st
   unfolding cornerHits
-  miss l st = painted-none _ st (λ k. simp (le-ltb _ 2 (subst (λ (m : ℕ). 2 ≤ m) share l)))
+  miss l st = painted-none _ st (λ k. simp (sym corner ∙ l))
 
 any-same : (n : ℕ) (f g : ℕ → Bool) → ((j : ℕ) → j < n → f j ≡ g j) → any n f ≡ any n g
 unfolding any

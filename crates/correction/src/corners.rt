@@ -2,7 +2,7 @@
 ghost use mathlib.Core.Path.{_≡_};
 ghost use Prim.Native.Nat.{_+_, _-_, _*_, _/_, _%_, _<_, _≤_};
 ghost use mathlib.Core.Bool.{cond, _&&_};
-ghost use lib.Dec.{eqb};
+ghost use lib.Dec.{eqb, ltb};
 ghost use lib.ListN.{length, getD};
 ghost use Rattle.correction.specs.Corners as Corners;
 ghost use Rattle.correction.specs.Bounds.{Outlined, painted, spot, clip, cornerHits, contourHits};
@@ -63,6 +63,13 @@ fn shared(a: u8, b: u8) -> u8
     a % 2 * (b % 2) + a / 2 % 2 * (b / 2 % 2) + a / 4 % 2 * (b / 4 % 2)
 }
 
+// None or one shared bit is a corner.
+fn is_corner(a: u8, b: u8) -> bool
+    ensures { λ r. ⌜ r ≡ ltb (Corners.shared a b) 2 ⌝ }
+{
+    shared(a, b) < 2
+}
+
 // The segment before i, cyclic in the contour from `from` to `end`.
 fn previous(from: usize, end: usize, i: usize) -> usize
     requires { ⌜ (from ≤ i) × (i < end) ⌝ }
@@ -88,7 +95,7 @@ fn protect_corner(
     ensures { λ _. ⌜ now (stencil .exit) ≡ painted (cornerHits w (now (colours .entry)) (now (coords .entry)) from end i) (now (stencil .entry)) ⌝ }
 {
     let j = previous(from, end, i);
-    if shared(colours[j], colours[i]) < 2 {
+    if is_corner(colours[j], colours[i]) {
         mark_around(stencil, w, h, coords[2 * i], coords[2 * i + 1]);
     }
 }

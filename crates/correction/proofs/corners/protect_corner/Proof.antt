@@ -7,14 +7,14 @@ use Rattle.correction.proofs.corners.protect_corner.Tie as tie
 previous-requires : tie.Need-previous-requires
 previous-requires c κs = search needs
 
-shared-slice-read-shared : tie.Need-shared-slice-read-shared
-shared-slice-read-shared c = search needs
+shared-slice-read-is-corner : tie.Need-shared-slice-read-is-corner
+shared-slice-read-is-corner c = search needs
 
-shared-slice-read-shared-2 : tie.Need-shared-slice-read-shared-2
-shared-slice-read-shared-2 c = search needs
+shared-slice-read-is-corner-2 : tie.Need-shared-slice-read-is-corner-2
+shared-slice-read-is-corner-2 c = search needs
 
-shared-requires : tie.Need-shared-requires
-shared-requires c κs = search needs
+is-corner-requires : tie.Need-is-corner-requires
+is-corner-requires c κs = search needs
 
 mul-mark-around : tie.Need-mul-mark-around
 mul-mark-around c = search needs
@@ -47,19 +47,19 @@ returns : tie.Need-returns
 returns c =
     let m = c .before .before in
     let t = m .before .before .before .before in
-    hit _ _ _ _ _ _ _ _ (t .before .before .before .before .previous .ensures .0) (t .before .shared .ensures) (t .if1 .taken) _ _ (m .mark-around .ensures)
+    hit _ _ _ _ _ _ _ _ (t .before .before .before .before .previous .ensures .0) (t .before .is-corner .ensures) (t .if1 .taken) _ _ (m .mark-around .ensures)
 
 returns-2 : tie.Need-returns-2
-returns-2 c = miss _ _ _ _ _ _ _ _ (c .before .before .before .before .previous .ensures .0) (c .before .shared .ensures) (c .if1 .left) _
+returns-2 c = miss _ _ _ _ _ _ _ _ (c .before .before .before .before .previous .ensures .0) (c .before .is-corner .ensures) (c .if1 .left) _
 
 pub protect-corner-spec : {M : Type 1} → statement M
 protect-corner-spec =
     tie.close
     (tie.spec
     previous-requires
-    shared-slice-read-shared
-    shared-slice-read-shared-2
-    shared-requires
+    shared-slice-read-is-corner
+    shared-slice-read-is-corner-2
+    is-corner-requires
     mul-mark-around
     mul-mark-around-2
     shared-slice-read-mark-around
