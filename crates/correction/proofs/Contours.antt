@@ -16,10 +16,10 @@ use lib.ListN.{length, getD, drop, length-drop}
 use lib.Seq.{length-take-le, getD-take, getD-drop}
 use lib.Ieee.{Float, nan}
 use borrow.Author.Tests.{lt-ltb, le-ltb, eq-eqb, ne-eqb}
-use Rattle.correction.specs.Lists.{tab, any, some}
+use Rattle.ground.specs.Lists.{tab, any, some}
 use Rattle.correction.specs.Corners.{Segment, segmentAt, between, split, contours, before, shared, noSegment, lower, beside, isCorner, around, cornerAt, contourProtects, cornersProtect}
 use Rattle.correction.specs.Bounds.{Outlined, painted, cornerHits, contourHits}
-use Rattle.correction.proofs.Filled.{tab-length, tab-at}
+use Rattle.ground.proofs.Laws.Fill.{tab-length, tab-at}
 use Rattle.correction.proofs.Painted.{painted-same, painted-none}
 
 module _ (w : ℕ) (colours : List ℕ) (coords : List Float) (from end i j : ℕ) (b : Bool) (e : j ≡ cond (eqb i from) (end - 1) (i - 1)) (f : b ≡ ltb (shared (getD colours j 0) (getD colours i 0)) 2) where

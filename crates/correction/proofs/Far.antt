@@ -14,7 +14,7 @@ use Rattle.numbers.proofs.Laws.Monotone.{add-comm, add-mono-right}
 use Rattle.numbers.proofs.Laws.Exact.{add-zero-eq}
 use Rattle.correction.specs.Bitmap.{texelMedian}
 use Rattle.correction.specs.Edges.{near, pairProtects, protectsLower, protectsUpper, asLower, asUpper, someLower, someUpper, someEdge}
-use Rattle.correction.proofs.Implied.{holds, held}
+use Rattle.ground.proofs.Laws.Bools.{holds, held}
 
 -- how far a median is from the outline
 abbrev pub distance : Float → Float

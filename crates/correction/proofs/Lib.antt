@@ -1,12 +1,5 @@
 pub mod Laws
-mod Implied
-mod Connectives
-mod Tested
-mod Filled
 mod Places
-mod Any
-mod First
-mod Counts
 mod Painted
 mod Sweep
 mod Far

@@ -10,8 +10,8 @@ use lib.Dec.{eqb}
 use lib.ListN.{length, getD, set, length-set}
 use lib.Seq.{getD-set-same, getD-set-other, ext-getD}
 use borrow.Author.Tests.{eq-eqb, ne-eqb}
-use Rattle.correction.specs.Lists.{tab, any}
-use Rattle.correction.proofs.Filled.{tab-length, tab-at}
+use Rattle.ground.specs.Lists.{tab, any}
+use Rattle.ground.proofs.Laws.Fill.{tab-length, tab-at}
 use Rattle.correction.specs.Bounds.{painted}
 
 pub painted-length : (p : ℕ → Bool) (st : List ℕ) → length (painted p st) ≡ length st

@@ -19,8 +19,8 @@ use Rattle.correction.specs.declared.config.Settings.{Settings}
 use Rattle.correction.specs.Checks.{Input, sizeRefusal, badLength, settingsPlace, oversize, samplesPlace, badOutlines, endBefore, badEnd, endsPlace, badEnds, badSegment, segmentsPlace, outlineRefusal, refusalNumber}
 use Rattle.correction.specs.Bounds.{Outlined}
 use Rattle.correction.proofs.Ends.{before-next}
-use Rattle.correction.proofs.First.{first-past}
-use Rattle.correction.proofs.Tested.{both-hold, both-fail, cond-zero, cond-above}
+use Rattle.ground.proofs.Laws.Search.{first-past}
+use Rattle.ground.proofs.Laws.Bools.{both-hold, both-fail, cond-zero, cond-above}
 
 pub record Passed (i : Input) : Type 0 where
   pub sizes : sizeRefusal (i .width) (i .height) (i .channels) (length (i .samples)) (length (i .stencil)) ≡ 0

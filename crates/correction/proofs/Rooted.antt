@@ -11,9 +11,9 @@ use lib.ListN.{length, getD}
 use lib.Ieee.{Float, binary64}
 use Rattle.numbers.specs.Constants.{zeroOf}
 use Rattle.numbers.specs.Quadratic.{Listed}
-use Rattle.correction.specs.Lists.{any, some}
+use Rattle.ground.specs.Lists.{any, some}
 use Rattle.correction.specs.Bounds.{rootAt}
-use Rattle.correction.proofs.Any as Any
+use Rattle.ground.proofs.Laws.Search.{any-at}
 
 or-false : (a : Bool) → (a || false) ≡ a
 or-false true = refl
@@ -39,4 +39,4 @@ module _ (f : Float → Bool) (xs : List Float) (n : ℕ) (u v : Float) (h : len
   no-root k e p = rooted ∙ subst (λ (m : ℕ). any m (λ j. f (rootAt u v j)) ≡ false) e p
 
   pub a-root : (k : ℕ) → k < n → f (rootAt u v k) ≡ true → some f xs ≡ true
-  a-root k b p = rooted ∙ Any.some (λ j. f (rootAt u v j)) n k b p
+  a-root k b p = rooted ∙ any-at (λ j. f (rootAt u v j)) n k b p

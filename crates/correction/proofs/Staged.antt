@@ -14,17 +14,12 @@ use lib.Dec.{ltb}
 use lib.Seq.{ext-getD}
 use lib.Ieee.{Float, nan}
 use Rattle.correction.specs.declared.config.Settings.{Settings}
-use Rattle.correction.specs.Lists.{tab}
+use Rattle.ground.specs.Lists.{tab}
 use Rattle.correction.specs.Bitmap.{texel, stencilByte, isProtected, isError}
 use Rattle.correction.specs.Errors.{hasArtifact}
 use Rattle.correction.specs.Collapse.{cellMedian, collapsedSample, collapsed}
 use Rattle.correction.specs.Bounds.{marked, found}
-use Rattle.correction.proofs.Filled.{tab-length, tab-at}
-
-pub tab-same : {A : Type 0} (n : ℕ) (f g : ℕ → A) → ((k : ℕ) → k < n → f k ≡ g k) → tab n f ≡ tab n g
-unfolding tab
-tab-same zero f g h = refl
-tab-same (suc n) f g h = rw (h zero (zero-lt-suc n), tab-same n (λ k. f (suc k)) (λ k. g (suc k)) (λ k l. h (suc k) (suc-le-suc-iff .1 l)))
+use Rattle.ground.proofs.Laws.Fill.{tab-length, tab-at, tab-same}
 
 added-two : (e : Bool) → cond e (2 + 1) 2 ≡ 2 + cond e 1 0
 added-two true = refl

@@ -12,9 +12,9 @@ use native.Mathlib.Nat.{zero-mul, add-zero, le-refl}
 use native.Mathlib.Omega.{arith}
 use lib.ListN.{length, getD, set}
 use lib.Arith.{digits-div, digits-mod}
-use Rattle.correction.specs.Lists.{tab}
+use Rattle.ground.specs.Lists.{tab}
 use Rattle.correction.proofs.Places.{row-lt, next-row}
-use Rattle.correction.proofs.Filled.{Filled, filled-none, filled-more, filled-all}
+use Rattle.ground.proofs.Laws.Fill.{Filled, filled-none, filled-more, filled-all}
 
 -- what the loop leaves in cell k
 abbrev pub swept : (ℕ → ℕ → ℕ → ℕ) → ℕ → List ℕ → ℕ → ℕ

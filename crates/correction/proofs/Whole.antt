@@ -15,7 +15,7 @@ use lib.Ieee.{Float}
 use borrow.Author.Tests.{eq-eqb, ne-eqb}
 use Rattle.correction.specs.declared.pass.Answer.the-variants.{Accepted, Refused}
 use Rattle.correction.specs.declared.pass.Counts.{Counts}
-use Rattle.correction.specs.Lists.{tab}
+use Rattle.ground.specs.Lists.{tab}
 use Rattle.correction.specs.Bitmap.{texel, stencilByte, isError}
 use Rattle.correction.specs.Checks.{Input, accepted, refusalNumber, refusalPlace}
 use Rattle.correction.specs.Corners.{contours, cornersProtect}
@@ -24,9 +24,9 @@ use Rattle.correction.specs.Errors.{hasArtifact}
 use Rattle.correction.specs.Collapse.{collapsed}
 use Rattle.correction.specs.Bounds.{Sized, Outlined, painted, found}
 use Rattle.correction.specs.Pass.{texels, edgePriorityProtects, protects, flags, byteAt, passStencil, passSamples, countsOf, Answers, answer, stencilAfter, samplesAfter}
-use Rattle.correction.proofs.Filled.{tab-length, tab-at}
+use Rattle.ground.proofs.Laws.Fill.{tab-length, tab-at, tab-same}
 use Rattle.correction.proofs.Painted.{painted-then}
-use Rattle.correction.proofs.Staged.{tab-same, found-staged, error-staged, collapsed-same, collapsed-none}
+use Rattle.correction.proofs.Staged.{found-staged, error-staged, collapsed-same, collapsed-none}
 use Rattle.correction.proofs.Measures.{sizes, sized, cells}
 use Rattle.correction.proofs.Passed.{passed}
 use Rattle.correction.proofs.Laws.Answer.{as-answered}

@@ -9,7 +9,7 @@ use lib.IntN.{ℤ, pos, negsuc}
 use lib.Ieee.{Float, nan}
 use Rattle.numbers.specs.Select.{medianOf}
 use Rattle.correction.specs.declared.config.Settings.{Settings}
-use Rattle.correction.specs.Lists.{tab, any}
+use Rattle.ground.specs.Lists.{tab, any}
 use Rattle.correction.specs.Bitmap.{cell, texel, inBounds, isProtected}
 use Rattle.correction.specs.Corners.{shared, lower, beside}
 use Rattle.correction.specs.Errors.{hasArtifact}

@@ -7,7 +7,7 @@ use lib.Dec.{eqb, ltb, leb}
 use lib.Ieee.{Float, Format, binary32, binary64, nan, le, neg}
 use Rattle.numbers.specs.Constants.{zeroOf, limitOf}
 use Rattle.correction.specs.declared.config.Settings.{Settings}
-use Rattle.correction.specs.Lists.{first}
+use Rattle.ground.specs.Lists.{first}
 
 -- All that comes in.
 pub record Input : Type 0 where

@@ -6,7 +6,7 @@ use lib.ListN.{getD, length}
 use lib.Dec.{ltb}
 use lib.Ieee.{Float, nan}
 use Rattle.numbers.specs.Select.{medianOf}
-use Rattle.correction.specs.Lists.{tab}
+use Rattle.ground.specs.Lists.{tab}
 
 -- the median of the texel of cell k
 unfoldable pub cellMedian : List Float → ℕ → ℕ → Float

@@ -8,7 +8,7 @@ use lib.IntN.{ℤ, pos, negsuc}
 use lib.Ieee.{Float, nan, binary64, sub}
 use Rattle.numbers.specs.Constants.{halfOf}
 use Rattle.numbers.specs.Floor.{floorOf}
-use Rattle.correction.specs.Lists.{tab, any, some}
+use Rattle.ground.specs.Lists.{tab, any, some}
 
 -- a segment: its colour, and where it starts
 pub record Segment : Type 0 where

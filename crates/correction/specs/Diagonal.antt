@@ -8,7 +8,7 @@ use Rattle.numbers.specs.Constants.{zeroOf, oneOf, halfOf}
 use Rattle.numbers.specs.Select.{medianOf}
 use Rattle.numbers.specs.Narrow.{narrowOf}
 use Rattle.numbers.specs.Quadratic.{rootsOf}
-use Rattle.correction.specs.Lists.{any, some}
+use Rattle.ground.specs.Lists.{any, some}
 use Rattle.correction.specs.Bitmap.{channel, texelMedian}
 use Rattle.correction.specs.Range.{rangeTest}
 use Rattle.correction.specs.Linear.{guard, inside, next, difference}

@@ -6,7 +6,7 @@ use lib.Ieee.{Float, binary32, binary64, lt, eq, ne, add, sub, div}
 use Rattle.numbers.specs.Constants.{zeroOf, oneOf, halfOf}
 use Rattle.numbers.specs.Select.{absOf}
 use Rattle.correction.specs.declared.config.Settings.{Settings}
-use Rattle.correction.specs.Lists.{any}
+use Rattle.ground.specs.Lists.{any}
 use Rattle.correction.specs.Bitmap.{channel, texelMedian, inBounds}
 use Rattle.correction.specs.Settings.{radius}
 use Rattle.correction.specs.Linear.{mixedChannel, mixedMedian}

@@ -1,4 +1,3 @@
-pub mod Lists
 pub mod Bitmap
 pub mod Settings
 pub mod Checks

@@ -7,7 +7,7 @@ use lib.Ieee.{Float, binary32, binary64, lt, le, sub, div}
 use Rattle.numbers.specs.Constants.{zeroOf, oneOf, halfOf, epsilon, oneLessEpsilon}
 use Rattle.numbers.specs.Select.{medianOf, absOf}
 use Rattle.numbers.specs.Narrow.{mixOf}
-use Rattle.correction.specs.Lists.{any}
+use Rattle.ground.specs.Lists.{any}
 use Rattle.correction.specs.Bitmap.{channel, texelMedian}
 use Rattle.correction.specs.Range.{rangeTest}
 

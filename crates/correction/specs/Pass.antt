@@ -9,7 +9,7 @@ use lib.Ieee.{Float}
 use Rattle.correction.specs.declared.pass.Answer.{Answer}
 use Rattle.correction.specs.declared.pass.Answer.the-variants.{Accepted, Refused}
 use Rattle.correction.specs.declared.pass.Counts.{Counts}
-use Rattle.correction.specs.Lists.{tab, count}
+use Rattle.ground.specs.Lists.{tab, count}
 use Rattle.correction.specs.Bitmap.{texel, stencilByte, isProtected, isError}
 use Rattle.correction.specs.Settings.{disabled, edgePriority, edgeOnly}
 use Rattle.correction.specs.Checks.{Input, input, accepted, refusalNumber, refusalPlace}

@@ -3,7 +3,7 @@ ghost use mathlib.Core.Path.{_≡_};
 ghost use Prim.Native.Nat.{_<_};
 ghost use Rattle.numbers.specs.Quadratic.{Listed};
 ghost use Rattle.correction.specs.Diagonal as Diagonal;
-ghost use Rattle.correction.specs.Lists.{any};
+ghost use Rattle.ground.specs.Lists.{any};
 ghost use Rattle.correction.specs.Settings as Rules;
 ghost use Rattle.correction.specs.Bounds.{rootAt};
 use crate::bitmap;

@@ -4,7 +4,7 @@ ghost use Prim.Native.Nat.{_*_, _/_, _%_};
 ghost use mathlib.Core.Bool.{cond};
 ghost use lib.ListN.{length};
 ghost use Rattle.correction.specs.Checks.{input};
-ghost use Rattle.correction.specs.Lists.{tab};
+ghost use Rattle.ground.specs.Lists.{tab};
 ghost use Rattle.correction.specs.Pass as Pass;
 ghost use Rattle.correction.specs.Bounds.{Sized, Outlined};
 use crate::checks;

@@ -20,8 +20,8 @@ use Rattle.numbers.proofs.Laws.Median.{median-keeps}
 use Rattle.correction.specs.Checks.{Input, sizeRefusal, oversize, samplesPlace, refusalNumber, accepted}
 use Rattle.correction.specs.Collapse.{cellMedian, collapsedSample, collapsed}
 use Rattle.correction.specs.Pass.{flags, passSamples, stencilAfter, samplesAfter, fedBack, numberOf}
-use Rattle.correction.proofs.Filled.{tab-length, tab-at}
-use Rattle.correction.proofs.First.{first-is-end}
+use Rattle.ground.proofs.Laws.Fill.{tab-length, tab-at}
+use Rattle.ground.proofs.Laws.Search.{first-is-end}
 use Rattle.correction.proofs.Measures.{sizes}
 use Rattle.correction.proofs.Passed.{passed, stages}
 use Rattle.correction.proofs.pass.msdf_error_correction.Kinds.{ps}

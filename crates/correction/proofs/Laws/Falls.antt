@@ -20,7 +20,8 @@ use Rattle.correction.specs.Range.{fallsBelow, risesAbove, liesOutside, 
 use Rattle.correction.specs.Linear.{guard, inside, next, difference, crossing, linearAt, linearPair, linearPairs, hasLinearArtifact}
 use Rattle.correction.specs.Diagonal.{turningPoint, curveMedian, pairRoots, movedEnd, turningTest, rootTests, diagonalAt, diagonalPair, diagonalPairs, hasDiagonalArtifact}
 use Rattle.correction.specs.Errors.{sideArtifact, someSide, diagonalArtifact, someDiagonal, someArtifact, hasArtifact}
-use Rattle.correction.proofs.Implied.{holds, held, and-implies, or-implies, not-implies, cond-implies, any-implies, some-implies, four-imply}
+use Rattle.ground.proofs.Laws.Bools.{holds, held, and-implies, or-implies, not-implies, cond-implies, four-imply}
+use Rattle.ground.proofs.Laws.Search.{any-implies, some-implies}
 use Rattle.correction.proofs.Laws.Finite.{Weight, zero-weight, one-weight, strict-weight, inside-weight, Gap, gap}
 use Rattle.correction.proofs.Laws.Grows.{InLimits, Spans, side-span-grows, diagonal-span-grows}
 use Rattle.correction.specs.Stricter.{NoSmaller}

@@ -6,7 +6,7 @@ use Rattle.numbers.specs.Select.{minOf, maxOf, medianOf, absOf}
 use Rattle.numbers.specs.Narrow.{narrowOf, mixOf}
 use Rattle.numbers.specs.Root.{rootBy, root, rootOf, sqrtOf}
 use Rattle.numbers.specs.Quadratic.{isLinear, linearRoots, discriminant, upperRoot, lowerRoot, squareRoots, rootsOf}
-use Rattle.correction.specs.Lists.{tab, any, some, count, first}
+use Rattle.ground.specs.Lists.{tab, any, some, count, first}
 use Rattle.correction.specs.Bitmap.{texel, texelMedian, inBounds, stencilByte, isProtected, isError}
 use Rattle.correction.specs.Settings.{sideSpan, diagonalSpan, radius}
 use Rattle.correction.specs.Checks.{badChannels, badSide, sizeRefusal, badLength, settingsPlace, oversize, samplesPlace, badOutlines, endBefore, badEnd, endsPlace, badEnds, badSegment, segmentsPlace, outlineRefusal, refusalNumber, accepted}

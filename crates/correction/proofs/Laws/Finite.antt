@@ -22,7 +22,7 @@ use Rattle.correction.specs.Linear.{inside, mixedChannel, mixedMedian}
 use Rattle.correction.specs.Diagonal.{ofA, ofB, ofC, ofD, abc, linearTerm, squareTerm, curve, curveChannel, curveMedian}
 use Rattle.correction.specs.Pass.{texels}
 use borrow.Author.Tests.{eqb-true}
-use Rattle.correction.proofs.Tested.{both-hold}
+use Rattle.ground.proofs.Laws.Bools.{both-hold}
 use Rattle.correction.proofs.Measures.{sizes, lies}
 use Rattle.correction.proofs.Passed.{Passed, passed, length-bounds, size-bounds}
 use Rattle.correction.proofs.Places as places

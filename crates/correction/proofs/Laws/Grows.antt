@@ -12,7 +12,7 @@ use Rattle.numbers.proofs.Laws.Order as Order
 use Rattle.numbers.proofs.Laws.Order.{nought, finite}
 use Rattle.numbers.proofs.Laws.Monotone.{narrow-mono, mul-number, mul-mono, mul-mono-right}
 use Rattle.correction.specs.declared.config.Settings.{Settings}
-use Rattle.correction.specs.Lists.{any, some}
+use Rattle.ground.specs.Lists.{any, some}
 use Rattle.correction.specs.Bitmap.{inBounds}
 use Rattle.correction.specs.Settings.{edgePriority, edgeOnly, sideSpan, diagonalSpan, radius}
 use Rattle.correction.specs.Checks.{Input, badLength}
@@ -21,7 +21,7 @@ use Rattle.correction.specs.Edges.{near, extreme, pairProtects, protects
 use Rattle.correction.specs.Pass.{texels, edgePriorityProtects, protects}
 use Rattle.correction.specs.Stricter.{Outlines, NoSmaller, Stricter}
 use Rattle.correction.specs.Stricter.Outlines.{none, kept, added, skipped}
-use Rattle.correction.proofs.Implied.{holds, held, and-implies, or-implies, four-imply}
+use Rattle.ground.proofs.Laws.Bools.{holds, held, and-implies, or-implies, four-imply}
 use Rattle.correction.proofs.Passed.{length-bounds}
 use Rattle.correction.proofs.Laws.Finite.{Span, product-span}
 

@@ -26,7 +26,7 @@ use Rattle.numbers.proofs.Laws.Order as Order
 use Rattle.numbers.proofs.Laws.Order.{nought}
 use Rattle.correction.specs.declared.config.Settings.{Settings}
 use Rattle.correction.specs.declared.pass.Answer.{Answer}
-use Rattle.correction.specs.Lists.{count}
+use Rattle.ground.specs.Lists.{count}
 use Rattle.correction.specs.Bitmap.{isError}
 use Rattle.correction.specs.Settings.{disabled}
 use Rattle.correction.specs.Checks.{Input, badLength, accepted}
@@ -36,8 +36,8 @@ use Rattle.correction.specs.Collapse.{cellMedian, collapsed, collapsedSa
 use Rattle.correction.specs.Pass.{texels, protects, flags, passSamples, errorCount, numberOf, Answers, stencilAfter, samplesAfter}
 use Rattle.correction.specs.Stricter.{Outlines, Stricter, withRatio}
 use Rattle.correction.specs.Stricter.Outlines.{none, kept}
-use Rattle.correction.proofs.Implied.{and-implies}
-use Rattle.correction.proofs.Filled.{tab-at}
+use Rattle.ground.proofs.Laws.Bools.{and-implies}
+use Rattle.ground.proofs.Laws.Fill.{tab-at}
 use Rattle.correction.proofs.Passed.{passed}
 use Rattle.correction.proofs.Measures.{sizes}
 use Rattle.correction.proofs.pass.msdf_error_correction.Kinds.{ps}

@@ -4,7 +4,7 @@
 --     errors-alike             of what an accepted pass leaves in the stencil
 --     promise-neighbourhood    of two runs of the public function, by its promise
 use mathlib.Core.Path.{_≡_, refl, sym, _∙_, ap}
-use mathlib.Core.Bool.{Bool, true, false, _&&_, true≢false}
+use mathlib.Core.Bool.{Bool, true, false}
 use mathlib.Core.List.{List, [], _∷_}
 use Prim.Native.Nat.{ℕ, _+_, _-_, _*_, _<_, _≤_}
 use native.Mathlib.Nat.{mul-comm}
@@ -17,6 +17,7 @@ use denote.Ref.{now}
 use contract.Lifetimes.{Lfts}
 use borrow.Fn.Kinds.{Dens}
 use borrow.Author.Tests.{lt-ltb, le-leb}
+use Rattle.ground.proofs.Laws.Bools.{guarded}
 use Rattle.correction.specs.declared.config.Settings.{Settings}
 use Rattle.correction.specs.Bitmap.{cell, inBounds, isProtected, isError}
 use Rattle.correction.specs.Settings.{disabled, sideSpan, diagonalSpan}
@@ -31,13 +32,6 @@ use Rattle.correction.proofs.pass.msdf_error_correction.Kinds.{ps}
 use Rattle.correction.proofs.pass.msdf_error_correction.Reads as entry
 use Rattle.correction.proofs.Laws.Answer.{zero-accepts}
 use Rattle.correction.proofs.Laws.Leaves.{cell-error, cell-protected, given}
-
--- what stands behind a test matters only where the test holds
-guarded : (e e' f g : Bool) → e ≡ e' → (e ≡ true → f ≡ g) → (e && f) ≡ (e' && g)
-guarded true true f g p q = q refl
-guarded true false f g p q = absurd (true≢false p)
-guarded false true f g p q = absurd (true≢false (sym p))
-guarded false false f g p q = refl
 
 within : (w h nx ny : ℕ) → 0 < nx → nx ≤ w → 0 < ny → ny ≤ h → inBounds w h nx ny ≡ true
 unfolding inBounds

@@ -1,7 +1,7 @@
 -- `correction::checks::bad_end` meets its contract. Assumes nothing.
 use mathlib.Core.Path.{refl}
 use borrow.Author.Tests.{lt-ltb, le-ltb}
-use Rattle.correction.proofs.Connectives.{or-taken, or-left}
+use Rattle.ground.proofs.Laws.Bools.{or-taken, or-left}
 use Rattle.correction.proofs.checks.bad_end.Statement.{statement}
 use Rattle.correction.proofs.checks.bad_end.Tie as tie
 

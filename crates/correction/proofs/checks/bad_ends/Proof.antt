@@ -8,7 +8,7 @@ use denote.Ref.{now}
 use borrow.Author.Needs.{needs}
 use borrow.Author.Tests.{lt-ltb, le-ltb}
 use Rattle.correction.specs.Checks.{badEnds}
-use Rattle.correction.proofs.Connectives.{or-taken, or-left}
+use Rattle.ground.proofs.Laws.Bools.{or-taken, or-left}
 use Rattle.correction.proofs.checks.bad_ends.Statement.{statement}
 use Rattle.correction.proofs.checks.bad_ends.Tie as tie
 

@@ -9,11 +9,10 @@ use lib.Dec.{ltb}
 use lib.ListN.{length, getD}
 use denote.Ref.{now}
 use borrow.Author.Needs.{needs}
-use Rattle.correction.specs.Lists.{any}
+use Rattle.ground.specs.Lists.{any}
 use Rattle.correction.specs.Checks.{endBefore, badEnd, endsPlace}
-use Rattle.correction.proofs.Any.{none-zero, none-more}
+use Rattle.ground.proofs.Laws.Search.{none-zero, none-more, first-found, first-end}
 use Rattle.correction.proofs.Ends.{before-first, before-next}
-use Rattle.correction.proofs.First.{first-found, first-end}
 use Rattle.correction.proofs.checks.ends_place.Statement.{statement}
 use Rattle.correction.proofs.checks.ends_place.Tie as tie
 

@@ -8,10 +8,9 @@ use lib.ListN.{length, getD}
 use lib.Ieee.{Float, binary32, nan}
 use denote.Ref.{now}
 use borrow.Author.Needs.{needs}
-use Rattle.correction.specs.Lists.{any}
+use Rattle.ground.specs.Lists.{any}
 use Rattle.correction.specs.Checks.{oversize, samplesPlace}
-use Rattle.correction.proofs.Any.{none-zero, none-more}
-use Rattle.correction.proofs.First.{first-found, first-end}
+use Rattle.ground.proofs.Laws.Search.{none-zero, none-more, first-found, first-end}
 use Rattle.correction.proofs.checks.samples_place.Statement.{statement}
 use Rattle.correction.proofs.checks.samples_place.Tie as tie
 

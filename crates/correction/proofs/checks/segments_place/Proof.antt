@@ -6,10 +6,9 @@ use native.Mathlib.Omega.{arith}
 use lib.ListN.{length}
 use denote.Ref.{now}
 use borrow.Author.Needs.{needs}
-use Rattle.correction.specs.Lists.{any}
+use Rattle.ground.specs.Lists.{any}
 use Rattle.correction.specs.Checks.{badSegment, segmentsPlace}
-use Rattle.correction.proofs.Any.{none-zero, none-more}
-use Rattle.correction.proofs.First.{first-found, first-end}
+use Rattle.ground.proofs.Laws.Search.{none-zero, none-more, first-found, first-end}
 use Rattle.correction.proofs.checks.segments_place.Statement.{statement}
 use Rattle.correction.proofs.checks.segments_place.Tie as tie
 

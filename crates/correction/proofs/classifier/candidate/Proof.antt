@@ -1,6 +1,6 @@
 -- `correction::classifier::candidate` meets its contract. Assumes nothing.
 use Rattle.correction.specs.Range.{candidate}
-use Rattle.correction.proofs.Connectives.{or-taken, or-left}
+use Rattle.ground.proofs.Laws.Bools.{or-taken, or-left}
 use borrow.Author.Needs.{needs}
 use Rattle.correction.proofs.classifier.candidate.Statement.{statement}
 use Rattle.correction.proofs.classifier.candidate.Tie as tie

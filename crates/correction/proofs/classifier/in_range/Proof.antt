@@ -1,6 +1,6 @@
 -- `correction::classifier::in_range` meets its contract: a widened number is the number. Assumes nothing.
 use Rattle.correction.specs.Range.{inRange}
-use Rattle.correction.proofs.Connectives.{and-taken, and-left}
+use Rattle.ground.proofs.Laws.Bools.{and-taken, and-left}
 use borrow.Author.Needs.{needs}
 use Rattle.correction.proofs.classifier.in_range.Statement.{statement}
 use Rattle.correction.proofs.classifier.in_range.Tie as tie

@@ -2,7 +2,7 @@
 use mathlib.Core.Path.{ap}
 use mathlib.Core.Bool.{not}
 use Rattle.correction.specs.Range.{rangeTest}
-use Rattle.correction.proofs.Connectives.{and-taken, and-left}
+use Rattle.ground.proofs.Laws.Bools.{and-taken, and-left}
 use borrow.Author.Needs.{needs}
 use Rattle.correction.proofs.classifier.range_test.Statement.{statement}
 use Rattle.correction.proofs.classifier.range_test.Tie as tie

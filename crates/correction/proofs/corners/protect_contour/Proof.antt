@@ -8,7 +8,7 @@ use native.Mathlib.Omega.{arith}
 use lib.ListN.{length}
 use lib.Ieee.{Float}
 use denote.Ref.{now}
-use Rattle.correction.specs.Lists.{any}
+use Rattle.ground.specs.Lists.{any}
 use Rattle.correction.specs.Bounds.{painted, cornerHits, contourHits}
 use Rattle.correction.proofs.Painted.{painted-length, painted-zero, painted-more}
 use Rattle.correction.proofs.corners.protect_contour.Statement.{statement}

@@ -7,7 +7,7 @@ use native.Mathlib.Omega.{arith}
 use lib.ListN.{length, getD}
 use lib.Ieee.{Float}
 use denote.Ref.{now}
-use Rattle.correction.specs.Lists.{any}
+use Rattle.ground.specs.Lists.{any}
 use Rattle.correction.specs.Bounds.{painted, contourHits}
 use Rattle.correction.proofs.Painted.{painted-length, painted-zero, painted-more, painted-same}
 use Rattle.correction.proofs.Contours.{startAt, start-next, start-le, corners-at}

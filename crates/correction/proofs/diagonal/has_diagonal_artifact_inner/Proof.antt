@@ -9,10 +9,10 @@ use lib.Ieee.{Float}
 use borrow.Author.Needs.{needs}
 use Rattle.numbers.specs.Quadratic.{Listed}
 use Rattle.numbers.proofs.Laws.Quadratic.{at-most-two}
-use Rattle.correction.specs.Lists.{any}
+use Rattle.ground.specs.Lists.{any}
 use Rattle.correction.specs.Bounds.{rootAt}
 use Rattle.correction.specs.Diagonal.{quadraticRoots, pairRoots, diagonalAt, diagonalPair}
-use Rattle.correction.proofs.Any.{none-zero, none-more, some}
+use Rattle.ground.proofs.Laws.Search.{none-zero, none-more, any-at}
 use Rattle.correction.proofs.Rooted.{no-root, a-root}
 use Rattle.correction.proofs.diagonal.has_diagonal_artifact_inner.Statement.{statement}
 use Rattle.correction.proofs.diagonal.has_diagonal_artifact_inner.Tie as tie
@@ -87,7 +87,7 @@ returns c =
 returns-2 : tie.Need-returns-2 Inv-loop μ-loop Inv-pairs μ-pairs
 returns-2 c =
     let r = c .before .before .before .before .before in
-    sym (some _ 3 (r .before .before .pairs .p) (omega arith) (pair-some _ _ _ _ _ _ _ _ _ (r .pair-roots .ensures) (c .before .before .before .before .loop .k) (omega arith) (sym (rw (c .before .before .root-at .ensures) at (c .before .diagonal-at .ensures)) ∙ c .if2 .taken)))
+    sym (any-at _ 3 (r .before .before .pairs .p) (omega arith) (pair-some _ _ _ _ _ _ _ _ _ (r .pair-roots .ensures) (c .before .before .before .before .loop .k) (omega arith) (sym (rw (c .before .before .root-at .ensures) at (c .before .diagonal-at .ensures)) ∙ c .if2 .taken)))
 
 pub has-diagonal-artifact-inner-spec : {M : Type 1} → statement M
 has-diagonal-artifact-inner-spec =

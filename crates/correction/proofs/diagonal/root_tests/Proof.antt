@@ -1,7 +1,7 @@
 -- `correction::diagonal::root_tests` meets its contract. Assumes nothing.
 use borrow.Author.Needs.{needs}
 use Rattle.correction.specs.Diagonal.{rootTests}
-use Rattle.correction.proofs.Connectives.{or-taken, or-left}
+use Rattle.ground.proofs.Laws.Bools.{or-taken, or-left}
 use Rattle.correction.proofs.diagonal.root_tests.Statement.{statement}
 use Rattle.correction.proofs.diagonal.root_tests.Tie as tie
 

@@ -2,7 +2,7 @@
 use mathlib.Core.Path.{refl}
 use borrow.Author.Needs.{needs}
 use Rattle.correction.specs.Diagonal.{turningTest}
-use Rattle.correction.proofs.Connectives.{and-taken, and-left}
+use Rattle.ground.proofs.Laws.Bools.{and-taken, and-left}
 use Rattle.correction.proofs.diagonal.turning_test.Statement.{statement}
 use Rattle.correction.proofs.diagonal.turning_test.Tie as tie
 

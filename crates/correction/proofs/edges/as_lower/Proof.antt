@@ -1,7 +1,7 @@
 -- `correction::edges::as_lower` meets its contract. Assumes nothing.
 use mathlib.Core.Path.{sym, _∙_}
 use mathlib.Core.Bool.{and-false}
-use Rattle.correction.proofs.Connectives.{and-taken, and-left}
+use Rattle.ground.proofs.Laws.Bools.{and-taken, and-left}
 use Rattle.correction.proofs.Places.{inside}
 use Rattle.correction.proofs.Far.{far-lower}
 use borrow.Author.Needs.{needs}

@@ -1,6 +1,6 @@
 -- `correction::edges::edge_at` meets its contract. Assumes nothing.
 use mathlib.Core.Path.{refl}
-use Rattle.correction.proofs.Connectives.{and-taken, and-left}
+use Rattle.ground.proofs.Laws.Bools.{and-taken, and-left}
 use Rattle.correction.specs.Edges.{edgeAt}
 use borrow.Author.Needs.{needs}
 use Rattle.correction.proofs.edges.edge_at.Statement.{statement}

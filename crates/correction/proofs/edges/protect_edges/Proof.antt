@@ -7,7 +7,7 @@ use native.Mathlib.Omega.{arith}
 use lib.ListN.{length}
 use lib.Ieee.{Float}
 use Rattle.correction.specs.declared.config.Settings.{Settings}
-use Rattle.correction.specs.Lists.{tab}
+use Rattle.ground.specs.Lists.{tab}
 use Rattle.correction.specs.Bitmap.{texel}
 use Rattle.correction.specs.Settings.{radius}
 use Rattle.correction.specs.Edges.{someEdge, edgesProtect}

@@ -1,8 +1,8 @@
 -- `correction::edges::protect_extreme` meets its contract. Assumes nothing.
 use mathlib.Core.Path.{sym, _∙_}
-use Rattle.correction.proofs.Connectives.{and-taken, and-left, or-taken, or-left}
+use Rattle.ground.proofs.Laws.Bools.{and-taken, and-left, or-taken, or-left}
 use Rattle.correction.specs.Edges.{pairProtects}
-use Rattle.correction.proofs.Any.{any-three}
+use Rattle.ground.proofs.Laws.Search.{any-three}
 use borrow.Author.Needs.{needs}
 use Rattle.correction.proofs.edges.protect_extreme.Statement.{statement}
 use Rattle.correction.proofs.edges.protect_extreme.Tie as tie

@@ -1,6 +1,6 @@
 -- `correction::edges::reaches` meets its contract. Assumes nothing.
 use mathlib.Core.Path.{refl}
-use Rattle.correction.proofs.Connectives.{or-taken, or-left}
+use Rattle.ground.proofs.Laws.Bools.{or-taken, or-left}
 use Rattle.correction.proofs.edges.reaches.Statement.{statement}
 use Rattle.correction.proofs.edges.reaches.Tie as tie
 

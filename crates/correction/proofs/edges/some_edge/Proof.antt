@@ -2,7 +2,7 @@
 use mathlib.Core.Path.{sym, ap, _∙_}
 use Rattle.correction.specs.Bitmap.{texelMedian}
 use Rattle.correction.specs.Edges.{someEdge}
-use Rattle.correction.proofs.Connectives.{or-taken, or-left}
+use Rattle.ground.proofs.Laws.Bools.{or-taken, or-left}
 use Rattle.correction.proofs.Far.{distance, far-edge}
 use borrow.Author.Needs.{needs}
 use Rattle.correction.proofs.edges.some_edge.Statement.{statement}

@@ -1,7 +1,7 @@
 -- `correction::errors::side_artifact` meets its contract. Assumes nothing.
 use mathlib.Core.Path.{sym, _∙_}
 use Rattle.correction.specs.Errors.{sideArtifact}
-use Rattle.correction.proofs.Connectives.{and-taken, and-left}
+use Rattle.ground.proofs.Laws.Bools.{and-taken, and-left}
 use Rattle.correction.proofs.Places.{Inside, inside}
 use borrow.Author.Needs.{needs}
 use Rattle.correction.proofs.errors.side_artifact.Statement.{statement}

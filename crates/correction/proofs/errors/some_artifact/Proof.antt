@@ -1,6 +1,6 @@
 -- `correction::errors::some_artifact` meets its contract. Assumes nothing.
 use Rattle.correction.specs.Errors.{someArtifact}
-use Rattle.correction.proofs.Connectives.{or-taken, or-left}
+use Rattle.ground.proofs.Laws.Bools.{or-taken, or-left}
 use borrow.Author.Needs.{needs}
 use Rattle.correction.proofs.errors.some_artifact.Statement.{statement}
 use Rattle.correction.proofs.errors.some_artifact.Tie as tie

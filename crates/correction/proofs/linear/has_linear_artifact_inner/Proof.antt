@@ -2,7 +2,7 @@
 use borrow.Author.Needs.{needs}
 use mathlib.Core.Path.{ap, sym, subst, _∙_}
 use Rattle.correction.specs.Linear.{inside, linearAt}
-use Rattle.correction.proofs.Connectives.{and-taken, and-left}
+use Rattle.ground.proofs.Laws.Bools.{and-taken, and-left}
 use Rattle.correction.proofs.linear.has_linear_artifact_inner.Statement.{statement}
 use Rattle.correction.proofs.linear.has_linear_artifact_inner.Tie as tie
 

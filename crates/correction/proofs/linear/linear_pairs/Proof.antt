@@ -2,8 +2,8 @@
 use borrow.Author.Needs.{needs}
 use mathlib.Core.Path.{sym, _∙_}
 use Rattle.correction.specs.Linear.{linearPair, linearPairs}
-use Rattle.correction.proofs.Connectives.{and-taken, and-left, or-taken, or-left}
-use Rattle.correction.proofs.Any.{any-three}
+use Rattle.ground.proofs.Laws.Bools.{and-taken, and-left, or-taken, or-left}
+use Rattle.ground.proofs.Laws.Search.{any-three}
 use Rattle.correction.proofs.linear.linear_pairs.Statement.{statement}
 use Rattle.correction.proofs.linear.linear_pairs.Tie as tie
 

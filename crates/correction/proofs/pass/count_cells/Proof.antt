@@ -5,10 +5,10 @@ use Prim.Native.Nat.{ℕ, _+_, _-_, _/_, _%_, _≤_}
 use native.Mathlib.Nat.{le-antisymm}
 use native.Mathlib.Omega.{arith}
 use lib.ListN.{length, getD}
-use Rattle.correction.specs.Lists.{count}
+use Rattle.ground.specs.Lists.{count}
 use Rattle.correction.specs.Bitmap.{isProtected, isError}
 use Rattle.correction.specs.Pass.{protectedCount, errorCount}
-use Rattle.correction.proofs.Counts.{none-counted, one-more, count-small}
+use Rattle.ground.proofs.Laws.Count.{none-counted, one-more, count-small}
 use Rattle.correction.proofs.pass.count_cells.Statement.{statement}
 use Rattle.correction.proofs.pass.count_cells.Tie as tie
 

@@ -3,7 +3,7 @@ use mathlib.Core.Path.{refl}
 use Prim.Native.Nat.{_-_}
 use native.Mathlib.Omega.{arith}
 use lib.ListN.{length}
-use Rattle.correction.proofs.Filled.{Filled, filled-none, filled-more, filled-all}
+use Rattle.ground.proofs.Laws.Fill.{Filled, filled-none, filled-more, filled-all}
 use Rattle.correction.proofs.pass.fill.Statement.{statement}
 use Rattle.correction.proofs.pass.fill.Tie as tie
 

@@ -1,12 +1,17 @@
--- A loop that goes through a list from the front and leaves f k at each index k: after k turns st is st₀ with its first k elements given by f. Assumes nothing.
---     filled-none   before the first turn
---     filled-more   a store of f k at k
---     filled-kept   no store at k, where st₀ has f k already
---     filled-all    at the end the list is `tab (length st₀) f`
+-- The list that is given by what stands at each index, and a loop that goes through a list from the front and leaves f k at each index k. Assumes nothing.
+--     tab-length, tab-at   how long it is, and what stands in it
+--     tab-same             two that agree at each index
+--     Filled               after k turns st is st₀ with its first k elements given by f
+--     filled-none          before the first turn
+--     filled-more          a store of f k at k
+--     filled-kept          no store at k, where st₀ has f k already
+--     filled-run           no store from k up to m, where st₀ has f there already
+--     filled-at            the same with the index written another way
+--     filled-all           at the end the list is `tab (length st₀) f`
 use mathlib.Core.Path.{_≡_, refl, sym, _∙_, subst}
 use mathlib.Core.List.{List, [], _∷_}
 use Prim.Native.Nat.{ℕ, zero, suc, _+_, _<_, _≤_}
-use native.Mathlib.Nat.{le-trans, le-refl, le-of-lt, lt-of-lt-of-le, ne-of-lt, ne-of-gt, not-suc-le-zero, le-of-suc-le-suc}
+use native.Mathlib.Nat.{le-trans, le-refl, le-of-lt, lt-of-lt-of-le, ne-of-lt, ne-of-gt, not-suc-le-zero, le-of-suc-le-suc, zero-lt-suc, suc-le-suc-iff}
 use native.Mathlib.Numerals.{lt-add-one}
 use native.Mathlib.Decide.{decLt}
 use native.Mathlib.Omega.{arith}
@@ -14,7 +19,7 @@ use mathlib.Core.Logic.{dite}
 use lib.ListN.{length, getD, set, length-set}
 use lib.Seq.{getD-set-same, getD-set-other, ext-getD}
 use borrow.Author.Count.{below-none, below-more}
-use Rattle.correction.specs.Lists.{tab}
+use Rattle.ground.specs.Lists.{tab}
 
 pub record Filled {A : Type 0} (d : A) (f : ℕ → A) (st₀ : List A) (k : ℕ) (st : List A) : Type 0 where
   pub len : length st ≡ length st₀
@@ -31,6 +36,11 @@ unfolding tab
 tab-at zero f i d p = absurd (not-suc-le-zero p)
 tab-at (suc n) f zero d p = refl
 tab-at (suc n) f (suc i) d p = tab-at n (λ k. f (suc k)) i d (le-of-suc-le-suc p)
+
+pub tab-same : {A : Type 0} (n : ℕ) (f g : ℕ → A) → ((k : ℕ) → k < n → f k ≡ g k) → tab n f ≡ tab n g
+unfolding tab
+tab-same zero f g h = refl
+tab-same (suc n) f g h = rw (h zero (zero-lt-suc n), tab-same n (λ k. f (suc k)) (λ k. g (suc k)) (λ k l. h (suc k) (suc-le-suc-iff .1 l)))
 
 module _ {A : Type 0} (d : A) (f : ℕ → A) (st₀ : List A) where
   pub filled-none : Filled d f st₀ 0 st₀

@@ -1,11 +1,14 @@
--- A loop that counts: none-counted before the first turn, one-more after a turn that adds a bit, and count-small for its sums. Assumes nothing.
+-- A loop that counts. Assumes nothing.
+--     none-counted   before the first turn
+--     one-more       after a turn that adds a bit
+--     count-small    so many at most
 use mathlib.Core.Path.{_≡_, refl, ap}
 use mathlib.Core.Bool.{Bool, true, false, cond}
 use Prim.Native.Nat.{ℕ, zero, suc, _+_, _<_, _≤_}
 use native.Mathlib.Omega.{arith}
 use native.Mathlib.Numerals.{add-one}
 use lib.Dec.{eqb}
-use Rattle.correction.specs.Lists.{count}
+use Rattle.ground.specs.Lists.{count}
 
 pub none-counted : (f : ℕ → Bool) → count 0 f ≡ 0
 unfolding count

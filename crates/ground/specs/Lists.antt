@@ -1,12 +1,17 @@
--- Lists by what stands at each index, and tests over the numbers below one. Definitions only.
+-- Lists by what stands at each index or piece, and tests over the numbers below one. Definitions only.
 use Prim.Native.Nat.{ℕ, zero, suc, _+_}
 use mathlib.Core.Bool.{Bool, true, false, _||_, cond}
-use mathlib.Core.List.{List, [], _∷_}
+use mathlib.Core.List.{List, [], _∷_, _++_}
 
 -- the list of f 0 .. f (n - 1)
 unfoldable pub tab : {A : Type 0} → ℕ → (ℕ → A) → List A
 tab zero f = []
 tab (suc n) f = let h = f zero in h ∷ tab n (λ k. f (suc k))
+
+-- the pieces f 0 .. f (n - 1), one after the other
+unfoldable pub joined : {A : Type 0} → ℕ → (ℕ → List A) → List A
+joined zero f = []
+joined (suc n) f = joined n f ++ f n
 
 -- the test holds of some number below n
 unfoldable pub any : ℕ → (ℕ → Bool) → Bool

@@ -1,0 +1,113 @@
+-- Searches over the numbers below n, in order, and over a list. Assumes nothing.
+--     none-zero      before the first turn none has passed
+--     none-more      the test fails at k
+--     any-at         the test holds at a k below n
+--     any-three      the three tests, in order
+--     any-implies    where a test holds of some number another does
+--     some-implies   the same over a list
+--     none-below     where no number below n passes, each fails
+--     first-found    the search stops at i
+--     first-none     the search passes all
+--     first-is-end   the same, where each fails
+--     first-end      the same, as a loop leaves it
+--     first-le       the answer is at most n
+--     first-past     where the answer is not below n, each fails
+use mathlib.Core.Path.{_≡_, refl, sym, _∙_, ap, subst}
+use mathlib.Core.Bool.{Bool, true, false, cond, _||_, true≢false}
+use mathlib.Core.List.{List, [], _∷_}
+use mathlib.Core.Logic.{⊎-elim}
+use Prim.Native.Nat.{ℕ, zero, suc, _+_, _<_, _≤_}
+use native.Mathlib.Nat.{not-suc-le-zero, le-of-suc-le-suc, eq-or-lt-of-le, le-refl, le-antisymm}
+use native.Mathlib.Numerals.{add-one}
+use native.Mathlib.Omega.{arith}
+use Rattle.ground.specs.Lists.{any, some, first}
+use Rattle.ground.proofs.Laws.Bools.{or-implies}
+
+or-true : (b : Bool) → (b || true) ≡ true
+or-true true = refl
+or-true false = refl
+
+pub none-zero : (f : ℕ → Bool) → any 0 f ≡ false
+unfolding any
+none-zero f = refl
+
+pub none-more : (f : ℕ → Bool) (k : ℕ) → any k f ≡ false → f k ≡ false → any (k + 1) f ≡ false
+unfolding any
+none-more f k p q = rw (add-one, p, q)
+
+pub any-at : (f : ℕ → Bool) (n k : ℕ) → k < n → f k ≡ true → any n f ≡ true
+unfolding any
+any-at f zero k l p = absurd (not-suc-le-zero l)
+any-at f (suc n) k l p = ⊎-elim (λ e. rw (← e, p) (or-true (any k f))) (λ b. rw (any-at f n k b p)) (eq-or-lt-of-le (le-of-suc-le-suc l))
+
+or-assoc : (a b c : Bool) → (((false || a) || b) || c) ≡ (a || (b || c))
+or-assoc true b c = refl
+or-assoc false b c = refl
+
+pub any-three : (f : ℕ → Bool) → any 3 f ≡ (f 0 || (f 1 || f 2))
+unfolding any
+any-three f = or-assoc (f 0) (f 1) (f 2)
+
+pub any-implies : (n : ℕ) (f g : ℕ → Bool) → ((k : ℕ) → f k ≡ true → g k ≡ true) → any n f ≡ true → any n g ≡ true
+unfolding any
+any-implies zero f g h p = p
+any-implies (suc n) f g h p = or-implies (any n f) (f n) (any n g) (g n) (any-implies n f g h) (h n) p
+
+pub some-implies : {A : Type 0} (f g : A → Bool) → ((x : A) → f x ≡ true → g x ≡ true) → (xs : List A) → some f xs ≡ true → some g xs ≡ true
+unfolding some
+some-implies f g h [] p = p
+some-implies f g h (x ∷ xs) p = or-implies (f x) (some f xs) (g x) (some g xs) (h x) (some-implies f g h xs) p
+
+fails : (f : ℕ → Bool) (n k : ℕ) (b : Bool) → f k ≡ b → any n f ≡ false → k < n → b ≡ false
+fails f n k true e p l = absurd (true≢false (sym (any-at f n k l e) ∙ p))
+fails f n k false e p l = refl
+
+pub none-below : (f : ℕ → Bool) (n : ℕ) → any n f ≡ false → (k : ℕ) → k < n → f k ≡ false
+none-below f n p k l = fails f n k (f k) refl p l
+
+found : (f : ℕ → Bool) (n i : ℕ) → ((k : ℕ) → k < i → f k ≡ false) → i < n → f i ≡ true → first n f ≡ i
+unfolding first
+found f zero i h l p = absurd (not-suc-le-zero l)
+found f (suc n) zero h l p = rw p
+found f (suc n) (suc i) h l p =
+    rw (h 0 (omega arith), found (λ k. f (suc k)) n i (λ k b. h (suc k) (omega arith)) (le-of-suc-le-suc l) p)
+
+past : (f : ℕ → Bool) (n : ℕ) → ((k : ℕ) → k < n → f k ≡ false) → first n f ≡ n
+unfolding first
+past f zero h = refl
+past f (suc n) h = rw (h 0 (omega arith), past (λ k. f (suc k)) n (λ k b. h (suc k) (omega arith)))
+
+-- where each fails the answer is n
+pub first-is-end : (f : ℕ → Bool) (n : ℕ) → ((k : ℕ) → k < n → f k ≡ false) → first n f ≡ n
+first-is-end f n h = past f n h
+
+pub first-found : (f : ℕ → Bool) (n i : ℕ) → any i f ≡ false → i < n → f i ≡ true → first n f ≡ i
+first-found f n i p l q = found f n i (none-below f i p) l q
+
+pub first-none : (f : ℕ → Bool) (n : ℕ) → any n f ≡ false → first n f ≡ n
+first-none f n p = past f n (none-below f n p)
+
+pub first-end : (f : ℕ → Bool) (n i : ℕ) → any i f ≡ false → i ≤ n → n ≤ i → first n f ≡ i
+first-end f n i p a b =
+    let e : i ≡ n = le-antisymm a b in
+    first-none f n (subst (λ (k : ℕ). any k f ≡ false) e p) ∙ sym e
+
+cond-le : (b : Bool) (m n : ℕ) → m ≤ n → cond b 0 (suc m) ≤ suc n
+cond-le true m n l = omega arith
+cond-le false m n l = omega arith
+
+pub first-le : (f : ℕ → Bool) (n : ℕ) → first n f ≤ n
+unfolding first
+first-le f zero = le-refl 0
+first-le f (suc n) = cond-le (f 0) (first n (λ k. f (suc k))) n (first-le (λ k. f (suc k)) n)
+
+cond-past : (b : Bool) (m n : ℕ) → suc n ≤ cond b 0 (suc m) → (b ≡ false) × (n ≤ m)
+cond-past true m n l = absurd (not-suc-le-zero l)
+cond-past false m n l = (refl, le-of-suc-le-suc l)
+
+pub first-past : (f : ℕ → Bool) (n : ℕ) → n ≤ first n f → (k : ℕ) → k < n → f k ≡ false
+unfolding first
+first-past f zero l k b = absurd (not-suc-le-zero b)
+first-past f (suc n) l zero b = cond-past (f 0) (first n (λ k. f (suc k))) n l .0
+first-past f (suc n) l (suc k) b =
+    first-past (λ k. f (suc k)) n (cond-past (f 0) (first n (λ k. f (suc k))) n l .1) k (le-of-suc-le-suc b)
