@@ -6,5 +6,6 @@ pub mod Bounds
 pub mod Median
 pub mod Floor
 pub mod Root
+pub mod Nearest
 pub mod Quadratic
 pub mod Alike

@@ -11,3 +11,4 @@ mod Start
 mod Rooting
 mod Differences
 mod Held
+mod Multiples
