@@ -7,5 +7,6 @@ pub mod Median
 pub mod Floor
 pub mod Root
 pub mod Nearest
+pub mod Constants
 pub mod Quadratic
 pub mod Alike

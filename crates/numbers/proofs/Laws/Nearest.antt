@@ -2,20 +2,21 @@
 use mathlib.Core.Path.{_≡_, refl, sym, ap, _∙_, subst}
 use mathlib.Core.Logic.{_≢_, _⊎_, inl, inr}
 use Prim.Native.Nat.{ℕ, zero, suc, _+_, _-_, _*_, _/_, _%_, _^_, _≤_, _<_, compare}
-use native.Mathlib.Nat.{le-trans, le-of-eq, le-antisymm, lt-of-lt-of-le, lt-of-le-of-lt, not-le-of-lt, lt-irrefl, zero-lt-suc, eq-zero-or-pos, le-dest, add-assoc, mul-one, mul-assoc, mul-comm, mul-right-comm, mul-pos, mul-le-mul-right, le-of-mul-le-mul-right, eq-of-mul-eq-mul-right, pow-succ'}
+use native.Mathlib.Nat.{le-trans, le-of-eq, le-of-lt, le-antisymm, lt-of-lt-of-le, lt-of-le-of-lt, not-le-of-lt, lt-irrefl, zero-lt-suc, eq-zero-or-pos, le-dest, add-assoc, mul-one, mul-assoc, mul-comm, mul-right-comm, mul-pos, mul-le-mul-right, le-of-mul-le-mul-right, eq-of-mul-eq-mul-right, pow-succ'}
 use native.Mathlib.Omega.{arith}
-use mathlib.Core.Bool.{Bool, true, false, not, cond}
+use mathlib.Core.Bool.{Bool, true, false, not, _&&_, Bool·beq, cond}
 use lib.IntN.{ℤ, pos}
-use lib.Dec.{T, ltb, ltb→lt, nltb→le, lit≤}
+use lib.Dec.{T, ltb, eqb, ltb→lt, nltb→le, lit≤, eqb·suc-zero}
 use lib.Pow.{pow-add, pow-pos}
-use lib.Ieee.{Float, nan, inf, fin, Format, binary32, binary64, prec, emax, low, up, down, size, odd, units, round, neg, le, fits, hid, ones, top, toBits}
+use lib.Ieee.{Float, nan, inf, fin, Format, binary32, binary64, prec, emax, low, up, down, size, odd, unlike, units, round, sum, add, sub, mul, div, neg, le, fits, hid, ones, top, toBits}
 use lib.Ieee.Fits.{two, two-le-pos, up-pos, down-pos, round-fits, round-is as round-opens}
 use lib.Ieee.Exact.{HasValue, odd-sign}
 use lib.Ieee.Nearest.{nearest-ge}
 use lib.Ieee.Order.{round-mono, transfer}
-use Rattle.numbers.specs.Nearest.{apart, distance, middle, Even, Closest, Nearest}
+use Rattle.numbers.specs.Narrow.{narrowOf}
+use Rattle.numbers.specs.Nearest.{apart, distance, middle, Closest, Nearest, sumSize, sumSign}
 use Rattle.numbers.proofs.Compared.{le-or-lt}
-use Rattle.numbers.proofs.Differences.{Signed, round-signed, round-neg}
+use Rattle.numbers.proofs.Differences.{plus, minus, Signed, round-signed, round-neg}
 use Rattle.numbers.proofs.Held.{held, count, value-unique}
 use Rattle.numbers.proofs.Multiples.{zeros, whole, chosen, whole-lt, whole-ge, chosen-le, Other, Beside, best-number, overflows}
 use Rattle.numbers.proofs.Patterns.{toBits-val, written, written-is}
@@ -259,3 +260,92 @@ round-is f s num den (fin t n d) D h =
 -- No two values are nearest to one fraction.
 pub nearest-only : (f : Format) (s : Bool) (num den : ℕ) (x y : Float) → 0 < den → Nearest f s num den x → Nearest f s num den y → x ≡ y
 nearest-only f s num den x y D p q = sym (round-is f s num den x D p) ∙ round-is f s num den y D q
+
+-- ---- narrowing and the operations, of finite values
+-- A value narrowed is the binary32 value nearest to it.
+pub narrow-nearest : (s : Bool) (m : ℕ) (e : ℤ) → Nearest binary32 s (m * up e) (down e) (narrowOf (fin s m e))
+unfolding narrowOf
+narrow-nearest s m e = round-nearest binary32 s (m * up e) (down e) (down-pos e)
+
+-- ±r is ±a + ±b, and the sum rounded is ±r rounded
+record Summed (f : Format) (v : Float) (s : Bool) (a : ℕ) (t : Bool) (b c : ℕ) (u : Bool) (r : ℕ) : Type 0 where
+  is : v ≡ round f u r c
+  value : plus u r + minus s a + minus t b ≡ minus u r + plus s a + plus t b
+
+-- by the order of the two sizes
+by-order : (a b : ℕ) (P : Bool → Bool → Type 0) → (a < b → P true false) → (b < a → P false true) → (a ≡ b → P false false) → P (ltb a b) (ltb b a)
+by-order a b P l g e = go (ltb a b) (ltb→lt a b) (nltb→le a b) (ltb b a) (ltb→lt b a) (nltb→le b a)
+  where
+    go : (x : Bool) → (T x → a < b) → (T (not x) → b ≤ a) → (y : Bool) → (T y → b < a) → (T (not y) → a ≤ b) → P x y
+    go true h k true h' k' = absurd (lt-irrefl a (le-trans (h tt) (le-of-lt (h' tt))))
+    go true h k false h' k' = l (h tt)
+    go false h k true h' k' = g (h' tt)
+    go false h k false h' k' = e (le-antisymm (k' tt) (k tt))
+
+summed : (f : Format) (s : Bool) (a : ℕ) (t : Bool) (b c : ℕ) → Summed f (sum f s a t b c) s a t b c (sumSign s a t b) (sumSize s a t b)
+unfolding sum
+summed f s a t b c =
+    by-order a b
+    (λ x y. Summed f (cond (Bool·beq s t) (round f s (a + b) c) (cond x (round f t (b - a) c) (round f (s && y) (a - b) c))) s a t b c (cond x t (cond y s (s && t))) (sumSize s a t b))
+    (less s t) (more s t) (same s t)
+  where
+    size : (x y : ℕ) (u : Bool) → x ≡ y → round f u x c ≡ round f u y c
+    size x y u e = ap (λ (z : ℕ). round f u z c) e
+
+    less : (s t : Bool) → a < b → Summed f (cond (Bool·beq s t) (round f s (a + b) c) (round f t (b - a) c)) s a t b c t (sumSize s a t b)
+    less true true l = record { is = refl; value = omega arith }
+    less false false l = record { is = refl; value = omega arith }
+    less true false l = record { is = size (b - a) (apart a b) false (omega arith); value = omega arith }
+    less false true l = record { is = size (b - a) (apart a b) true (omega arith); value = omega arith }
+
+    more : (s t : Bool) → b < a → Summed f (cond (Bool·beq s t) (round f s (a + b) c) (round f (s && true) (a - b) c)) s a t b c s (sumSize s a t b)
+    more true true l = record { is = refl; value = omega arith }
+    more false false l = record { is = refl; value = omega arith }
+    more true false l = record { is = size (a - b) (apart a b) true (omega arith); value = omega arith }
+    more false true l = record { is = size (a - b) (apart a b) false (omega arith); value = omega arith }
+
+    same : (s t : Bool) → a ≡ b → Summed f (cond (Bool·beq s t) (round f s (a + b) c) (round f (s && false) (a - b) c)) s a t b c (s && t) (sumSize s a t b)
+    same true true e = record { is = refl; value = omega arith }
+    same false false e = record { is = refl; value = omega arith }
+    same true false e = record { is = size (a - b) (apart a b) false (omega arith); value = omega arith }
+    same false true e = record { is = size (a - b) (apart a b) false (omega arith); value = omega arith }
+
+-- The sign and the size that `sumSign` and `sumSize` give are those of the exact sum.
+pub sum-exact : (s : Bool) (a : ℕ) (t : Bool) (b : ℕ)
+    → plus (sumSign s a t b) (sumSize s a t b) + minus s a + minus t b ≡ minus (sumSign s a t b) (sumSize s a t b) + plus s a + plus t b
+sum-exact s a t b = summed binary64 s a t b 1 .value
+
+-- A sum is the value nearest to the exact one.
+pub add-nearest : (f : Format) (s : Bool) (m : ℕ) (e : ℤ) (t : Bool) (n : ℕ) (d : ℤ)
+    → let a = m * up e * down d in
+    let b = n * up d * down e in
+    Nearest f (sumSign s a t b) (sumSize s a t b) (down e * down d) (add f (fin s m e) (fin t n d))
+unfolding add
+add-nearest f s m e t n d =
+    let a = m * up e * down d in
+    let b = n * up d * down e in
+    let c = down e * down d in
+    subst (Nearest f (sumSign s a t b) (sumSize s a t b) c) (sym (summed f s a t b c .is)) (round-nearest f (sumSign s a t b) (sumSize s a t b) c (mul-pos (down-pos e) (down-pos d)))
+
+-- A difference is the value nearest to the exact one, the sum with the other sign.
+pub sub-nearest : (f : Format) (s : Bool) (m : ℕ) (e : ℤ) (t : Bool) (n : ℕ) (d : ℤ)
+    → let a = m * up e * down d in
+    let b = n * up d * down e in
+    Nearest f (sumSign s a (not t) b) (sumSize s a (not t) b) (down e * down d) (sub f (fin s m e) (fin t n d))
+unfolding sub neg
+sub-nearest f s m e t n d = add-nearest f s m e (not t) n d
+
+-- A product is the value nearest to the exact one.
+pub mul-nearest : (f : Format) (s : Bool) (m : ℕ) (e : ℤ) (t : Bool) (n : ℕ) (d : ℤ)
+    → Nearest f (unlike s t) (m * up e * (n * up d)) (down e * down d) (mul f (fin s m e) (fin t n d))
+unfolding mul
+mul-nearest f s m e t n d = round-nearest f (unlike s t) (m * up e * (n * up d)) (down e * down d) (mul-pos (down-pos e) (down-pos d))
+
+-- A quotient by a value that is not zero is the value nearest to the exact one.
+pub div-nearest : (f : Format) (s : Bool) (m : ℕ) (e : ℤ) (t : Bool) (n : ℕ) (d : ℤ) → 0 < n
+    → Nearest f (unlike s t) (m * up e * down d) (n * up d * down e) (div f (fin s m e) (fin t n d))
+unfolding div
+div-nearest f s m e t zero d h = absurd (lt-irrefl 0 h)
+div-nearest f s m e t (suc n) d h =
+    subst (λ (b : Bool). Nearest f (unlike s t) (m * up e * down d) (suc n * up d * down e) (cond b (cond (eqb m 0) nan (inf (unlike s t))) (round f (unlike s t) (m * up e * down d) (suc n * up d * down e))))
+    (sym (eqb·suc-zero n)) (round-nearest f (unlike s t) (m * up e * down d) (suc n * up d * down e) (mul-pos (mul-pos h (up-pos d)) (down-pos e)))
