@@ -12,3 +12,4 @@ mod Rooting
 mod Differences
 mod Held
 mod Multiples
+mod Distances

@@ -2,14 +2,15 @@
 use mathlib.Core.Path.{_≡_, refl, sym, ap, _∙_, subst}
 use mathlib.Core.Logic.{_⊎_, inl, inr}
 use Prim.Native.Nat.{ℕ, zero, suc, _+_, _-_, _*_, _/_, _%_, _^_, _≤_, _<_, compare, Ordering, Ordering·lt, Ordering·eq, Ordering·gt}
-use native.Mathlib.Nat.{le-trans, le-of-eq, le-of-lt, le-antisymm, le-dest, lt-of-lt-of-le, lt-irrefl, div-add-mod', div-mul-le-self, mod-lt, mul-pos, mul-le-mul-right, le-of-mul-le-mul-right, mul-lt-mul-of-pos-right, div-div-eq-div-mul, le-div-iff-mul-le, div-lt-iff-lt-mul}
+use native.Mathlib.Nat.{le-trans, le-of-eq, le-of-lt, le-antisymm, le-dest, lt-of-lt-of-le, lt-of-le-of-lt, lt-irrefl, div-add-mod', div-mul-le-self, mod-lt, mul-pos, mul-le-mul, mul-le-mul-right, lt-of-mul-lt-mul-right, le-of-mul-le-mul-right, mul-lt-mul-of-pos-right, div-div-eq-div-mul, le-div-iff-mul-le, div-lt-iff-lt-mul}
 use native.Mathlib.Omega.{arith}
 use lib.Arith.{add-le-cancel-left}
-use lib.Pow.{pow-add, pow-pos, pow-mono, shl-lt}
+use lib.Pow.{pow-add, pow-pos, pow-mono, shl-lt, le-ones}
 use lib.Ieee.{size, nearest}
 use lib.Ieee.Digits.{size-reaches, size-le}
 use lib.Ieee.Fits.{kept-lt, nearest-le}
 use lib.Ieee.Nearest.{closest}
+use lib.Ieee.Order.{drop, kept}
 use Rattle.numbers.specs.Nearest.{apart}
 use Rattle.numbers.proofs.Compared.{Cmp, cmp, le-or-lt}
 use Rattle.numbers.proofs.Patterns.{shifted, pow-le-back}
@@ -35,6 +36,7 @@ pub record Best (n u q w j : ℕ) : Type 0 where
   pub near : apart n (w * u) ≤ apart n (j * u)
   pub same : apart n (w * u) ≡ apart n (j * u) → (j ≡ w) ⊎ Other q w j
 
+-- no units are no steps
 none : (i u : ℕ) → 0 < u → i * u ≡ 0 → i ≡ 0
 none zero u U e = refl
 none (suc i) u U e = absurd (no (i * u) u U e)
@@ -76,7 +78,7 @@ lower q u r j i Ordering·eq R c e =
     let t = tied q u r c in
     record {
       near = omega arith;
-      same = λ h. let z : i ≡ 0 = none i u (omega arith) (omega arith) in split q (q + q % 2) j (t .even) (t .either) (inl (omega arith))
+      same = λ h. let z : i ≡ 0 = none i u (omega arith) (omega arith) in split q (q + q % 2) j (t .even) (t .either) (inl (omega arith));
     }
 lower q u r j i Ordering·gt R c e =
     let b = from-below q u r j i e in
@@ -98,7 +100,7 @@ higher q u r j i Ordering·eq R c e =
     let t = tied q u r c in
     record {
       near = omega arith;
-      same = λ h. let z : i ≡ 0 = none i u (omega arith) (omega arith) in split q (q + q % 2) j (t .even) (t .either) (inr (omega arith))
+      same = λ h. let z : i ≡ 0 = none i u (omega arith) (omega arith) in split q (q + q % 2) j (t .even) (t .either) (inr (omega arith));
     }
 higher q u r j i Ordering·gt R c e =
     let b = from-above q u r j i R e in
@@ -111,31 +113,24 @@ best q u r j o R c = elim (le-or-lt j q) [
   | inr l ↦ let d = le-dest l in higher q u r j (d .0) o R c (d .1)
 ]
 
+-- So `closest` is the best multiple.
 pub best-multiple : (n u j : ℕ) → 0 < u → Best n u (n / u) (closest n u) j
 best-multiple n u j U =
     subst (λ (x : ℕ). Best x u (n / u) (closest n u) j) (div-add-mod' n u) (best (n / u) u (n % u) j (compare (n % u * 2) u) (mod-lt n U) (cmp (n % u * 2) u))
 
--- ---- what `round` keeps of n / den: k digits are dropped, and q is the whole part in units of 2 ^ k
-module _ (p n den : ℕ) where
-  abbrev pub zeros : ℕ
-  zeros = size (n / den) - p
+-- ---- what `round` keeps of n / den for a format of p digits: it drops `drop` digits, and `kept` is the nearest number of units of 2 ^ drop
+-- the whole part in those units
+abbrev pub whole : ℕ → ℕ → ℕ → ℕ
+whole p n den = n / (den * 2 ^ drop p n den)
 
-  abbrev pub unit : ℕ
-  unit = den * 2 ^ zeros
-
-  abbrev pub whole : ℕ
-  whole = n / unit
-
-  abbrev pub chosen : ℕ
-  chosen = closest n unit
-
+-- it has at most p digits
 pub whole-lt : (p n den : ℕ) → whole p n den < 2 ^ p
-whole-lt p n den = subst (λ (x : ℕ). x < 2 ^ p) (div-div-eq-div-mul n den (2 ^ zeros p n den)) (kept-lt p (n / den))
+whole-lt p n den = subst (λ (x : ℕ). x < 2 ^ p) (div-div-eq-div-mul n den (2 ^ drop p n den)) (kept-lt p (n / den))
 
 -- where digits are dropped it has p digits
-pub whole-ge : (p n den : ℕ) → 0 < p → 0 < zeros p n den → 2 ^ (p - 1) ≤ whole p n den
+pub whole-ge : (p n den : ℕ) → 0 < p → 0 < drop p n den → 2 ^ (p - 1) ≤ whole p n den
 whole-ge p n den P K =
-    let k = zeros p n den in
+    let k = drop p n den in
     subst (λ (x : ℕ). 2 ^ (p - 1) ≤ x) (div-div-eq-div-mul n den (2 ^ k))
     (le-div-iff-mul-le (pow-pos k) .1 (le-trans (le-of-eq (sym (pow-add 2 (p - 1) k))) (size-reaches (n / den) (p - 1 + k) (all (size (n / den)) p P K))))
   where
@@ -147,6 +142,7 @@ pub record Beside (n den k q w C : ℕ) : Type 0 where
   pub near : apart n (w * 2 ^ k * den) ≤ apart n (C * den)
   pub same : apart n (w * 2 ^ k * den) ≡ apart n (C * den) → (C ≡ w * 2 ^ k) ⊎ ((j : ℕ) × (C ≡ j * 2 ^ k) × Other q w j)
 
+-- a product turned
 turn : (a b c : ℕ) → a * (b * c) ≡ a * c * b
 turn a b c = omega arith
 
@@ -171,17 +167,17 @@ less n den k q w C l h b =
     further x y c a b d = omega arith
 
 -- Of all numbers of at most p digits and zeros after them none is nearer.
-pub best-number : (p n den c z : ℕ) → 0 < p → 0 < den → c < 2 ^ p → Beside n den (zeros p n den) (whole p n den) (chosen p n den) (c * 2 ^ z)
+pub best-number : (p n den c z : ℕ) → 0 < p → 0 < den → c < 2 ^ p → Beside n den (drop p n den) (whole p n den) (kept p n den) (c * 2 ^ z)
 best-number p n den c z P D F = elim (le-or-lt k z) [
-  | inl g ↦ multiple n den k q (chosen p n den) (c * 2 ^ (z - k)) (c * 2 ^ z) (shifted c k z g) (best-multiple n (den * 2 ^ k) (c * 2 ^ (z - k)) U)
+  | inl g ↦ multiple n den k q (kept p n den) (c * 2 ^ (z - k)) (c * 2 ^ z) (shifted c k z g) (best-multiple n (den * 2 ^ k) (c * 2 ^ (z - k)) U)
   | inr g ↦
-      less n den k q (chosen p n den) (c * 2 ^ z)
+      less n den k q (kept p n den) (c * 2 ^ z)
       (lt-of-lt-of-le (mul-lt-mul-of-pos-right (fewer g) D) (le-of-eq (sym (turn q den (2 ^ k)))))
       (div-mul-le-self n (den * 2 ^ k)) (best-multiple n (den * 2 ^ k) q U)
 ]
   where
     k : ℕ
-    k = zeros p n den
+    k = drop p n den
 
     q : ℕ
     q = whole p n den
@@ -212,20 +208,22 @@ gained n u U = subst (λ (x : ℕ). 2 * (closest n u * u) ≤ 2 * x + u) (div-ad
         omega arith
     go q r Ordering·gt c = omega arith
 
-pub chosen-le : (p n den : ℕ) → chosen p n den ≤ 2 ^ p
-chosen-le p n den = le-trans (nearest-le (whole p n den) (compare (n % unit p n den * 2) (unit p n den))) (whole-lt p n den)
+-- what is kept has at most p digits, or is 2 ^ p
+pub kept-le : (p n den : ℕ) → kept p n den ≤ 2 ^ p
+kept-le p n den = le-trans (nearest-le (whole p n den) (compare (n % (den * 2 ^ drop p n den) * 2) (den * 2 ^ drop p n den))) (whole-lt p n den)
 
-pub overflows : (p K n den : ℕ) → 0 < den → 2 ^ (p + K) ≤ chosen p n den * 2 ^ zeros p n den → (2 ^ (p + 1) - 1) * 2 ^ K * den ≤ 2 * n
+-- so a count from 2 ^ (p + K) on is that of a fraction from the middle on, here twice as large
+pub overflows : (p K n den : ℕ) → 0 < den → 2 ^ (p + K) ≤ kept p n den * 2 ^ drop p n den → (2 ^ (p + 1) - 1) * 2 ^ K * den ≤ 2 * n
 overflows p K n den D h = elim (le-or-lt ((2 ^ (p + 1) - 1) * 2 ^ K * den) (2 * n)) [
   | inl l ↦ l
   | inr l ↦
-      let k = zeros p n den in
+      let k = drop p n den in
       let few : k ≤ K = spare (size (n / den)) p K (size-le (n / den) (p + K) (div-lt-iff-lt-mul D .1 (subst (λ (x : ℕ). n < x * den) (sym (pow-add 2 p K)) (halved (2 ^ p) (2 ^ K) n (subst (λ (x : ℕ). 2 * n < (x - 1) * 2 ^ K * den) (pow-add 2 p 1) l))))) in
-      let many : K ≤ k = add-le-cancel-left p (pow-le-back (p + K) (p + k) (le-trans h (le-trans (mul-le-mul-right (2 ^ k) (chosen-le p n den)) (le-of-eq (sym (pow-add 2 p k)))))) in
+      let many : K ≤ k = add-le-cancel-left p (pow-le-back (p + K) (p + k) (le-trans h (le-trans (mul-le-mul-right (2 ^ k) (kept-le p n den)) (le-of-eq (sym (pow-add 2 p k)))))) in
       let e : k ≡ K = le-antisymm few many in
-      let top : 2 ^ p ≤ chosen p n den = le-of-mul-le-mul-right (subst (λ (x : ℕ). 2 ^ p * 2 ^ K ≤ chosen p n den * 2 ^ x) e (subst (λ (x : ℕ). x ≤ chosen p n den * 2 ^ k) (pow-add 2 p K) h)) (pow-pos K) in
+      let top : 2 ^ p ≤ kept p n den = le-of-mul-le-mul-right (subst (λ (x : ℕ). 2 ^ p * 2 ^ K ≤ kept p n den * 2 ^ x) e (subst (λ (x : ℕ). x ≤ kept p n den * 2 ^ k) (pow-add 2 p K) h)) (pow-pos K) in
       subst (λ (x : ℕ). (x - 1) * 2 ^ K * den ≤ 2 * n) (sym (pow-add 2 p 1))
-      (reached (2 ^ p) (2 ^ K) (chosen p n den) top (subst (λ (x : ℕ). 2 * (chosen p n den * (den * 2 ^ x)) ≤ 2 * n + den * 2 ^ x) e (gained n (den * 2 ^ k) (mul-pos D (pow-pos k)))))
+      (reached (2 ^ p) (2 ^ K) (kept p n den) top (subst (λ (x : ℕ). 2 * (kept p n den * (den * 2 ^ x)) ≤ 2 * n + den * 2 ^ x) e (gained n (den * 2 ^ k) (mul-pos D (pow-pos k)))))
 ]
   where
     spare : (z p K : ℕ) → z ≤ p + K → z - p ≤ K
@@ -245,3 +243,13 @@ overflows p K n den D h = elim (le-or-lt ((2 ^ (p + 1) - 1) * 2 ^ K * den) (2 * 
 
     reached : (a X w : ℕ) → a ≤ w → 2 * (w * (den * X)) ≤ 2 * n + den * X → (a * 2 - 1) * X * den ≤ 2 * n
     reached a X w l g = le-trans (mul-le-mul-right den (mul-le-mul-right X (omega arith))) (less-one w X g)
+
+-- ---- the largest number of p digits and zeros after them
+-- Below 2 ^ (p + K) none is above (2 ^ p - 1) * 2 ^ K.
+pub most : (p K c z : ℕ) → c < 2 ^ p → c * 2 ^ z < 2 ^ (p + K) → c * 2 ^ z ≤ (2 ^ p - 1) * 2 ^ K
+most p K c z F h = elim (le-or-lt K z) [
+  | inl g ↦
+      let e : c * 2 ^ z ≡ c * 2 ^ (z - K) * 2 ^ K = shifted c K z g in
+      le-trans (le-of-eq e) (mul-le-mul-right (2 ^ K) (le-ones p (lt-of-mul-lt-mul-right (2 ^ K) (lt-of-le-of-lt (le-of-eq (sym e)) (lt-of-lt-of-le h (le-of-eq (pow-add 2 p K)))))))
+  | inr g ↦ mul-le-mul (le-ones p F) (pow-mono (le-of-lt g))
+]

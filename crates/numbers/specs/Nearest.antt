@@ -3,7 +3,7 @@
 use mathlib.Core.Path.{_≡_}
 use mathlib.Core.Logic.{_≢_}
 use mathlib.Core.Bool.{Bool, _&&_, Bool·beq, cond}
-use Prim.Native.Nat.{ℕ, _+_, _-_, _*_, _%_, _^_, _≤_, _<_}
+use Prim.Native.Nat.{ℕ, suc, _+_, _-_, _*_, _/_, _%_, _^_, _≤_, _<_}
 use lib.IntN.{ℤ}
 use lib.Dec.{T, ltb}
 use lib.Ieee.{Float, nan, inf, fin, Format, prec, emax, up, down, fits, toBits}
@@ -16,16 +16,20 @@ apart a b = (a - b) + (b - a)
 abbrev pub distance : ℕ → ℕ → ℕ → ℤ → ℕ
 distance num den m e = apart (num * down e) (m * up e * den)
 
--- the middle between the format's largest value, (2 ^ prec - 1) * 2 ^ (emax + 1 - prec), and 2 ^ (emax + 1), which would be the next
+-- the format's largest finite value: all its digits are 1, and they stand as high as they may
+abbrev pub largest : Format → ℕ
+largest f = (2 ^ prec f - 1) * 2 ^ (suc (emax f) - prec f)
+
+-- the middle between it and 2 ^ (emax + 1), which would be the next value if the format went on
 abbrev pub middle : Format → ℕ
-middle f = (2 ^ (prec f + 1) - 1) * 2 ^ (emax f - prec f)
+middle f = (largest f + 2 ^ suc (emax f)) / 2
 
 -- the last digit, the lowest bit of the pattern, is 0
 abbrev pub Even : Format → Float → Type 0
 Even f x = toBits f x % 2 ≡ 0
 
 -- ±m * 2 ^ e is a value of the format, no value of that sign is nearer to ±num / den, and where another one is as near, it is the one that is even.
--- No value of the other sign is nearer than the zero of this one.
+-- That no value of the other sign is nearer either is `other-sign` in `Laws/Nearest.antt`.
 pub record Closest (f : Format) (s : Bool) (num den m : ℕ) (e : ℤ) : Type 0 where
   pub held : T (fits f (fin s m e))
   pub no-nearer : (n : ℕ) (d : ℤ) → T (fits f (fin s n d)) → distance num den m e * down d ≤ distance num den n d * down e
