@@ -88,7 +88,7 @@ toBits-val f (fin t m e) s a h =
     toBits-is f t m e a (ap (λ (x : ℕ). x / down e) (h .1) ∙ mul-div-cancel a (down-pos e))
     ∙ ap (λ (b : Bool). cond b (top f) 0 + (size a - prec f) * hid f + a / 2 ^ (size a - prec f)) (h .0)
 
-pub twice-hid : (p : ℕ) → 0 < p → 2 ^ p ≡ 2 * 2 ^ (p - 1)
+twice-hid : (p : ℕ) → 0 < p → 2 ^ p ≡ 2 * 2 ^ (p - 1)
 twice-hid p h = ap (λ (x : ℕ). 2 ^ x) (suc-pred p h) ∙ pow-succ' 2 (p - 1)
   where
     suc-pred : (p : ℕ) → 0 < p → p ≡ suc (p - 1)

@@ -8,7 +8,7 @@ use Rattle.numbers.specs.Constants.{zeroOf, oneOf, halfOf, limitOf, epsi
 use Rattle.numbers.specs.Nearest.{Nearest}
 use Rattle.numbers.proofs.Laws.Nearest.{round-nearest}
 
--- The constants by their fractions, and 1 - 0.01 also as the difference that the Rust has.
+-- The constants by their fractions, and 1 - 0.01 also as the rounded difference of the two.
 pub record Named : Type 0 where
   pub zero-is : (f : Format) → Nearest f false 0 1 (zeroOf f)
   pub one-is : (f : Format) → Nearest f false 1 1 (oneOf f)
@@ -16,7 +16,7 @@ pub record Named : Type 0 where
   pub limit-is : (f : Format) → Nearest f false (2 ^ 20) 1 (limitOf f)
   pub epsilon-is : Nearest binary64 false 1 100 epsilon
   pub one-less-epsilon-is : Nearest binary64 false 99 100 oneLessEpsilon
-  pub one-less-epsilon-differs : oneLessEpsilon ≡ sub binary64 (oneOf binary64) epsilon
+  pub one-less-epsilon-difference : oneLessEpsilon ≡ sub binary64 (oneOf binary64) epsilon
   pub tolerance-is : Nearest binary64 false 1001 1000 tolerance
   pub dominance-is : Nearest binary64 false (10 ^ 12) 1 dominance
   pub two-is : Nearest binary64 false 2 1 two
@@ -36,7 +36,7 @@ constants = record {
   limit-is = λ f. named f (2 ^ 20) 1 (limitOf f) (zero-lt-suc 0) (limit f);
   epsilon-is = named binary64 1 100 epsilon (zero-lt-suc 99) refl;
   one-less-epsilon-is = named binary64 99 100 oneLessEpsilon (zero-lt-suc 99) refl;
-  one-less-epsilon-differs = refl;
+  one-less-epsilon-difference = refl;
   tolerance-is = named binary64 1001 1000 tolerance (zero-lt-suc 999) refl;
   dominance-is = named binary64 (10 ^ 12) 1 dominance (zero-lt-suc 0) refl;
   two-is = named binary64 2 1 two (zero-lt-suc 0) refl;
