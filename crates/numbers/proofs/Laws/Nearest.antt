@@ -88,7 +88,7 @@ pub narrow-nearest : (s : Bool) (m : ℕ) (e : ℤ) → Nearest binary32 s (m * 
 unfolding narrowOf
 narrow-nearest s m e = round-nearest binary32 s (m * up e) (down e) (down-pos e)
 
--- ±r is ±a + ±b, and the sum rounded is ±r rounded
+-- v is ±r rounded over c, and ±r is ±a + ±b
 record Summed (f : Format) (v : Float) (s : Bool) (a : ℕ) (t : Bool) (b c : ℕ) (u : Bool) (r : ℕ) : Type 0 where
   is : v ≡ round f u r c
   value : plus u r + minus s a + minus t b ≡ minus u r + plus s a + plus t b
@@ -103,6 +103,7 @@ by-order a b P l g e = go (ltb a b) (ltb→lt a b) (nltb→le a b) (ltb b a) (lt
     go false h k true h' k' = g (h' tt)
     go false h k false h' k' = e (le-antisymm (k' tt) (k tt))
 
+-- what `sum` rounds
 summed : (f : Format) (s : Bool) (a : ℕ) (t : Bool) (b c : ℕ) → Summed f (sum f s a t b c) s a t b c (sumSign s a t b) (sumSize s a t b)
 unfolding sum
 summed f s a t b c =
