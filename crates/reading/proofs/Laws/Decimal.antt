@@ -2,16 +2,15 @@
 use Prim.Native.Nat.{ℕ, zero, suc, _+_, _-_, _*_, _/_, _%_, _^_, _<_, _≤_}
 use mathlib.Core.Bool.{Bool, true, false, cond}
 use mathlib.Core.List.{List, [], _∷_, _++_, append-assoc, append-nil}
-use mathlib.Core.Path.{_≡_, refl, sym, ap, subst, _∙_}
+use mathlib.Core.Path.{_≡_, refl, sym, ap, _∙_}
 use native.Mathlib.Nat.{pow-suc, one-le-pow, not-suc-le-zero, le-of-suc-le-suc}
 use native.Mathlib.Omega.{arith}
 use lib.Dec.{ltb, eqb}
 use lib.ListN.{length, getD, length-append, List·getD-append}
-use lib.Seq.{getD-append-seam}
 use borrow.Author.Tests.{lt-ltb, le-ltb, ltb-true, ltb-false, eqb-true, eqb-false}
 use Rattle.reading.specs.Decimal.{decimalBy, decimal, valueFrom, valueOf, Decimal}
 
--- ---- by tens: a number below 10 has one digit, and any other the digits of its tenth and one more
+-- ---- a number below 10 has one digit, and any other the digits of its tenth and one more
 
 -- one digit is the same by any count, and more are where the tenth's are
 more-same : (n : ℕ) (t : Bool) (x y : List ℕ) → ltb n 10 ≡ t → (10 ≤ n → x ≡ y) → cond t [] x ++ ((48 + n % 10) ∷ []) ≡ cond t [] y ++ ((48 + n % 10) ∷ [])
@@ -25,17 +24,16 @@ enough zero k n p q = absurd (not-suc-le-zero p)
 enough (suc j) zero n p q = absurd (not-suc-le-zero q)
 enough (suc j) (suc k) n p q = more-same n (ltb n 10) _ _ refl (λ l. enough j k (n / 10) (omega arith) (omega arith))
 
--- a number of one digit
+-- one digit
 pub decimal-one : (n : ℕ) → n < 10 → decimal n ≡ (48 + n) ∷ []
 unfolding decimal decimalBy
 decimal-one n l = rw (lt-ltb n 10 l) (ap (λ (d : ℕ). (48 + d) ∷ []) (omega arith))
 
--- a number of more
+-- more than one
 pub decimal-more : (n : ℕ) → 10 ≤ n → decimal n ≡ decimal (n / 10) ++ ((48 + n % 10) ∷ [])
 unfolding decimal decimalBy
 decimal-more n l = rw (le-ltb n 10 l) (ap (λ (t : List ℕ). t ++ ((48 + n % 10) ∷ [])) (enough n (suc (n / 10)) (n / 10) (omega arith) (omega arith)))
 
--- what holds of each number below 10, and of any other where it holds of its tenth, holds of every number
 tens-test : (P : ℕ → Type 0) (n : ℕ) (t : Bool) → ltb n 10 ≡ t → (n < 10 → P n) → (10 ≤ n → P n) → P n
 tens-test P n true e one more = one (ltb-true n 10 e)
 tens-test P n false e one more = more (ltb-false n 10 e)
@@ -44,6 +42,7 @@ tens-below : (P : ℕ → Type 0) → ((n : ℕ) → n < 10 → P n) → ((n : �
 tens-below P one more zero n l = absurd (not-suc-le-zero l)
 tens-below P one more (suc k) n l = tens-test P n (ltb n 10) refl (one n) (λ h. more n h (tens-below P one more k (n / 10) (omega arith)))
 
+-- what holds of each number below 10, and of any other where it holds of its tenth, holds of every number
 pub by-tens : (P : ℕ → Type 0) → ((n : ℕ) → n < 10 → P n) → ((n : ℕ) → 10 ≤ n → P (n / 10) → P n) → (n : ℕ) → P n
 by-tens P one more n = tens-below P one more (suc n) n (omega arith)
 
@@ -55,6 +54,7 @@ unfolding valueFrom
 value-more v [] d = refl
 value-more v (e ∷ t) d = value-more (10 * v + (e - 48)) t d
 
+-- the digits, read from left to right, say n
 pub decimal-value : (n : ℕ) → valueOf (decimal n) ≡ n
 unfolding valueOf valueFrom
 decimal-value =
@@ -63,7 +63,7 @@ decimal-value =
 
 -- ---- it is a text of a number
 
--- each of them is a digit where one more digit is
+-- digits and one more digit are digits
 digit-more : (t : List ℕ) (d : ℕ) → ((k : ℕ) → k < length t → (48 ≤ getD t k 0) × (getD t k 0 ≤ 57)) → 48 ≤ d → d ≤ 57 → (k : ℕ) → k < length (t ++ (d ∷ [])) → (48 ≤ getD (t ++ (d ∷ [])) k 0) × (getD (t ++ (d ∷ [])) k 0 ≤ 57)
 digit-more [] d h p q zero l = (p, q)
 digit-more [] d h p q (suc k) l = absurd (omega arith)
@@ -98,6 +98,7 @@ pub decimal-first : (n : ℕ) → getD (decimal n) 0 0 ≡ 48 → decimal n ≡ 
 decimal-first zero e = decimal-one 0 (omega arith)
 decimal-first (suc n) e = absurd (first-some (suc n) (omega arith) e)
 
+-- so it is one digit or more, nothing but digits, and no zero in front of others
 pub decimal-text : (n : ℕ) → Decimal (decimal n)
 decimal-text n = record { some = decimal-some n; digits = decimal-digits n; first = decimal-first n }
 
@@ -131,13 +132,21 @@ only-test d t false e z =
     let r : 48 + v ≡ d = omega (arith, y .0) in
     sym (digits-after v t (omega (arith, y .0)) (λ k l. z .digits (suc k) (omega arith)) ∙ ap (λ (l : List ℕ). l ++ t) (decimal-one v (omega (arith, y .1)) ∙ ap (λ (m : ℕ). m ∷ []) r))
 
+-- a text of a number that says n is `decimal n`
 pub decimal-only : (t : List ℕ) (n : ℕ) → Decimal t → valueOf t ≡ n → t ≡ decimal n
 decimal-only [] n z e = absurd (omega (arith, z .some))
 decimal-only (d ∷ t) n z e = only-test d t (eqb d 48) refl z ∙ ap decimal e
 
 -- ---- how long it is
 
--- below a power of ten, and from one on
+-- one digit, and one more than the tenth has
+pub length-one : (n : ℕ) → n < 10 → length (decimal n) ≡ 1
+length-one n l = rw (decimal-one n l)
+
+pub length-more : (n : ℕ) → 10 ≤ n → length (decimal n) ≡ length (decimal (n / 10)) + 1
+length-more n l = rw (decimal-more n l, length-append)
+
+-- a number below 10 ^ k has at most k digits
 pub decimal-length : (k n : ℕ) → 1 ≤ k → n < 10 ^ k → length (decimal n) ≤ k
 decimal-length zero n p l = absurd (omega arith)
 decimal-length (suc zero) n p l = rw (decimal-one n l) (omega arith)
@@ -145,6 +154,7 @@ decimal-length (suc (suc k)) n p l =
     tens-test (λ m. length (decimal m) ≤ suc (suc k)) n (ltb n 10) refl (λ a. rw (decimal-one n a) (omega arith))
     (λ a. rw (decimal-more n a, length-append) (omega (arith, decimal-length (suc k) (n / 10) (omega arith) (omega (arith, pow-suc 10 (suc k))))))
 
+-- and one from 10 ^ k on has more
 pub decimal-longer : (k n : ℕ) → 10 ^ k ≤ n → k < length (decimal n)
 decimal-longer zero n l = decimal-some n
 decimal-longer (suc k) n l =
