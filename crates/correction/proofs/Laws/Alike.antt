@@ -1,7 +1,7 @@
 -- Each public function's promise permits one answer, and one state of each slice that it writes: two that it permits for the same arguments are the same.
 -- `Post κs a z e` is the promise as it is read from the source: of the arguments a, the result z and the arguments at exit e. Assumes nothing.
 use mathlib.Core.Path.{_≡_, sym, _∙_}
-use denote.Ref.{now}
+use denote.Ref.{now, ptr}
 use Rattle.correction.proofs.pass.msdf_error_correction.Reads as entry
 use Rattle.correction.proofs.view.texel_view.Reads as view
 
@@ -21,6 +21,10 @@ pass-stencils-alike κs a z z' e e' p q = alike _ (now (e .1 .1 .1 .1 .0)) (now 
 pub pass-samples-alike : (κs : _) (a : _) (z z' : _) (e e' : _) → entry.Post κs a z e → entry.Post κs a z' e' → now (e .1 .1 .1 .0) ≡ now (e' .1 .1 .1 .0)
 pass-samples-alike κs a z z' e e' p q = alike _ (now (e .1 .1 .1 .0)) (now (e' .1 .1 .1 .0)) (p .1 .1) (q .1 .1)
 
--- Two texel views are the same. The view writes nothing.
+-- Two texel views hold the same samples,
 pub views-alike : (κs : _) (a : _) (z z' : _) (e e' : _) → view.Post κs a z e → view.Post κs a z' e' → now z ≡ now z'
-views-alike κs a z z' e e' p q = alike _ (now z) (now z') p q
+views-alike κs a z z' e e' p q = alike _ (now z) (now z') (p .0) (q .0)
+
+-- and lie at the same place of the same bitmap. The view writes nothing.
+pub views-placed-alike : (κs : _) (a : _) (z z' : _) (e e' : _) → view.Post κs a z e → view.Post κs a z' e' → ptr z ≡ ptr z'
+views-placed-alike κs a z z' e e' p q = alike _ (ptr z) (ptr z') (p .1) (q .1)
