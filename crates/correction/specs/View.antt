@@ -5,7 +5,7 @@ use mathlib.Core.List.{List}
 use lib.ListN.{getD, length, take, drop}
 use lib.Dec.{eqb, ltb}
 use lib.Ieee.{Float}
-use denote.Ref.{RefT, ptr}
+use denote.Ref.{RefT, ptr, now}
 use Rattle.correction.specs.Bitmap.{cell, isError}
 use Rattle.correction.specs.Checks.{sizeRefusal}
 
@@ -32,18 +32,22 @@ unfoldable pub viewed : ℕ → ℕ → List ℕ → ℕ → ℕ → ℕ → ℕ
 viewed original corrected stencil w h ch x y =
     cond (viewable w h ch original corrected (length stencil) x y) (channelsOf (isError (getD stencil (cell w x y) 0)) ch (cell w x y)) empty
 
--- its samples
-abbrev pub samplesIn : Part → List Float → List Float → List Float
-samplesIn p original corrected = take (p .count) (drop (p .start) (cond (p .ofCorrected) corrected original))
+-- of what there is for each of the two bitmaps, what is of the part's
+abbrev pub bitmapOf : {A : Type 0} → Part → A → A → A
+bitmapOf p original corrected = cond (p .ofCorrected) corrected original
 
--- its place, from those of the bitmaps: a block and an offset of bytes, of which a sample has four
-abbrev pub placeIn : Part → ℕ × ℕ → ℕ × ℕ → ℕ × ℕ
-placeIn p original corrected = (cond (p .ofCorrected) corrected original .0, p .start * 4 + cond (p .ofCorrected) corrected original .1)
+-- the place of sample k of a bitmap that lies at b, a block and an offset in bytes: a sample has four
+abbrev pub sampleAt : ℕ × ℕ → ℕ → ℕ × ℕ
+sampleAt b k = (b .0, k * 4 + b .1)
 
--- the view's samples
+-- the samples of the view
 abbrev pub viewOf : List Float → List Float → List ℕ → ℕ → ℕ → ℕ → ℕ → ℕ → List Float
-viewOf original corrected stencil w h ch x y = samplesIn (viewed (length original) (length corrected) stencil w h ch x y) original corrected
+viewOf original corrected stencil w h ch x y =
+    let p = viewed (length original) (length corrected) stencil w h ch x y in
+    take (p .count) (drop (p .start) (bitmapOf p original corrected))
 
--- the view's place
+-- the place of the view
 abbrev pub viewPlace : RefT (List Float) → RefT (List Float) → List ℕ → ℕ → ℕ → ℕ → ℕ → ℕ → ℕ × ℕ
-viewPlace original corrected stencil w h ch x y = placeIn (viewed (length (original .now)) (length (corrected .now)) stencil w h ch x y) (ptr original) (ptr corrected)
+viewPlace original corrected stencil w h ch x y =
+    let p = viewed (length (now original)) (length (now corrected)) stencil w h ch x y in
+    sampleAt (bitmapOf p (ptr original) (ptr corrected)) (p .start)
