@@ -1,23 +1,31 @@
 -- `correction::view::texel_view` meets its contract: the measures that both size checks leave say where the texel lies. Assumes nothing.
-use mathlib.Core.Path.{sym, _∙_}
+use mathlib.Core.Path.{_≡_, sym, _∙_}
 use native.Mathlib.Nat.{add-sub-cancel-left}
 use native.Mathlib.Omega.{arith}
 use lib.ListN.{length}
 use denote.Ref.{now}
 use borrow.Author.Tests.{eq-eqb, ne-eqb, lt-ltb, le-ltb}
 use Rattle.correction.specs.Bitmap.{isError}
+use Rattle.correction.specs.Checks.{sizeRefusal}
 use Rattle.correction.specs.View.{viewable, viewed}
 use Rattle.correction.proofs.Measures.{Lies, lies, sizes}
 use borrow.Author.Needs.{needs}
 use Rattle.correction.proofs.view.texel_view.Statement.{statement}
 use Rattle.correction.proofs.view.texel_view.Tie as tie
 
+-- the size checks that each bitmap has passed
+original-sized : (c : tie.Else1) → sizeRefusal (c .before .before .before .before .before .before .args .width) (c .before .before .before .before .before .before .args .height) (c .before .before .before .before .before .before .args .channels) (length (now (c .before .before .before .before .before .before .args .original))) (length (now (c .before .before .before .before .before .before .args .stencil))) ≡ 0
+original-sized c = sym (c .before .size-refusal .ensures) ∙ c .if1 .left
+
+corrected-sized : (c : tie.Else2) → sizeRefusal (c .before .before .before .before .before .before .before .before .args .width) (c .before .before .before .before .before .before .before .before .args .height) (c .before .before .before .before .before .before .before .before .args .channels) (length (now (c .before .before .before .before .before .before .before .before .args .corrected))) (length (now (c .before .before .before .before .before .before .before .before .args .stencil))) ≡ 0
+corrected-sized c = sym (c .before .size-refusal2 .ensures) ∙ c .if2 .left
+
 -- where the texel lies in the two bitmaps, once all tests have passed
 in-original : (c : tie.Else4) → Lies (c .before .before .before .before .before .before .before .before .before .before .args .width) (c .before .before .before .before .before .before .before .before .before .before .args .channels) (c .before .before .before .before .before .before .before .before .before .before .args .x) (c .before .before .before .before .before .before .before .before .before .before .args .y) (length (now (c .before .before .before .before .before .before .before .before .before .before .args .original))) (length (now (c .before .before .before .before .before .before .before .before .before .before .args .stencil)))
-in-original c = lies _ (c .before .before .before .before .before .before .before .before .before .before .args .height) _ _ _ _ _ (sizes _ _ _ _ _ (sym (c .before .before .before .before .before .size-refusal .ensures) ∙ c .before .before .before .before .if1 .left)) (c .before .if3 .left) (c .if4 .left)
+in-original c = lies _ (c .before .before .before .before .before .before .before .before .before .before .args .height) _ _ _ _ _ (sizes _ _ _ _ _ (original-sized (c .before .before .before .before))) (c .before .if3 .left) (c .if4 .left)
 
 in-corrected : (c : tie.Else4) → Lies (c .before .before .before .before .before .before .before .before .before .before .args .width) (c .before .before .before .before .before .before .before .before .before .before .args .channels) (c .before .before .before .before .before .before .before .before .before .before .args .x) (c .before .before .before .before .before .before .before .before .before .before .args .y) (length (now (c .before .before .before .before .before .before .before .before .before .before .args .corrected))) (length (now (c .before .before .before .before .before .before .before .before .before .before .args .stencil)))
-in-corrected c = lies _ (c .before .before .before .before .before .before .before .before .before .before .args .height) _ _ _ _ _ (sizes _ _ _ _ _ (sym (c .before .before .before .size-refusal2 .ensures) ∙ c .before .before .if2 .left)) (c .before .if3 .left) (c .if4 .left)
+in-corrected c = lies _ (c .before .before .before .before .before .before .before .before .before .before .args .height) _ _ _ _ _ (sizes _ _ _ _ _ (corrected-sized (c .before .before))) (c .before .if3 .left) (c .if4 .left)
 
 sub-none : tie.Need-sub-none
 sub-none c = search needs
@@ -43,23 +51,23 @@ size-refusal-requires-2 c κs = search needs
 returns-2 : tie.Need-returns-2
 unfolding viewed viewable isError
 returns-2 c =
-    let ori = eq-eqb _ 0 (sym (c .before .before .before .size-refusal .ensures) ∙ c .before .before .if1 .left) in
+    let ori = eq-eqb _ 0 (original-sized (c .before .before)) in
     let cor = ne-eqb _ 0 (λ q. c .if2 .taken (c .before .size-refusal2 .ensures ∙ q)) in
     (simp (ori, cor), simp (ori, cor))
 
 returns-3 : tie.Need-returns-3
 unfolding viewed viewable isError
 returns-3 c =
-    let ori = eq-eqb _ 0 (sym (c .before .before .before .before .size-refusal .ensures) ∙ c .before .before .before .if1 .left) in
-    let cor = eq-eqb _ 0 (sym (c .before .before .size-refusal2 .ensures) ∙ c .before .if2 .left) in
+    let ori = eq-eqb _ 0 (original-sized (c .before .before .before)) in
+    let cor = eq-eqb _ 0 (corrected-sized (c .before)) in
     let xin = le-ltb _ _ (c .if3 .taken) in
     (simp (ori, cor, xin), simp (ori, cor, xin))
 
 returns-4 : tie.Need-returns-4
 unfolding viewed viewable isError
 returns-4 c =
-    let ori = eq-eqb _ 0 (sym (c .before .before .before .before .before .size-refusal .ensures) ∙ c .before .before .before .before .if1 .left) in
-    let cor = eq-eqb _ 0 (sym (c .before .before .before .size-refusal2 .ensures) ∙ c .before .before .if2 .left) in
+    let ori = eq-eqb _ 0 (original-sized (c .before .before .before .before)) in
+    let cor = eq-eqb _ 0 (corrected-sized (c .before .before)) in
     let xin = lt-ltb _ _ (c .before .if3 .left) in
     let yin = le-ltb _ _ (c .if4 .taken) in
     (simp (ori, cor, xin, yin), simp (ori, cor, xin, yin))
@@ -94,8 +102,8 @@ part-result-end c = in-corrected (c .before .before) .last
 returns-5 : tie.Need-returns-5
 unfolding viewed viewable isError
 returns-5 c =
-    let ori = eq-eqb _ 0 (sym (c .before .before .before .before .before .before .before .before .size-refusal .ensures) ∙ c .before .before .before .before .before .before .before .if1 .left) in
-    let cor = eq-eqb _ 0 (sym (c .before .before .before .before .before .before .size-refusal2 .ensures) ∙ c .before .before .before .before .before .if2 .left) in
+    let ori = eq-eqb _ 0 (original-sized (c .before .before .before .before .before .before .before)) in
+    let cor = eq-eqb _ 0 (corrected-sized (c .before .before .before .before .before)) in
     let xin = lt-ltb _ _ (c .before .before .before .before .if3 .left) in
     let yin = lt-ltb _ _ (c .before .before .before .if4 .left) in
     let flag = eq-eqb _ 1 (c .before .if5 .taken) in
@@ -116,8 +124,8 @@ part-result-end-2 c = in-original (c .before .before) .last
 returns-6 : tie.Need-returns-6
 unfolding viewed viewable isError
 returns-6 c =
-    let ori = eq-eqb _ 0 (sym (c .before .before .before .before .before .before .before .before .size-refusal .ensures) ∙ c .before .before .before .before .before .before .before .if1 .left) in
-    let cor = eq-eqb _ 0 (sym (c .before .before .before .before .before .before .size-refusal2 .ensures) ∙ c .before .before .before .before .before .if2 .left) in
+    let ori = eq-eqb _ 0 (original-sized (c .before .before .before .before .before .before .before)) in
+    let cor = eq-eqb _ 0 (corrected-sized (c .before .before .before .before .before)) in
     let xin = lt-ltb _ _ (c .before .before .before .before .if3 .left) in
     let yin = lt-ltb _ _ (c .before .before .before .if4 .left) in
     let flag = ne-eqb _ 1 (c .before .if5 .left) in
