@@ -20,6 +20,16 @@ static void *room(size_t count, size_t size)
     return p;
 }
 
+/* Prints the stencil, row 0 first. */
+static void rows(size_t width, size_t height, const uint8_t *stencil)
+{
+    for (size_t i = 0; i < width * height; i++) {
+        putchar(".EPB"[stencil[i] & 3]);
+        if ((i + 1) % width == 0)
+            putchar('\n');
+    }
+}
+
 /* Prints where the view finds the first texel that is flagged, or that is not. */
 static void show(size_t width, size_t height, size_t channels, const float *original, const float *corrected, const uint8_t *stencil, unsigned flagged)
 {
@@ -65,11 +75,7 @@ int main(void)
         return 1;
     }
     printf("protected %zu error %zu\n", protected_cells, error_cells);
-    for (i = 0; i < cells; i++) {
-        putchar(".EPB"[stencil[i] & 3]);
-        if ((i + 1) % width == 0)
-            putchar('\n');
-    }
+    rows(width, height, stencil);
     show(width, height, channels, original, samples, stencil, RUNGTWINE_ERROR);
     show(width, height, channels, original, samples, stencil, 0);
     free(stencil);
