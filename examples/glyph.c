@@ -1,6 +1,7 @@
-/* Corrects the glyph that it reads from standard input and prints the counts and the stencil, rows from the bottom. */
+/* Corrects the glyph that it reads from standard input and prints the counts, the stencil, rows from the bottom, and where the view finds two of its texels. */
 #include <stdio.h>
 #include <stdlib.h>
+#include <string.h>
 
 #include "../include/rungtwine.h"
 
@@ -17,6 +18,29 @@ static void *room(size_t count, size_t size)
     void *p = malloc(count > 0 ? count * size : size);
     need(p != NULL, "no memory");
     return p;
+}
+
+/* Prints the stencil, row 0 first. */
+static void rows(size_t width, size_t height, const uint8_t *stencil)
+{
+    for (size_t i = 0; i < width * height; i++) {
+        putchar(".EPB"[stencil[i] & 3]);
+        if ((i + 1) % width == 0)
+            putchar('\n');
+    }
+}
+
+/* Prints where the view finds the first texel that is flagged, or that is not. */
+static void show(size_t width, size_t height, size_t channels, const float *original, const float *corrected, const uint8_t *stencil, unsigned flagged)
+{
+    size_t cells = width * height, count = cells * channels, k = 0;
+    while (k < cells && (stencil[k] & RUNGTWINE_ERROR) != flagged)
+        k++;
+    rungtwine_texel texel = {original, 0};
+    rungtwine_texel_view(width, height, channels, original, count, corrected, count, stencil, cells, k % width, k / width, &texel);
+    int of_corrected = texel.length > 0 && texel.samples == corrected + k * channels;
+    printf("texel %zu %zu: %s, %zu samples from %zu\n", k % width, k / width, of_corrected ? "corrected" : "original", texel.length,
+           (size_t)(texel.samples - (of_corrected ? corrected : original)));
 }
 
 int main(void)
@@ -39,6 +63,8 @@ int main(void)
     float *samples = room(count, sizeof *samples);
     for (i = 0; i < count; i++)
         need(scanf("%f", &samples[i]) == 1, "a sample is missing");
+    float *original = room(count, sizeof *original);
+    memcpy(original, samples, count * sizeof *samples);
     uint8_t *stencil = room(cells, sizeof *stencil);
 
     size_t place, protected_cells, error_cells;
@@ -49,12 +75,11 @@ int main(void)
         return 1;
     }
     printf("protected %zu error %zu\n", protected_cells, error_cells);
-    for (i = 0; i < cells; i++) {
-        putchar(".EPB"[stencil[i] & 3]);
-        if ((i + 1) % width == 0)
-            putchar('\n');
-    }
+    rows(width, height, stencil);
+    show(width, height, channels, original, samples, stencil, RUNGTWINE_ERROR);
+    show(width, height, channels, original, samples, stencil, 0);
     free(stencil);
+    free(original);
     free(samples);
     free(ends);
     free(coords);

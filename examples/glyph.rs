@@ -1,8 +1,8 @@
-//! Corrects the glyph that it reads from standard input and prints the counts and the stencil, rows from the bottom.
+//! Corrects the glyph that it reads from standard input and prints the counts, the stencil, rows from the bottom, and where the view finds two of its texels.
 
 mod rungtwine;
 
-use rungtwine::{error_correction, Mode, Outlines, Settings};
+use rungtwine::{error_correction, texel_view, Bitmap, Mode, Outlines, Settings};
 use std::io::Read;
 use std::str::{FromStr, SplitWhitespace};
 
@@ -12,6 +12,19 @@ fn next<T: FromStr>(words: &mut SplitWhitespace) -> T {
 
 fn list<T: FromStr>(words: &mut SplitWhitespace, count: usize) -> Vec<T> {
     (0..count).map(|_| next(words)).collect()
+}
+
+/// Prints where the view finds the first texel that is flagged, or that is not.
+fn show((width, height, channels): (usize, usize, usize), original: &[f32], corrected: &[f32], stencil: &[u8], flagged: bool) {
+    let k = stencil.iter().position(|s| (s & 1 == 1) == flagged).unwrap_or(stencil.len());
+    let (x, y) = (k % width, k / width);
+    let (bitmap, samples) = texel_view((width, height, channels), original, corrected, stencil, (x, y));
+    let (name, whole) = match bitmap {
+        Bitmap::Original => ("original", original),
+        Bitmap::Corrected => ("corrected", corrected),
+    };
+    let start = (samples.as_ptr() as usize - whole.as_ptr() as usize) / std::mem::size_of::<f32>();
+    println!("texel {x} {y}: {name}, {} samples from {start}", samples.len());
 }
 
 fn main() {
@@ -28,7 +41,8 @@ fn main() {
         coords.extend([next::<f64>(words), next::<f64>(words)]);
     }
     let ends: Vec<usize> = list(words, contours);
-    let mut samples: Vec<f32> = list(words, width * height * channels);
+    let original: Vec<f32> = list(words, width * height * channels);
+    let mut samples = original.clone();
     let mut stencil = vec![0u8; width * height];
     let outlines = Outlines { colours: &colours, coords: &coords, ends: &ends };
     match error_correction((width, height, channels), &mut samples, &mut stencil, mode, settings, outlines) {
@@ -37,6 +51,8 @@ fn main() {
             for row in stencil.chunks(width) {
                 println!("{}", row.iter().map(|s| [".", "E", "P", "B"][usize::from(s & 3)]).collect::<String>());
             }
+            show((width, height, channels), &original, &samples, &stencil, true);
+            show((width, height, channels), &original, &samples, &stencil, false);
         }
         Err(refusal) => {
             println!("refused {} {}", refusal.number, refusal.place);

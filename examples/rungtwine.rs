@@ -1,6 +1,13 @@
 //! A safe way to call the library from Rust: slices carry their lengths, and a refusal is an error with its number and place.
 
 mod raw {
+    /// A part of a bitmap.
+    #[repr(C)]
+    pub struct Texel {
+        pub samples: *const f32,
+        pub length: usize,
+    }
+
     extern "C" {
         pub fn rungtwine_error_correction(
             width: usize,
@@ -25,6 +32,21 @@ mod raw {
             protected: *mut usize,
             error: *mut usize,
         ) -> u8;
+
+        pub fn rungtwine_texel_view(
+            width: usize,
+            height: usize,
+            channels: usize,
+            original: *const f32,
+            original_len: usize,
+            corrected: *const f32,
+            corrected_len: usize,
+            stencil: *const u8,
+            stencil_len: usize,
+            x: usize,
+            y: usize,
+            texel: *mut Texel,
+        );
     }
 }
 
@@ -59,6 +81,13 @@ pub struct Outlines<'a> {
 pub struct Counts {
     pub protected: usize,
     pub error: usize,
+}
+
+/// The bitmap that a view is a part of.
+#[derive(Clone, Copy, PartialEq, Eq, Debug)]
+pub enum Bitmap {
+    Original,
+    Corrected,
 }
 
 /// The first check that fails, and its place; nothing was written.
@@ -105,4 +134,36 @@ pub fn error_correction(
         )
     };
     if number == 0 { Ok(Counts { protected, error }) } else { Err(Refusal { number, place }) }
+}
+
+/// All channels of texel x, y, lent from `corrected` where its cell of `stencil` has an error and from `original` otherwise.
+/// An empty part of `original` where a bitmap or the stencil does not have that size, or the texel lies outside.
+pub fn texel_view<'a>(
+    (width, height, channels): (usize, usize, usize),
+    original: &'a [f32],
+    corrected: &'a [f32],
+    stencil: &[u8],
+    (x, y): (usize, usize),
+) -> (Bitmap, &'a [f32]) {
+    let mut texel = raw::Texel { samples: original.as_ptr(), length: 0 };
+    // Every pointer comes from a slice with its own length or from a local that overlaps nothing, and the texel is left a part of one of the two bitmaps.
+    let samples = unsafe {
+        raw::rungtwine_texel_view(
+            width,
+            height,
+            channels,
+            original.as_ptr(),
+            original.len(),
+            corrected.as_ptr(),
+            corrected.len(),
+            stencil.as_ptr(),
+            stencil.len(),
+            x,
+            y,
+            &mut texel,
+        );
+        std::slice::from_raw_parts(texel.samples, texel.length)
+    };
+    let of_corrected = !samples.is_empty() && samples.as_ptr() == corrected[(y * width + x) * channels..].as_ptr();
+    (if of_corrected { Bitmap::Corrected } else { Bitmap::Original }, samples)
 }

@@ -1,4 +1,4 @@
-/* The error-correction pass of a multi-channel distance field, proved against its definition. */
+/* The error-correction pass of a multi-channel distance field and a view of its texels, proved against their definitions. */
 #ifndef RUNGTWINE_H
 #define RUNGTWINE_H
 
@@ -50,6 +50,30 @@ uint8_t rungtwine_error_correction(
     const double *coords, size_t coords_len,
     const size_t *ends, size_t ends_len,
     size_t *place, size_t *protected_cells, size_t *error_cells);
+
+/* A part of a bitmap: `length` samples from `samples` on. */
+typedef struct {
+    const float *samples;
+    size_t length;
+} rungtwine_texel;
+
+/*
+ * Leaves in `texel` all channels of texel x, y: of `corrected` where bit RUNGTWINE_ERROR of the texel's stencil cell is set, otherwise of `original`,
+ * whatever the samples are. It is a part of that bitmap and no copy: `samples` points at the bitmap's sample (y * width + x) * channels, and `length`
+ * is `channels`. Where one of the checks 1 to 4 above fails for either bitmap, or x >= width, or y >= height, it is an empty part of `original`:
+ * `samples` is `original` and `length` is 0.
+ *
+ * There is no further demand on the numbers. Each pointer has to be good for the length beside it (`texel` for one), not null and aligned for its type,
+ * also where the length is 0; the two bitmaps may be one. `texel` overlaps nothing else and holds a part before the call, such as { original, 0 },
+ * which is not read. What it holds after is good for as long as the bitmaps are and nobody writes to them.
+ */
+void rungtwine_texel_view(
+    size_t width, size_t height, size_t channels,
+    const float *original, size_t original_len,
+    const float *corrected, size_t corrected_len,
+    const uint8_t *stencil, size_t stencil_len,
+    size_t x, size_t y,
+    rungtwine_texel *texel);
 
 #ifdef __cplusplus
 }

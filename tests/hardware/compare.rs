@@ -7,6 +7,8 @@ use std::hint::black_box;
 use std::time::Instant;
 
 extern "C" {
+    fn rungtwine_min(x: f32, y: f32) -> f32;
+    fn rungtwine_max(x: f32, y: f32) -> f32;
     fn rungtwine_median(a: f32, b: f32, c: f32) -> f32;
     fn rungtwine_abs32(x: f32) -> f32;
     fn rungtwine_abs64(x: f64) -> f64;
@@ -21,6 +23,12 @@ extern "C" {
 
 /// Safe names: every function takes any pattern and has no further demand.
 mod proved {
+    pub fn min(x: f32, y: f32) -> f32 {
+        unsafe { super::rungtwine_min(x, y) }
+    }
+    pub fn max(x: f32, y: f32) -> f32 {
+        unsafe { super::rungtwine_max(x, y) }
+    }
     pub fn median(a: f32, b: f32, c: f32) -> f32 {
         unsafe { super::rungtwine_median(a, b, c) }
     }
@@ -49,10 +57,10 @@ mod proved {
 
 /// What the machine does, by the rules that the definitions state.
 mod machine {
-    fn min(x: f32, y: f32) -> f32 {
+    pub fn min(x: f32, y: f32) -> f32 {
         if x.is_nan() || y < x { y } else { x }
     }
-    fn max(x: f32, y: f32) -> f32 {
+    pub fn max(x: f32, y: f32) -> f32 {
         if x.is_nan() || x < y { y } else { x }
     }
     pub fn median(a: f32, b: f32, c: f32) -> f32 {
@@ -225,6 +233,14 @@ fn compare(count: u64) -> bool {
     t.run("size", count, |r| {
         let (x, y) = (r.wide(), r.narrow());
         (!same64(proved::abs64(x), x.abs()) || !same32(proved::abs32(y), y.abs())).then(|| format!("{:016x} {:08x}", x.to_bits(), y.to_bits()))
+    });
+    t.run("smaller", count, |r| {
+        let (x, y) = (r.narrow(), r.narrow());
+        (!same32(proved::min(x, y), machine::min(x, y))).then(|| format!("{x:?} {y:?}"))
+    });
+    t.run("larger", count, |r| {
+        let (x, y) = (r.narrow(), r.narrow());
+        (!same32(proved::max(x, y), machine::max(x, y))).then(|| format!("{x:?} {y:?}"))
     });
     t.run("median", count, |r| {
         let (a, b, c) = (r.narrow(), r.narrow(), r.narrow());

@@ -1,5 +1,6 @@
 // The texel view: a texel's channels, of the corrected bitmap where its error flag is set and of the original elsewhere.
 ghost use mathlib.Core.Path.{_≡_};
+ghost use denote.Ref.{ptr};
 ghost use Rattle.correction.specs.View as View;
 use crate::checks;
 
@@ -13,19 +14,21 @@ pub fn texel_view<'a>(
     x: usize,
     y: usize,
 ) -> &'a [f32]
-    ensures { λ r. ⌜ now r ≡ View.viewOf (now (original .entry)) (now (corrected .entry)) (now (stencil .entry)) width height channels x y ⌝ }
+    ensures holds { λ r. ⌜ now r ≡ View.viewOf (now (original .entry)) (now (corrected .entry)) (now (stencil .entry)) width height channels x y ⌝ }
+    ensures lies { λ r. ⌜ ptr r ≡ View.viewPlace (original .entry) (corrected .entry) (now (stencil .entry)) width height channels x y ⌝ }
 {
+    let none = &original[0..0];
     if checks::size_refusal(width, height, channels, original.len(), stencil.len()) != 0 {
-        return &original[0..0];
+        return none;
     }
     if checks::size_refusal(width, height, channels, corrected.len(), stencil.len()) != 0 {
-        return &original[0..0];
+        return none;
     }
     if x >= width {
-        return &original[0..0];
+        return none;
     }
     if y >= height {
-        return &original[0..0];
+        return none;
     }
     let k = y * width + x;
     let at = k * channels;

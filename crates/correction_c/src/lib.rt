@@ -1,11 +1,14 @@
-// The pass for C and Rust to call.
+// The pass and the texel view for C and Rust to call.
 ghost use mathlib.Core.Path.{_≡_};
+ghost use denote.Ref.{ptr};
 ghost use Rattle.correction.specs.Checks as Checks;
 ghost use Rattle.correction.specs.Pass as Pass;
+ghost use Rattle.correction.specs.View as View;
 ghost use Rattle.correction_c.specs.Call.{called};
 use correction::config::Settings;
 use correction::pass;
 use correction::pass::Answer;
+use correction::view;
 
 // Answers the number of the first check that fails, 0 where all pass, and writes its place and the two counts.
 #[no_mangle]
@@ -65,4 +68,23 @@ pub extern "C" fn rungtwine_error_correction(
             n
         }
     }
+}
+
+// Leaves in texel what the view lends: an exported function returns no reference.
+#[no_mangle]
+pub extern "C" fn rungtwine_texel_view<'a>(
+    width: usize,
+    height: usize,
+    channels: usize,
+    original: &'a [f32],
+    corrected: &'a [f32],
+    stencil: &[u8],
+    x: usize,
+    y: usize,
+    texel: &mut &'a [f32],
+)
+    ensures holds { λ _. ⌜ now (now (texel .exit)) ≡ View.viewOf (now (original .entry)) (now (corrected .entry)) (now (stencil .entry)) width height channels x y ⌝ }
+    ensures lies { λ _. ⌜ ptr (now (texel .exit)) ≡ View.viewPlace (original .entry) (corrected .entry) (now (stencil .entry)) width height channels x y ⌝ }
+{
+    *texel = view::texel_view(original, corrected, stencil, width, height, channels, x, y);
 }

@@ -6,5 +6,7 @@ pub mod Bounds
 pub mod Median
 pub mod Floor
 pub mod Root
+pub mod Nearest
+pub mod Constants
 pub mod Quadratic
 pub mod Alike

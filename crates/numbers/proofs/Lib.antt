@@ -11,3 +11,5 @@ mod Start
 mod Rooting
 mod Differences
 mod Held
+mod Multiples
+mod Distances

@@ -95,7 +95,7 @@ twice-hid p h = ap (λ (x : ℕ). 2 ^ x) (suc-pred p h) ∙ pow-succ' 2 (p - 1)
     suc-pred p h = omega arith
 
 -- the field and the digits that `toBits` writes for a
-abbrev written : ℕ → ℕ → ℕ
+abbrev pub written : ℕ → ℕ → ℕ
 written p a = (size a - p) * 2 ^ (p - 1) + a / 2 ^ (size a - p)
 
 written-at : (p a k q : ℕ) → size a - p ≡ k → a ≡ q * 2 ^ k → written p a ≡ k * 2 ^ (p - 1) + q
@@ -105,7 +105,7 @@ written-at p a k q d e =
 step : (a h : ℕ) → suc a * h + h ≡ a * h + 2 * h
 step a h = omega arith
 
-written-is : (p q k : ℕ) → 0 < p → q ≤ 2 ^ p → (k ≡ 0) ⊎ (2 ^ (p - 1) ≤ q) → written p (q * 2 ^ k) ≡ k * 2 ^ (p - 1) + q
+pub written-is : (p q k : ℕ) → 0 < p → q ≤ 2 ^ p → (k ≡ 0) ⊎ (2 ^ (p - 1) ≤ q) → written p (q * 2 ^ k) ≡ k * 2 ^ (p - 1) + q
 written-is p q k P hi lo = elim (eq-or-lt-of-le hi) [
   | inl e ↦
       let a = q * 2 ^ k in

@@ -1,4 +1,5 @@
 -- A float rounded to binary32, and the mix of two. Definitions only.
+-- `narrow-nearest` in `Laws/Nearest.antt` below `proofs/` shows that `narrowOf` gives the nearest value as `Nearest` says it.
 use Prim.Native.Nat.{_*_}
 use lib.Ieee.{Float, nan, inf, fin, binary32, binary64, up, down, round, add, mul, sub}
 use Rattle.numbers.specs.Constants.{oneOf}

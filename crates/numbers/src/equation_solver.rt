@@ -1,4 +1,7 @@
 // Closed-form roots of a quadratic: the part of `geometry/equation_solver.rs` that the pass uses.
+ghost use mathlib.Core.Path.{_≡_};
+ghost use lib.Ieee.{binary64, lt};
+ghost use Rattle.numbers.specs.Constants.{zeroOf};
 ghost use Rattle.numbers.specs.Quadratic.{linearRoots, squareRoots, rootsOf, Listed};
 use crate::constants;
 use crate::scalar;
@@ -29,11 +32,18 @@ fn solve_linear(b: f64, c: f64) -> Roots
     }
 }
 
+// Two roots, where d is the discriminant.
+fn is_positive(d: f64) -> bool
+    ensures { λ r. ⌜ r ≡ lt (zeroOf binary64) d ⌝ }
+{
+    d > 0.0
+}
+
 // The roots where d is the discriminant and a is not 0.
 fn solve_square(a: f64, b: f64, d: f64) -> Roots
     ensures { λ r. ⌜ Listed (squareRoots a b d) (r .count) (r .first) (r .second) ⌝ }
 {
-    if d > 0.0 {
+    if is_positive(d) {
         let s = square_root::sqrt(d);
         return Roots {
             count: 2,

@@ -3,7 +3,7 @@ ghost use mathlib.Core.Path.{_≡_};
 ghost use lib.Ieee.{binary64};
 ghost use lib.ListN.{length, getD};
 ghost use Rattle.numbers.specs.Constants.{zeroOf};
-ghost use Rattle.numbers.specs.Select.{medianOf, absOf};
+ghost use Rattle.numbers.specs.Select.{minOf, maxOf, medianOf, absOf};
 ghost use Rattle.numbers.specs.Narrow.{narrowOf, mixOf};
 ghost use Rattle.numbers.specs.Floor.{floorOf};
 ghost use Rattle.numbers.specs.Root.{sqrtOf};
@@ -12,6 +12,20 @@ use numbers::equation_solver;
 use numbers::rounding;
 use numbers::scalar;
 use numbers::square_root;
+
+#[no_mangle]
+pub extern "C" fn rungtwine_min(x: f32, y: f32) -> f32
+    ensures { λ r. ⌜ r ≡ minOf x y ⌝ }
+{
+    scalar::min(x, y)
+}
+
+#[no_mangle]
+pub extern "C" fn rungtwine_max(x: f32, y: f32) -> f32
+    ensures { λ r. ⌜ r ≡ maxOf x y ⌝ }
+{
+    scalar::max(x, y)
+}
 
 #[no_mangle]
 pub extern "C" fn rungtwine_median(a: f32, b: f32, c: f32) -> f32

@@ -56,15 +56,17 @@ both true true e = (refl, refl)
 both true false e = absurd (let z : _≡_ {A = ℕ} 0 1 = cc in omega arith)
 both false b e = absurd (let z : _≡_ {A = ℕ} 0 1 = cc in omega arith)
 
-either : (a b : Bool) (c : ℕ) → eqb c 3 ≡ a → eqb c 4 ≡ b → (a || b) ≡ true → 3 ≤ c
-either true b c p q e = omega (arith, eqb-true c 3 p)
-either false true c p q e = omega (arith, eqb-true c 4 q)
+either : (a b : Bool) (c : ℕ) → eqb c 3 ≡ a → eqb c 4 ≡ b → (a || b) ≡ true → (3 ≤ c) × (c ≤ 4)
+either true b c p q e = (omega (arith, eqb-true c 3 p), omega (arith, eqb-true c 3 p))
+either false true c p q e = (omega (arith, eqb-true c 4 q), omega (arith, eqb-true c 4 q))
 either false false c p q e = absurd (let z : _≡_ {A = ℕ} 0 1 = cc in omega arith)
 
 pub record Sized (i : Input) : Type 0 where
   pub wide : 1 ≤ i .width
+  pub narrow : i .width ≤ 4096
   pub high : i .height ≤ 4096
   pub deep : 3 ≤ i .channels
+  pub shallow : i .channels ≤ 4
   pub samples : length (i .samples) ≡ i .width * i .height * i .channels
   pub cells : length (i .stencil) ≡ i .width * i .height
 
@@ -78,10 +80,14 @@ sized i a =
     let h = test-zero (badSide (i .height)) 2 _ (λ e. omega arith) (w .1) in
     let n = test-zero (not (eqb (length (i .samples)) (i .width * i .height * i .channels))) 3 _ (λ e. omega arith) (h .1) in
     let m = test-zero (not (eqb (length (i .stencil)) (i .width * i .height))) 4 0 (λ e. omega arith) (n .1) in
+    let d = either (eqb (i .channels) 3) (eqb (i .channels) 4) (i .channels) refl refl (not-false _ (c .0)) in
+    let b = both (leb 1 (i .width)) (leb (i .width) 4096) (not-false _ (w .0)) in
     record {
-      wide = leb-true 1 (i .width) (both (leb 1 (i .width)) (leb (i .width) 4096) (not-false _ (w .0)) .0);
+      wide = leb-true 1 (i .width) (b .0);
+      narrow = leb-true (i .width) 4096 (b .1);
       high = leb-true (i .height) 4096 (both (leb 1 (i .height)) (leb (i .height) 4096) (not-false _ (h .0)) .1);
-      deep = either (eqb (i .channels) 3) (eqb (i .channels) 4) (i .channels) refl refl (not-false _ (c .0));
+      deep = d .0;
+      shallow = d .1;
       samples = eqb-true _ _ (not-false _ (n .0));
       cells = eqb-true _ _ (not-false _ (m .0));
     }

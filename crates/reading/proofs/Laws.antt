@@ -1,2 +1,4 @@
--- What follows from the promise of the reading library.
+-- What follows from the definitions and from the promise of the reading library.
+pub mod Decimal
+pub mod Bounds
 pub mod Alike

@@ -2,15 +2,15 @@
 use mathlib.Core.Bool.{Bool, true, false, cond}
 use mathlib.Core.List.{List, [], _∷_}
 use mathlib.Core.Path.{_≡_, ap, _∙_}
-use Prim.Native.Nat.{ℕ, zero, suc, _+_, _*_, _/_, _%_, _≤_}
-use native.Mathlib.Nat.{add-mul, mul-suc}
+use Prim.Native.Nat.{ℕ, zero, suc, _+_, _*_, _/_, _%_, _^_, _≤_, _<_}
+use native.Mathlib.Nat.{add-mul, mul-suc, lt-of-le-of-lt, mod-le, div-le-self}
 use native.Mathlib.Omega.{arith}
-use lib.Dec.{leb}
 use lib.Ieee.{Float, binary32, toBits}
 use lib.ListN.{length, getD, length-append}
 use Rattle.correction.specs.Bitmap.{isError}
 use Rattle.reading.specs.Lists.{joined}
-use Rattle.reading.specs.Text.{digit, decimal, hexPair, hex, numbered, badText, refusedText, sizeText, countsText, marksText, rowText, rowsText, texelText, flaggedText, acceptedText}
+use Rattle.reading.specs.Text.{hexPair, hex, numbered, badText, refusedText, sizeText, countsText, marksText, rowText, rowsText, texelText, flaggedText, acceptedText}
+use Rattle.reading.proofs.Laws.Decimal.{decimal-length, decimal-length-u64}
 use Rattle.reading.proofs.Writes.{listed-length}
 
 cond-length : (t : Bool) (m : ℕ) (l : List ℕ) → length l ≤ m → length (cond t l []) ≤ m
@@ -18,23 +18,19 @@ cond-length true m l h = h
 cond-length false m l h = omega arith
 
 -- so many pieces of at most m
-pub joined-length : {A : Type 0} (n m : ℕ) (f : ℕ → List A) → ((k : ℕ) → length (f k) ≤ m) → length (joined n f) ≤ m * n
+pub joined-length : {A : Type 0} (n m : ℕ) (f : ℕ → List A) → ((k : ℕ) → k < n → length (f k) ≤ m) → length (joined n f) ≤ m * n
 unfolding joined
 joined-length zero m f h = omega arith
-joined-length (suc n) m f h = omega (arith, length-append (joined n f) (f n), joined-length n m f h, h n, mul-suc m n)
+joined-length (suc n) m f h = omega (arith, length-append (joined n f) (f n), joined-length n m f (λ k l. h k (omega arith)), h n (omega arith), mul-suc m n)
 
--- a digit, a number and a number with the byte after it
-pub digit-length : (n p : ℕ) → length (digit n p) ≤ 1
-unfolding digit
-digit-length n p = cond-length (leb p n) 1 _ (omega arith)
-
-pub decimal-length : (n : ℕ) → length (decimal n) ≤ 5
-unfolding decimal
-decimal-length n = simp length-append (omega (arith, digit-length n 10000, digit-length n 1000, digit-length n 100, digit-length n 10))
-
-pub numbered-length : (n b : ℕ) → length (numbered n b) ≤ 6
+-- a number with the byte after it: one that fits a u64, and one below 100,000
+pub numbered-length : (n b : ℕ) → n < 2 ^ 64 → length (numbered n b) ≤ 21
 unfolding numbered
-numbered-length n b = simp length-append (omega (arith, decimal-length n))
+numbered-length n b l = simp length-append (omega (arith, decimal-length-u64 n l))
+
+pub numbered-short : (n b : ℕ) → n < 100000 → length (numbered n b) ≤ 6
+unfolding numbered
+numbered-short n b l = simp length-append (omega (arith, decimal-length 5 n (omega arith) l))
 
 -- two hex digits, and eight
 pub hexPair-length : (v : ℕ) → length (hexPair v) ≤ 2
@@ -55,43 +51,53 @@ unfolding rowText
 row-length w st y = length-append (marksText w st (y * w)) (10 ∷ []) ∙ ap (λ (n : ℕ). n + 1) (marks-length w st (y * w))
 
 -- the line of a texel
-pub texel-length : (x y bits : ℕ) → length (texelText x y bits) ≤ 21
+pub texel-length : (x y bits : ℕ) → x < 100000 → y < 100000 → length (texelText x y bits) ≤ 21
 unfolding texelText
-texel-length x y bits = simp length-append (omega (arith, numbered-length x 32, numbered-length y 32, hex-length bits))
+texel-length x y bits p q = simp length-append (omega (arith, numbered-short x 32 p, numbered-short y 32 q, hex-length bits))
+
+-- neither place of a cell is above its number
+pub cell-short : (k w : ℕ) → k < 100000 → (k % w < 100000) × (k / w < 100000)
+cell-short k w l = (lt-of-le-of-lt (mod-le k w) l, lt-of-le-of-lt (div-le-self k w) l)
 
 -- where it is flagged
-pub flagged-length : (w : ℕ) (st : List ℕ) (medians : ℕ → Float) (k : ℕ) → length (flaggedText w st medians k) ≤ 21
+pub flagged-length : (w : ℕ) (st : List ℕ) (medians : ℕ → Float) (k : ℕ) → k < 100000 → length (flaggedText w st medians k) ≤ 21
 unfolding flaggedText
-flagged-length w st medians k = cond-length (isError (getD st k 0)) 21 _ (texel-length (k % w) (k / w) (toBits binary32 (medians k)))
+flagged-length w st medians k l =
+    let z = cell-short k w l in
+    cond-length (isError (getD st k 0)) 21 _ (texel-length (k % w) (k / w) (toBits binary32 (medians k)) (z .0) (z .1))
 
 -- the size line
-pub size-length : (w h ch : ℕ) → length (sizeText w h ch) ≤ 23
+pub size-length : (w h ch : ℕ) → w < 2 ^ 64 → h < 2 ^ 64 → ch < 2 ^ 64 → length (sizeText w h ch) ≤ 68
 unfolding sizeText
-size-length w h ch = simp length-append (omega (arith, numbered-length w 32, numbered-length h 32, numbered-length ch 10))
+size-length w h ch p q r = simp length-append (omega (arith, numbered-length w 32 p, numbered-length h 32 q, numbered-length ch 10 r))
 
 -- the counts line
-pub counts-length : (p e : ℕ) → length (countsText p e) ≤ 28
+pub counts-length : (p e : ℕ) → p < 2 ^ 64 → e < 2 ^ 64 → length (countsText p e) ≤ 58
 unfolding countsText
-counts-length p e = simp length-append (omega (arith, numbered-length p 32, numbered-length e 10))
+counts-length p e l m = simp length-append (omega (arith, numbered-length p 32 l, numbered-length e 10 m))
 
 -- all rows
 pub rows-length : (w h : ℕ) (st : List ℕ) → length (rowsText w h st) ≤ w * h + h
 unfolding rowsText
-rows-length w h st = omega (arith, joined-length h (w + 1) (rowText w st) (λ y. omega (arith, row-length w st y)), add-mul w 1 h)
+rows-length w h st = omega (arith, joined-length h (w + 1) (rowText w st) (λ y l. omega (arith, row-length w st y)), add-mul w 1 h)
 
 -- `bad input AT`
-pub bad-length : (at : ℕ) → length (badText at) ≤ 16
+pub bad-length : (at : ℕ) → at < 2 ^ 64 → length (badText at) ≤ 31
 unfolding badText
-bad-length at = simp length-append (omega (arith, numbered-length at 10))
+bad-length at l = simp length-append (omega (arith, numbered-length at 10 l))
 
 -- `refused N PLACE`
-pub refused-length : (n place : ℕ) → length (refusedText n place) ≤ 20
+pub refused-length : (n place : ℕ) → n < 2 ^ 64 → place < 2 ^ 64 → length (refusedText n place) ≤ 50
 unfolding refusedText
-refused-length n place = simp length-append (omega (arith, numbered-length n 32, numbered-length place 10))
+refused-length n place p q = simp length-append (omega (arith, numbered-length n 32 p, numbered-length place 10 q))
+
+-- all texels
+pub texels-length : (n w : ℕ) (st : List ℕ) (medians : ℕ → Float) → n ≤ 100000 → length (joined n (flaggedText w st medians)) ≤ 21 * n
+texels-length n w st medians l = joined-length n 21 (flaggedText w st medians) (λ k p. flagged-length w st medians k (omega arith))
 
 -- an accepted pass
-pub accepted-length : (w h ch p e : ℕ) (st : List ℕ) (medians : ℕ → Float) → length (acceptedText w h ch p e st medians) ≤ 51 + (w * h + h) + 21 * (w * h)
+pub accepted-length : (w h ch p e : ℕ) (st : List ℕ) (medians : ℕ → Float) → w < 2 ^ 64 → h < 2 ^ 64 → ch < 2 ^ 64 → p < 2 ^ 64 → e < 2 ^ 64 → w * h ≤ 100000 → length (acceptedText w h ch p e st medians) ≤ 126 + (w * h + h) + 21 * (w * h)
 unfolding acceptedText
-accepted-length w h ch p e st medians =
+accepted-length w h ch p e st medians a b c d f l =
     simp length-append
-    (omega (arith, size-length w h ch, counts-length p e, rows-length w h st, joined-length (w * h) 21 (flaggedText w st medians) (flagged-length w st medians)))
+    (omega (arith, size-length w h ch a b c, counts-length p e d f, rows-length w h st, texels-length (w * h) w st medians l))

@@ -6,7 +6,7 @@ use native.Mathlib.Nat.{add-zero}
 use native.Mathlib.Numerals.{add-one}
 use native.Mathlib.Omega.{arith}
 use lib.ListN.{length, set, take, drop, length-append}
-use lib.Seq.{sets, length-sets, sets-eq, take-at}
+use lib.Seq.{sets, length-sets, sets-eq, take-at, set-comm}
 use Rattle.reading.specs.Lists.{joined, listed}
 use Rattle.reading.specs.Written.{Written}
 
@@ -15,6 +15,13 @@ module _ {A : Type 0} where
   sets-append : (out : List A) (at : ℕ) (t u : List A) → sets out at (t ++ u) ≡ sets (sets out at t) (at + length t) u
   sets-append out at [] u = ap (λ (k : ℕ). sets out k u) (sym (add-zero at))
   sets-append out at (a ∷ t) u = sets-append (set out at a) (suc at) t u ∙ ap (λ (k : ℕ). sets (sets (set out at a) (suc at) t) k u) (omega arith)
+
+  -- the last of a run of stores may come first
+  pub sets-last : (out : List A) (at : ℕ) (t : List A) (a : A) → sets out at (t ++ (a ∷ [])) ≡ sets (set out (at + length t) a) at t
+  sets-last out at [] a = ap (λ (k : ℕ). set out k a) (sym (add-zero at))
+  sets-last out at (b ∷ t) a =
+      let z : suc at + length t ≡ at + suc (length t) = omega arith in
+      sets-last (set out at b) (suc at) t a ∙ ap (λ (l : List A). sets l (suc at) t) (set-comm out at (suc at + length t) b a (λ e. omega arith) ∙ ap (λ (k : ℕ). set (set out k a) at b) z)
 
   -- one more piece
   pub joined-more : (k : ℕ) (f : ℕ → List A) → joined (k + 1) f ≡ joined k f ++ f k

@@ -3,20 +3,13 @@ use Prim.Native.Nat.{ℕ, _+_, _*_, _/_, _%_}
 use mathlib.Core.Bool.{cond}
 use mathlib.Core.List.{List, [], _∷_, _++_}
 use lib.ListN.{getD}
-use lib.Dec.{ltb, leb}
+use lib.Dec.{ltb}
 use lib.Ieee.{Float, binary32, toBits}
 use Rattle.correction.specs.Bitmap.{isProtected, isError}
+use Rattle.reading.specs.Decimal.{decimal}
 use Rattle.reading.specs.Lists.{joined, listed}
 
 -- ---- numbers
-
--- the digit of n at a power of ten, where n reaches it
-unfoldable pub digit : ℕ → ℕ → List ℕ
-digit n p = cond (leb p n) ((48 + n / p % 10) ∷ []) []
-
--- a number below 100,000, in decimal
-unfoldable pub decimal : ℕ → List ℕ
-decimal n = digit n 10000 ++ (digit n 1000 ++ (digit n 100 ++ (digit n 10 ++ ((48 + n % 10) ∷ []))))
 
 -- a number below 16 as an upper-case hex digit
 unfoldable pub hexDigit : ℕ → ℕ

@@ -4,6 +4,7 @@ ghost use Prim.Native.Nat.{_+_, _*_, _≤_, _<_};
 ghost use mathlib.Core.List.{[], _∷_};
 ghost use lib.ListN.{length, getD};
 ghost use lib.Ieee.{nan};
+ghost use Rattle.reading.specs.Decimal.{decimal};
 ghost use Rattle.reading.specs.Lists.{joined};
 ghost use Rattle.reading.specs.Text as Text;
 ghost use Rattle.reading.specs.Written.{Written};
@@ -29,31 +30,39 @@ fn put_all(out: &mut [u8], at: usize, t: &[u8]) -> usize
     at + j
 }
 
-// The digit of n at a power of ten, where n reaches it.
-fn put_digit(out: &mut [u8], at: usize, n: usize, p: usize) -> usize
-    requires { ⌜ (at < length (now out)) × (0 < p) ⌝ }
-    ensures { λ r. ⌜ Written (now (out .entry)) at (Text.digit n p) r (now (out .exit)) ⌝ }
+// How many digits n has in decimal.
+fn digits(n: usize) -> usize
+    ensures { λ r. ⌜ r ≡ length (decimal n) ⌝ }
 {
-    if p <= n {
-        return put(out, at, (48 + n / p % 10) as u8);
+    let mut count = 1usize;
+    let mut m = n;
+    while 10 <= m {
+        m /= 10;
+        count += 1;
     }
-    at
+    count
 }
 
+// The digits of n, written from the last to the first.
 fn put_decimal(out: &mut [u8], at: usize, n: usize) -> usize
-    requires { ⌜ at + 5 ≤ length (now out) ⌝ }
-    ensures { λ r. ⌜ Written (now (out .entry)) at (Text.decimal n) r (now (out .exit)) ⌝ }
+    requires { ⌜ at + length (decimal n) ≤ length (now out) ⌝ }
+    ensures { λ r. ⌜ Written (now (out .entry)) at (decimal n) r (now (out .exit)) ⌝ }
 {
-    let a = put_digit(out, at, n, 10000);
-    let b = put_digit(out, a, n, 1000);
-    let c = put_digit(out, b, n, 100);
-    let d = put_digit(out, c, n, 10);
-    put(out, d, (48 + n % 10) as u8)
+    let end = at + digits(n);
+    let mut m = n;
+    let mut next = end;
+    while 10 <= m {
+        next -= 1;
+        out[next] = (48 + m % 10) as u8;
+        m /= 10;
+    }
+    out[at] = (48 + m) as u8;
+    end
 }
 
-// A number and the byte after it.
+// A number and the byte after it: at most 21 bytes for any number.
 fn put_number(out: &mut [u8], at: usize, n: usize, b: u8) -> usize
-    requires { ⌜ at + 6 ≤ length (now out) ⌝ }
+    requires { ⌜ at + length (Text.numbered n b) ≤ length (now out) ⌝ }
     ensures { λ r. ⌜ Written (now (out .entry)) at (Text.numbered n b) r (now (out .exit)) ⌝ }
 {
     let a = put_decimal(out, at, n);
@@ -107,7 +116,7 @@ fn mark(v: u8) -> u8
 
 // `bad input AT`
 pub fn put_bad(out: &mut [u8], place: usize) -> usize
-    requires { ⌜ 16 ≤ length (now out) ⌝ }
+    requires { ⌜ 31 ≤ length (now out) ⌝ }
     ensures { λ r. ⌜ Written (now (out .entry)) 0 (Text.badText place) r (now (out .exit)) ⌝ }
 {
     let a = put_all(out, 0, b"bad input ");
@@ -116,7 +125,7 @@ pub fn put_bad(out: &mut [u8], place: usize) -> usize
 
 // `refused N PLACE`
 pub fn put_refused(out: &mut [u8], n: usize, place: usize) -> usize
-    requires { ⌜ 20 ≤ length (now out) ⌝ }
+    requires { ⌜ 50 ≤ length (now out) ⌝ }
     ensures { λ r. ⌜ Written (now (out .entry)) 0 (Text.refusedText n place) r (now (out .exit)) ⌝ }
 {
     let a = put_all(out, 0, b"refused ");
@@ -126,7 +135,7 @@ pub fn put_refused(out: &mut [u8], n: usize, place: usize) -> usize
 
 // `size W H C`
 fn put_size(out: &mut [u8], at: usize, w: usize, h: usize, ch: usize) -> usize
-    requires { ⌜ at + 23 ≤ length (now out) ⌝ }
+    requires { ⌜ at + 68 ≤ length (now out) ⌝ }
     ensures { λ r. ⌜ Written (now (out .entry)) at (Text.sizeText w h ch) r (now (out .exit)) ⌝ }
 {
     let a = put_all(out, at, b"size ");
@@ -137,7 +146,7 @@ fn put_size(out: &mut [u8], at: usize, w: usize, h: usize, ch: usize) -> usize
 
 // `protected P error E`
 fn put_counts(out: &mut [u8], at: usize, p: usize, e: usize) -> usize
-    requires { ⌜ at + 28 ≤ length (now out) ⌝ }
+    requires { ⌜ at + 58 ≤ length (now out) ⌝ }
     ensures { λ r. ⌜ Written (now (out .entry)) at (Text.countsText p e) r (now (out .exit)) ⌝ }
 {
     let a = put_all(out, at, b"protected ");
@@ -181,9 +190,9 @@ fn put_rows(out: &mut [u8], at: usize, st: &[u8], w: usize, h: usize) -> usize
     next
 }
 
-// `X Y BITS`
+// `X Y BITS`, of places with at most five digits.
 fn put_texel(out: &mut [u8], at: usize, x: usize, y: usize, bits: u32) -> usize
-    requires { ⌜ at + 21 ≤ length (now out) ⌝ }
+    requires { ⌜ (at + 21 ≤ length (now out)) × (x < 100000) × (y < 100000) ⌝ }
     ensures { λ r. ⌜ Written (now (out .entry)) at (Text.texelText x y bits) r (now (out .exit)) ⌝ }
 {
     let a = put_number(out, at, x, 32);
@@ -203,7 +212,7 @@ fn put_flagged(
     k: usize,
 ) -> usize
     requires { ⌜ (at + 21 ≤ length (now out)) × (k < length (now st)) ⌝ }
-    requires { ⌜ (k * ch < length (now xs)) × (0 < w) ⌝ }
+    requires { ⌜ (k * ch < length (now xs)) × (0 < w) × (k < 100000) ⌝ }
     ensures { λ r. ⌜ Written (now (out .entry)) at (Text.flaggedText w (now (st .entry)) (λ i. getD (now (xs .entry)) (i * ch) nan) k) r (now (out .exit)) ⌝ }
 {
     if st[k] % 2 == 1 {
@@ -224,7 +233,7 @@ fn put_texels(
     n: usize,
 ) -> usize
     requires { ⌜ (at + 21 * n ≤ length (now out)) × (n ≤ length (now st)) ⌝ }
-    requires { ⌜ (n * ch ≤ length (now xs)) × (0 < ch) × (0 < w) ⌝ }
+    requires { ⌜ (n * ch ≤ length (now xs)) × (0 < ch) × (0 < w) × (n ≤ 100000) ⌝ }
     ensures { λ r. ⌜ Written (now (out .entry)) at (joined n (Text.flaggedText w (now (st .entry)) (λ i. getD (now (xs .entry)) (i * ch) nan))) r (now (out .exit)) ⌝ }
 {
     let mut next = at;

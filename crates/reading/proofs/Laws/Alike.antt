@@ -1,13 +1,14 @@
 -- The promise of `answer` permits one answer and one state of the slice that it writes: two that it permits for the same arguments are the same.
 -- `Post κs a z e` is the promise as it is read from the source: of the arguments a, the result z and the arguments at exit e. Assumes nothing.
-use mathlib.Core.Path.{_≡_, sym, _∙_}
+use mathlib.Core.Path.{_≡_}
 use denote.Ref.{now}
+use Rattle.numbers.proofs.Laws.Alike.{alike}
 use Rattle.reading.proofs.answer.Reads as answer
 
 -- Two answers are the same,
 pub answers-alike : (κs : _) (a : _) (z z' : _) (e e' : _) → answer.Post κs a z e → answer.Post κs a z' e' → z ≡ z'
-answers-alike κs a z z' e e' p q = p .0 ∙ sym (q .0)
+answers-alike κs a z z' e e' p q = alike (p .0) (q .0)
 
 -- and so are two slices at exit, the second argument.
 pub outputs-alike : (κs : _) (a : _) (z z' : _) (e e' : _) → answer.Post κs a z e → answer.Post κs a z' e' → now (e .1 .0) ≡ now (e' .1 .0)
-outputs-alike κs a z z' e e' p q = let h = answers-alike κs a z z' e e' p q in (rw h at (p .1)) ∙ sym (q .1)
+outputs-alike κs a z z' e e' p q = let h = answers-alike κs a z z' e e' p q in alike (rw h at (p .1)) (q .1)

@@ -3,6 +3,7 @@ use mathlib.Core.Path.{sym, _∙_}
 use denote.Ref.{now}
 use borrow.Author.Needs.{needs}
 use Rattle.correction.specs.Checks.{input}
+use Rattle.correction.proofs.Laws.Answer.{answers-fix}
 use Rattle.reading.proofs.Answered.{accepted-text, refused-text, roomy}
 use Rattle.reading.proofs.Writes.{written-as}
 use Rattle.reading.proofs.run.run.Statement.{statement}
@@ -19,7 +20,7 @@ put-accepted-requires c κs =
     let d = c .before .before .before .before .before .before .before .before .before .before .before .before .before .before .before .before .before .before .before .args in
     let i = input (d .w) (d .h) (d .ch) (now (d .samples)) (now (d .stencil)) (d .mode) (d .s) (now (d .colours)) (now (d .coords)) (now (d .ends)) in
     let p = c .before .before .before .before .before .before .before .before .before .before .msdf-error-correction .ensures in
-    let r = roomy i _ _ _ (sym (c .before .before .before .before .c .given .1) ∙ p .0) (c .before .before .before .before .before .before .before .before .before .before .before .before .before .before .before .before .before .before .before .pre .1) (p .1 .0) (p .1 .1) in
+    let r = roomy i _ _ _ (sym (c .before .before .before .before .c .given .1) ∙ answers-fix i _ (p .0)) (c .before .before .before .before .before .before .before .before .before .before .before .before .before .before .before .before .before .before .before .pre .1) (p .1 .0) (p .1 .1) in
     (r .sizes, (r .cells, r .samples, c .before .before .before .before .before .before .before .before .before .before .before .before .before .before .before .before .before .before .before .pre .0))
 
 enum-known-n : tie.Need-enum-known-n
@@ -45,7 +46,7 @@ returns c =
     let d = c .before .before .before .before .before .before .before .before .before .before .before .before .before .before .before .before .before .before .before .before .before .before .args in
     let i = input (d .w) (d .h) (d .ch) (now (d .samples)) (now (d .stencil)) (d .mode) (d .s) (now (d .colours)) (now (d .coords)) (now (d .ends)) in
     let p = c .before .before .before .before .before .before .before .before .before .before .before .before .before .msdf-error-correction .ensures in
-    written-as _ (accepted-text i _ _ _ (sym (c .before .before .before .before .before .before .before .c .given .1) ∙ p .0) (p .1 .0) (p .1 .1)) (c .before .before .put-accepted .ensures)
+    written-as _ (accepted-text i _ _ _ (sym (c .before .before .before .before .before .before .before .c .given .1) ∙ answers-fix i _ (p .0)) (p .1 .0) (p .1 .1)) (c .before .before .put-accepted .ensures)
 
 same-length-4 : tie.Need-same-length-4
 same-length-4 c = search needs
@@ -61,7 +62,7 @@ returns-2 c =
     let d = c .before .before .before .before .before .before .before .before .before .before .before .before .before .before .before .before .before .before .before .before .args in
     let i = input (d .w) (d .h) (d .ch) (now (d .samples)) (now (d .stencil)) (d .mode) (d .s) (now (d .colours)) (now (d .coords)) (now (d .ends)) in
     let p = c .before .before .before .before .before .before .before .before .before .before .before .msdf-error-correction .ensures in
-    written-as _ (refused-text i _ _ (sym (c .before .before .before .before .before .n .given .1) ∙ p .0)) (c .before .before .put-refused .ensures)
+    written-as _ (refused-text i _ _ (sym (c .before .before .before .before .before .n .given .1) ∙ answers-fix i _ (p .0))) (c .before .before .put-refused .ensures)
 
 pub run-spec : {M : Type 1} → statement M
 run-spec =

@@ -16,16 +16,15 @@ put-size-requires c κs = search needs
 put-counts-requires : tie.Need-put-counts-requires
 put-counts-requires c κs =
     let d = c .before .before .before .before .before .before .before .before .args in
-    let q = mul-comm (d .h) (d .w) in
-    let r1 = written-room 23 98281 (c .before .before .before .put-size .ensures) (size-length (d .w) (d .h) (d .ch)) (omega arith) in
+    let r1 = written-room 68 98236 (c .before .before .before .put-size .ensures) (size-length (d .w) (d .h) (d .ch) (omega arith) (omega arith) (omega arith)) (omega arith) in
     omega (arith, r1)
 
 put-rows-requires : tie.Need-put-rows-requires
 put-rows-requires c κs =
     let d = c .before .before .before .before .before .before .before .before .before .before .before .before .args in
     let q = mul-comm (d .h) (d .w) in
-    let r1 = written-room 23 98281 (c .before .before .before .before .before .before .before .put-size .ensures) (size-length (d .w) (d .h) (d .ch)) (omega arith) in
-    let r2 = written-room 28 98253 (c .before .before .before .put-counts .ensures) (counts-length (d .p) (d .e)) (omega (arith, r1)) in
+    let r1 = written-room 68 98236 (c .before .before .before .before .before .before .before .put-size .ensures) (size-length (d .w) (d .h) (d .ch) (omega arith) (omega arith) (omega arith)) (omega arith) in
+    let r2 = written-room 58 98178 (c .before .before .before .put-counts .ensures) (counts-length (d .p) (d .e) (omega arith) (omega arith)) (omega (arith, r1)) in
     (omega (arith, r2, mul-add (d .h) (d .w) 1), omega (arith, q))
 
 mul-put-texels : tie.Need-mul-put-texels
@@ -33,12 +32,12 @@ mul-put-texels c = search needs
 
 put-texels-requires : tie.Need-put-texels-requires
 put-texels-requires c κs =
-    let d = c .before .before .before .before .before .before .before .before .before .before .before .before .before .before .before .before .args in
-    let q = mul-comm (d .h) (d .w) in
-    let r1 = written-room 23 98281 (c .before .before .before .before .before .before .before .before .before .before .before .put-size .ensures) (size-length (d .w) (d .h) (d .ch)) (omega arith) in
-    let r2 = written-room 28 98253 (c .before .before .before .before .before .before .before .put-counts .ensures) (counts-length (d .p) (d .e)) (omega (arith, r1)) in
+    let b = c .before .before .before .before .before .before .before .before .before .before .before .before .before .before .before .before in
+    let d = b .args in
+    let r1 = written-room 68 98236 (c .before .before .before .before .before .before .before .before .before .before .before .put-size .ensures) (size-length (d .w) (d .h) (d .ch) (omega arith) (omega arith) (omega arith)) (omega arith) in
+    let r2 = written-room 58 98178 (c .before .before .before .before .before .before .before .put-counts .ensures) (counts-length (d .p) (d .e) (omega arith) (omega arith)) (omega (arith, r1)) in
     let r3 = written-room (d .w * d .h + d .h) (21 * (d .w * d .h)) (c .before .before .before .put-rows .ensures) (rows-length (d .w) (d .h) (now (d .st))) (omega (arith, r2)) in
-    ((r3, c .before .before .before .before .before .before .before .before .before .before .before .before .before .before .before .before .pre .1 .0), (c .before .before .before .before .before .before .before .before .before .before .before .before .before .before .before .before .pre .1 .1, c .before .before .before .before .before .before .before .before .before .before .before .before .before .before .before .before .pre .0 .1, c .before .before .before .before .before .before .before .before .before .before .before .before .before .before .before .before .pre .0 .0))
+    ((r3, b .pre .1 .0), (b .pre .1 .1, b .pre .0 .1, b .pre .0 .0, omega arith))
 
 same-length : tie.Need-same-length
 same-length c = search needs

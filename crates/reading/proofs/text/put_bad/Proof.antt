@@ -1,8 +1,10 @@
 -- `reading::text::put_bad` meets its contract. Assumes nothing.
 use Prim.Native.Nat.{_-_}
+use native.Mathlib.Omega.{arith}
 use borrow.Author.Needs.{needs}
 use Rattle.reading.specs.Text.{badText}
-use Rattle.reading.proofs.Writes.{written-then}
+use Rattle.reading.proofs.Lengths.{numbered-length}
+use Rattle.reading.proofs.Writes.{written-then, written-room}
 use Rattle.reading.proofs.text.put_bad.Statement.{statement}
 use Rattle.reading.proofs.text.put_bad.Tie as tie
 
@@ -13,7 +15,9 @@ put-all-requires : tie.Need-put-all-requires
 put-all-requires c κs = search needs
 
 put-number-requires : tie.Need-put-number-requires
-put-number-requires c κs = search needs
+put-number-requires c κs =
+    let r1 = written-room 10 21 (c .before .before .before .put-all .ensures) (omega arith) (omega arith) in
+    omega (arith, r1, numbered-length (c .before .before .before .before .before .before .before .args .place) 10 (omega arith))
 
 same-length : tie.Need-same-length
 same-length c = search needs

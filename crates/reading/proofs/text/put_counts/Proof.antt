@@ -15,23 +15,28 @@ put-all-requires : tie.Need-put-all-requires
 put-all-requires c κs = search needs
 
 put-number-requires : tie.Need-put-number-requires
-put-number-requires c κs = search needs
+put-number-requires c κs =
+    let d = c .before .before .before .before .before .before .before .args in
+    let r1 = written-room 10 48 (c .before .before .before .put-all .ensures) (omega arith) (omega arith) in
+    omega (arith, r1, numbered-length (d .p) 32 (omega arith))
 
 slice-aggregate-put-all-2 : tie.Need-slice-aggregate-put-all-2
 slice-aggregate-put-all-2 c = search needs
 
 put-all-requires-2 : tie.Need-put-all-requires-2
 put-all-requires-2 c κs =
-    let r1 = written-room 10 18 (c .before .before .before .before .before .before .before .before .put-all .ensures) (omega arith) (omega arith) in
-    let r2 = written-room 6 12 (c .before .before .before .before .put-number .ensures) (numbered-length (c .before .before .before .before .before .before .before .before .before .before .before .before .args .p) 32) (omega (arith, r1)) in
+    let d = c .before .before .before .before .before .before .before .before .before .before .before .before .args in
+    let r1 = written-room 10 48 (c .before .before .before .before .before .before .before .before .put-all .ensures) (omega arith) (omega arith) in
+    let r2 = written-room 21 27 (c .before .before .before .before .put-number .ensures) (numbered-length (d .p) 32 (omega arith)) (omega (arith, r1)) in
     omega (arith, r2)
 
 put-number-requires-2 : tie.Need-put-number-requires-2
 put-number-requires-2 c κs =
-    let r1 = written-room 10 18 (c .before .before .before .before .before .before .before .before .before .before .before .before .put-all .ensures) (omega arith) (omega arith) in
-    let r2 = written-room 6 12 (c .before .before .before .before .before .before .before .before .put-number .ensures) (numbered-length (c .before .before .before .before .before .before .before .before .before .before .before .before .before .before .before .before .args .p) 32) (omega (arith, r1)) in
-    let r3 = written-room 6 6 (c .before .before .before .put-all2 .ensures) (omega arith) (omega (arith, r2)) in
-    omega (arith, r3)
+    let d = c .before .before .before .before .before .before .before .before .before .before .before .before .before .before .before .before .args in
+    let r1 = written-room 10 48 (c .before .before .before .before .before .before .before .before .before .before .before .before .put-all .ensures) (omega arith) (omega arith) in
+    let r2 = written-room 21 27 (c .before .before .before .before .before .before .before .before .put-number .ensures) (numbered-length (d .p) 32 (omega arith)) (omega (arith, r1)) in
+    let r3 = written-room 6 21 (c .before .before .before .put-all2 .ensures) (omega arith) (omega (arith, r2)) in
+    omega (arith, r3, numbered-length (d .e) 10 (omega arith))
 
 same-length : tie.Need-same-length
 same-length c = search needs

@@ -1,65 +1,94 @@
--- `reading::text::put_decimal` meets its contract. Assumes nothing.
-use Prim.Native.Nat.{_-_}
+-- `reading::text::put_decimal` meets its contract: the digits of what is left, once written before those that are, are all. Assumes nothing.
+use mathlib.Core.Path.{_≡_, refl, sym, ap, _∙_}
+use Prim.Native.Nat.{_+_, _-_, _/_, _%_, _≤_}
 use native.Mathlib.Omega.{arith}
+use lib.ListN.{length, set, length-set}
+use lib.Seq.{sets}
 use borrow.Author.Needs.{needs}
-use Rattle.reading.specs.Text.{decimal}
-use Rattle.reading.proofs.Lengths.{digit-length}
-use Rattle.reading.proofs.Writes.{written-then, written-room}
+use Rattle.reading.specs.Decimal.{decimal}
+use Rattle.reading.proofs.Laws.Decimal.{decimal-one, decimal-more, length-more, decimal-some}
+use Rattle.reading.proofs.Writes.{sets-last}
 use Rattle.reading.proofs.text.put_decimal.Statement.{statement}
 use Rattle.reading.proofs.text.put_decimal.Tie as tie
 
-put-digit-requires : tie.Need-put-digit-requires
-put-digit-requires c κs = search needs
+abbrev Inv-loop : tie.InvT-loop
+Inv-loop out₀ at n end m₀ next₀ out m next = (next ≡ at + length (decimal m)) × (next ≤ length out₀) × (length out ≡ length out₀) × (sets out at (decimal m) ≡ sets out₀ at (decimal n))
 
-put-digit-requires-2 : tie.Need-put-digit-requires-2
-put-digit-requires-2 c κs =
-    let r1 = written-room 1 4 (c .before .before .before .put-digit .ensures) (digit-length (c .before .before .before .before .before .before .args .n) 10000) (omega arith) in
-    (omega (arith, r1), omega arith)
+abbrev μ-loop : tie.MeasureT-loop
+μ-loop out₀ at n end m₀ next₀ out m next = m
 
-put-digit-requires-3 : tie.Need-put-digit-requires-3
-put-digit-requires-3 c κs =
-    let r1 = written-room 1 4 (c .before .before .before .before .before .before .before .put-digit .ensures) (digit-length (c .before .before .before .before .before .before .before .before .before .before .args .n) 10000) (omega arith) in
-    let r2 = written-room 1 3 (c .before .before .before .put-digit2 .ensures) (digit-length (c .before .before .before .before .before .before .before .before .before .before .args .n) 1000) (omega (arith, r1)) in
-    (omega (arith, r2), omega arith)
+digits-requires : tie.Need-digits-requires Inv-loop μ-loop
+digits-requires c κs = search needs
 
-put-digit-requires-4 : tie.Need-put-digit-requires-4
-put-digit-requires-4 c κs =
-    let r1 = written-room 1 4 (c .before .before .before .before .before .before .before .before .before .before .before .put-digit .ensures) (digit-length (c .before .before .before .before .before .before .before .before .before .before .before .before .before .before .args .n) 10000) (omega arith) in
-    let r2 = written-room 1 3 (c .before .before .before .before .before .before .before .put-digit2 .ensures) (digit-length (c .before .before .before .before .before .before .before .before .before .before .before .before .before .before .args .n) 1000) (omega (arith, r1)) in
-    let r3 = written-room 1 2 (c .before .before .before .put-digit3 .ensures) (digit-length (c .before .before .before .before .before .before .before .before .before .before .before .before .before .before .args .n) 100) (omega (arith, r2)) in
-    (omega (arith, r3), omega arith)
+add-end : tie.Need-add-end Inv-loop μ-loop
+add-end c = omega arith
 
-add-put : tie.Need-add-put
-add-put c = search needs
+loop-holds : tie.Need-loop-holds Inv-loop μ-loop
+loop-holds c = (omega arith, omega arith, refl, refl)
 
-cast-put : tie.Need-cast-put
-cast-put c = search needs
+sub-next : tie.Need-sub-next Inv-loop μ-loop
+sub-next c = omega (arith, decimal-some (c .before .loop .m))
 
-put-requires : tie.Need-put-requires
-put-requires c κs =
-    let r1 = written-room 1 4 (c .before .before .before .before .before .before .before .before .before .before .before .before .before .before .before .put-digit .ensures) (digit-length (c .before .before .before .before .before .before .before .before .before .before .before .before .before .before .before .before .before .before .args .n) 10000) (omega arith) in
-    let r2 = written-room 1 3 (c .before .before .before .before .before .before .before .before .before .before .before .put-digit2 .ensures) (digit-length (c .before .before .before .before .before .before .before .before .before .before .before .before .before .before .before .before .before .before .args .n) 1000) (omega (arith, r1)) in
-    let r3 = written-room 1 2 (c .before .before .before .before .before .before .before .put-digit3 .ensures) (digit-length (c .before .before .before .before .before .before .before .before .before .before .before .before .before .before .before .before .before .before .args .n) 100) (omega (arith, r2)) in
-    let r4 = written-room 1 1 (c .before .before .before .put-digit4 .ensures) (digit-length (c .before .before .before .before .before .before .before .before .before .before .before .before .before .before .before .before .before .before .args .n) 10) (omega (arith, r3)) in
-    omega (arith, r4)
+add-out : tie.Need-add-out Inv-loop μ-loop
+add-out c = omega arith
 
-same-length : tie.Need-same-length
-same-length c = search needs
+cast-out : tie.Need-cast-out Inv-loop μ-loop
+cast-out c = omega arith
 
-returns : tie.Need-returns
-unfolding decimal
-returns c = written-then (c .before .before .before .before .before .before .before .before .before .before .before .before .before .before .before .before .before .before .put-digit .ensures) (written-then (c .before .before .before .before .before .before .before .before .before .before .before .before .before .before .put-digit2 .ensures) (written-then (c .before .before .before .before .before .before .before .before .before .before .put-digit3 .ensures) (written-then (c .before .before .before .before .before .before .put-digit4 .ensures) (c .before .before .put .ensures))))
+slice-write-out : tie.Need-slice-write-out Inv-loop μ-loop
+slice-write-out c = omega (arith, decimal-some (c .before .loop .m))
+
+loop-less : tie.Need-loop-less Inv-loop μ-loop
+loop-less c = omega arith
+
+loop-again : tie.Need-loop-again Inv-loop μ-loop
+loop-again c =
+    let l = c .before .loop in
+    let at = c .before .before .before .before .args .at in
+    let d = 48 + l .m % 10 in
+    let z : l .next - 1 ≡ at + length (decimal (l .m / 10)) = omega (arith, length-more (l .m) (c .loop-test .taken)) in (
+      z,
+      omega arith,
+      length-set (l .out) (l .next - 1) d ∙ l .inv .2,
+      ap (λ k. sets (set (l .out) k d) at (decimal (l .m / 10))) z ∙ sym (ap (sets (l .out) at) (decimal-more (l .m) (c .loop-test .taken)) ∙ sets-last (l .out) at (decimal (l .m / 10)) d) ∙ l .inv .3,
+    )
+
+add-out-2 : tie.Need-add-out-2 Inv-loop μ-loop
+add-out-2 c = omega arith
+
+cast-out-2 : tie.Need-cast-out-2 Inv-loop μ-loop
+cast-out-2 c = omega arith
+
+slice-write-out-2 : tie.Need-slice-write-out-2 Inv-loop μ-loop
+slice-write-out-2 c = omega (arith, decimal-some (c .before .loop .m))
+
+same-length : tie.Need-same-length Inv-loop μ-loop
+same-length c = length-set (c .before .loop .out) (c .before .before .before .before .args .at) (48 + c .before .loop .m) ∙ c .before .loop .inv .2
+
+returns : tie.Need-returns Inv-loop μ-loop
+returns c =
+    record {
+      holds = ap (sets (c .before .loop .out) (c .before .before .before .before .args .at)) (sym (decimal-one (c .before .loop .m) (c .loop-test .left))) ∙ c .before .loop .inv .3;
+      to = ap (λ k. c .before .before .before .before .args .at + k) (c .before .before .digits .ensures);
+    }
 
 pub put-decimal-spec : {M : Type 1} → statement M
 put-decimal-spec =
     tie.close
     (tie.spec
-    put-digit-requires
-    put-digit-requires-2
-    put-digit-requires-3
-    put-digit-requires-4
-    add-put
-    cast-put
-    put-requires
+    Inv-loop
+    μ-loop
+    digits-requires
+    add-end
+    loop-holds
+    sub-next
+    add-out
+    cast-out
+    slice-write-out
+    loop-less
+    loop-again
+    add-out-2
+    cast-out-2
+    slice-write-out-2
     same-length
     returns)

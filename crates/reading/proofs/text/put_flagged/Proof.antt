@@ -9,6 +9,7 @@ use borrow.Author.Needs.{needs}
 use borrow.Author.Tests.{eq-eqb, ne-eqb}
 use Rattle.correction.specs.Bitmap.{isError}
 use Rattle.reading.specs.Text.{texelText, flaggedText}
+use Rattle.reading.proofs.Lengths.{cell-short}
 use Rattle.reading.proofs.Writes.{written-as, written-none}
 use Rattle.reading.proofs.text.put_flagged.Statement.{statement}
 use Rattle.reading.proofs.text.put_flagged.Tie as tie
@@ -40,7 +41,10 @@ div-put-texel : tie.Need-div-put-texel
 div-put-texel c = search needs
 
 put-texel-requires : tie.Need-put-texel-requires
-put-texel-requires c κs = search needs
+put-texel-requires c κs =
+    let b = c .before .before .before .before .before .before .before .before in
+    let z = cell-short (b .args .k) (b .args .w) (b .pre .1 .2) in
+    (b .pre .0 .0, z .0, z .1)
 
 same-length : tie.Need-same-length
 same-length c = search needs

@@ -1,19 +1,24 @@
 -- `reading::text::put_number` meets its contract. Assumes nothing.
+use mathlib.Core.List.{[], _∷_}
 use Prim.Native.Nat.{_-_}
 use native.Mathlib.Omega.{arith}
+use lib.ListN.{length, length-append}
 use borrow.Author.Needs.{needs}
+use Rattle.reading.specs.Decimal.{decimal}
 use Rattle.reading.specs.Text.{numbered}
-use Rattle.reading.proofs.Lengths.{decimal-length}
 use Rattle.reading.proofs.Writes.{written-then, written-room}
 use Rattle.reading.proofs.text.put_number.Statement.{statement}
 use Rattle.reading.proofs.text.put_number.Tie as tie
 
 put-decimal-requires : tie.Need-put-decimal-requires
-put-decimal-requires c κs = search needs
+unfolding numbered
+put-decimal-requires c κs = let d = c .before .before .args in omega (arith, length-append (decimal (d .n)) (d .b ∷ []))
 
 put-requires : tie.Need-put-requires
+unfolding numbered
 put-requires c κs =
-    let r1 = written-room 5 1 (c .before .before .before .put-decimal .ensures) (decimal-length (c .before .before .before .before .before .before .args .n)) (omega arith) in
+    let d = c .before .before .before .before .before .before .args in
+    let r1 = written-room (length (decimal (d .n))) 1 (c .before .before .before .put-decimal .ensures) (omega arith) (omega (arith, length-append (decimal (d .n)) (d .b ∷ []))) in
     omega (arith, r1)
 
 same-length : tie.Need-same-length

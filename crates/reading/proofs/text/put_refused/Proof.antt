@@ -16,14 +16,16 @@ put-all-requires c κs = search needs
 
 put-number-requires : tie.Need-put-number-requires
 put-number-requires c κs =
-    let r1 = written-room 8 12 (c .before .before .before .put-all .ensures) (omega arith) (omega arith) in
-    omega (arith, r1)
+    let d = c .before .before .before .before .before .before .before .args in
+    let r1 = written-room 8 42 (c .before .before .before .put-all .ensures) (omega arith) (omega arith) in
+    omega (arith, r1, numbered-length (d .n) 32 (omega arith))
 
 put-number-requires-2 : tie.Need-put-number-requires-2
 put-number-requires-2 c κs =
-    let r1 = written-room 8 12 (c .before .before .before .before .before .before .before .put-all .ensures) (omega arith) (omega arith) in
-    let r2 = written-room 6 6 (c .before .before .before .put-number .ensures) (numbered-length (c .before .before .before .before .before .before .before .before .before .before .before .args .n) 32) (omega (arith, r1)) in
-    omega (arith, r2)
+    let d = c .before .before .before .before .before .before .before .before .before .before .before .args in
+    let r1 = written-room 8 42 (c .before .before .before .before .before .before .before .put-all .ensures) (omega arith) (omega arith) in
+    let r2 = written-room 21 21 (c .before .before .before .put-number .ensures) (numbered-length (d .n) 32 (omega arith)) (omega (arith, r1)) in
+    omega (arith, r2, numbered-length (d .place) 10 (omega arith))
 
 same-length : tie.Need-same-length
 same-length c = search needs

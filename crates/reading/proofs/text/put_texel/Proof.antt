@@ -3,30 +3,33 @@ use Prim.Native.Nat.{_-_}
 use native.Mathlib.Omega.{arith}
 use borrow.Author.Needs.{needs}
 use Rattle.reading.specs.Text.{texelText}
-use Rattle.reading.proofs.Lengths.{numbered-length, hex-length}
+use Rattle.reading.proofs.Lengths.{numbered-short, hex-length}
 use Rattle.reading.proofs.Writes.{written-then, written-room}
 use Rattle.reading.proofs.text.put_texel.Statement.{statement}
 use Rattle.reading.proofs.text.put_texel.Tie as tie
 
 put-number-requires : tie.Need-put-number-requires
-put-number-requires c κs = search needs
+put-number-requires c κs = omega (arith, numbered-short (c .before .before .args .x) 32 (c .before .before .pre .1))
 
 put-number-requires-2 : tie.Need-put-number-requires-2
 put-number-requires-2 c κs =
-    let r1 = written-room 6 15 (c .before .before .before .put-number .ensures) (numbered-length (c .before .before .before .before .before .before .args .x) 32) (omega arith) in
-    omega (arith, r1)
+    let b = c .before .before .before .before .before .before in
+    let r1 = written-room 6 15 (c .before .before .before .put-number .ensures) (numbered-short (b .args .x) 32 (b .pre .1)) (omega arith) in
+    omega (arith, r1, numbered-short (b .args .y) 32 (b .pre .2))
 
 put-hex-requires : tie.Need-put-hex-requires
 put-hex-requires c κs =
-    let r1 = written-room 6 15 (c .before .before .before .before .before .before .before .put-number .ensures) (numbered-length (c .before .before .before .before .before .before .before .before .before .before .args .x) 32) (omega arith) in
-    let r2 = written-room 6 9 (c .before .before .before .put-number2 .ensures) (numbered-length (c .before .before .before .before .before .before .before .before .before .before .args .y) 32) (omega (arith, r1)) in
+    let b = c .before .before .before .before .before .before .before .before .before .before in
+    let r1 = written-room 6 15 (c .before .before .before .before .before .before .before .put-number .ensures) (numbered-short (b .args .x) 32 (b .pre .1)) (omega arith) in
+    let r2 = written-room 6 9 (c .before .before .before .put-number2 .ensures) (numbered-short (b .args .y) 32 (b .pre .2)) (omega (arith, r1)) in
     omega (arith, r2)
 
 put-requires : tie.Need-put-requires
 put-requires c κs =
-    let r1 = written-room 6 15 (c .before .before .before .before .before .before .before .before .before .before .before .put-number .ensures) (numbered-length (c .before .before .before .before .before .before .before .before .before .before .before .before .before .before .args .x) 32) (omega arith) in
-    let r2 = written-room 6 9 (c .before .before .before .before .before .before .before .put-number2 .ensures) (numbered-length (c .before .before .before .before .before .before .before .before .before .before .before .before .before .before .args .y) 32) (omega (arith, r1)) in
-    let r3 = written-room 8 1 (c .before .before .before .put-hex .ensures) (hex-length (c .before .before .before .before .before .before .before .before .before .before .before .before .before .before .args .bits)) (omega (arith, r2)) in
+    let b = c .before .before .before .before .before .before .before .before .before .before .before .before .before .before in
+    let r1 = written-room 6 15 (c .before .before .before .before .before .before .before .before .before .before .before .put-number .ensures) (numbered-short (b .args .x) 32 (b .pre .1)) (omega arith) in
+    let r2 = written-room 6 9 (c .before .before .before .before .before .before .before .put-number2 .ensures) (numbered-short (b .args .y) 32 (b .pre .2)) (omega (arith, r1)) in
+    let r3 = written-room 8 1 (c .before .before .before .put-hex .ensures) (hex-length (b .args .bits)) (omega (arith, r2)) in
     omega (arith, r3)
 
 same-length : tie.Need-same-length

@@ -24,7 +24,7 @@ loop-holds : tie.Need-loop-holds Inv-loop μ-loop
 loop-holds c = (omega arith, refl, omega arith, joined-none _ _ _)
 
 put-flagged-requires : tie.Need-put-flagged-requires Inv-loop μ-loop
-put-flagged-requires c κs = ((omega arith, omega arith), (omega (arith, row-within (c .before .before .before .before .before .before .args .ch) (c .before .loop-test .taken)), c .before .before .before .before .before .before .pre .1 .2))
+put-flagged-requires c κs = ((omega arith, omega arith), (omega (arith, row-within (c .before .before .before .before .before .before .args .ch) (c .before .loop-test .taken)), c .before .before .before .before .before .before .pre .1 .2, omega arith))
 
 add-k : tie.Need-add-k Inv-loop μ-loop
 add-k c = omega arith
@@ -41,7 +41,7 @@ loop-again c =
     let k = c .before .before .before .before .before .loop .k in (
       omega arith,
       written-length w ∙ i .1,
-      omega (arith, w .to, i .2, flagged-length (d .w) (now (d .st)) (λ i. getD (now (d .xs)) (i * d .ch) nan) k),
+      omega (arith, w .to, i .2, flagged-length (d .w) (now (d .st)) (λ i. getD (now (d .xs)) (i * d .ch) nan) k (omega arith)),
       joined-next k f (i .3) w,
     )
 

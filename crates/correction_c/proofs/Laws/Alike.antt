@@ -1,0 +1,39 @@
+-- Each exported function's promise permits one answer, and one state of all that it writes: two that it permits for the same arguments are the same.
+-- `Post κs a z e` is the promise as it is read from the source: of the arguments a, the result z and the arguments at exit e. Assumes nothing.
+use mathlib.Core.Path.{_≡_}
+use denote.Ref.{now, ptr}
+use Rattle.numbers.proofs.Laws.Alike.{alike}
+use Rattle.correction_c.proofs.rungtwine_error_correction.Reads as pass
+use Rattle.correction_c.proofs.rungtwine_texel_view.Reads as view
+
+-- Two answers of the pass are the same,
+pub pass-answers-alike : (κs : _) (a : _) (z z' : _) (e e' : _) → pass.Post κs a z e → pass.Post κs a z' e' → z ≡ z'
+pass-answers-alike κs a z z' e e' p q = alike (p .0) (q .0)
+
+-- so are two places, the fourteenth argument,
+pub pass-places-alike : (κs : _) (a : _) (z z' : _) (e e' : _) → pass.Post κs a z e → pass.Post κs a z' e' → now (e .1 .1 .1 .1 .1 .1 .1 .1 .1 .1 .1 .1 .1 .0) ≡ now (e' .1 .1 .1 .1 .1 .1 .1 .1 .1 .1 .1 .1 .1 .0)
+pass-places-alike κs a z z' e e' p q = alike (p .1 .0) (q .1 .0)
+
+-- two counts of protected cells, the fifteenth,
+pub pass-protected-alike : (κs : _) (a : _) (z z' : _) (e e' : _) → pass.Post κs a z e → pass.Post κs a z' e' → now (e .1 .1 .1 .1 .1 .1 .1 .1 .1 .1 .1 .1 .1 .1 .0) ≡ now (e' .1 .1 .1 .1 .1 .1 .1 .1 .1 .1 .1 .1 .1 .1 .0)
+pass-protected-alike κs a z z' e e' p q = alike (p .1 .1 .0) (q .1 .1 .0)
+
+-- two counts of errors, the sixteenth,
+pub pass-errors-alike : (κs : _) (a : _) (z z' : _) (e e' : _) → pass.Post κs a z e → pass.Post κs a z' e' → now (e .1 .1 .1 .1 .1 .1 .1 .1 .1 .1 .1 .1 .1 .1 .1 .0) ≡ now (e' .1 .1 .1 .1 .1 .1 .1 .1 .1 .1 .1 .1 .1 .1 .1 .0)
+pass-errors-alike κs a z z' e e' p q = alike (p .1 .1 .1 .0) (q .1 .1 .1 .0)
+
+-- two stencils, the fifth,
+pub pass-stencils-alike : (κs : _) (a : _) (z z' : _) (e e' : _) → pass.Post κs a z e → pass.Post κs a z' e' → now (e .1 .1 .1 .1 .0) ≡ now (e' .1 .1 .1 .1 .0)
+pass-stencils-alike κs a z z' e e' p q = alike (p .1 .1 .1 .1 .0) (q .1 .1 .1 .1 .0)
+
+-- and two lists of samples, the fourth.
+pub pass-samples-alike : (κs : _) (a : _) (z z' : _) (e e' : _) → pass.Post κs a z e → pass.Post κs a z' e' → now (e .1 .1 .1 .0) ≡ now (e' .1 .1 .1 .0)
+pass-samples-alike κs a z z' e e' p q = alike (p .1 .1 .1 .1 .1) (q .1 .1 .1 .1 .1)
+
+-- Two texels that the view leaves in its ninth argument hold the same samples,
+pub views-alike : (κs : _) (a : _) (z z' : _) (e e' : _) → view.Post κs a z e → view.Post κs a z' e' → now (now (e .1 .1 .1 .1 .1 .1 .1 .1 .0)) ≡ now (now (e' .1 .1 .1 .1 .1 .1 .1 .1 .0))
+views-alike κs a z z' e e' p q = alike (p .0) (q .0)
+
+-- and lie at the same place of the same bitmap.
+pub views-placed-alike : (κs : _) (a : _) (z z' : _) (e e' : _) → view.Post κs a z e → view.Post κs a z' e' → ptr (now (e .1 .1 .1 .1 .1 .1 .1 .1 .0)) ≡ ptr (now (e' .1 .1 .1 .1 .1 .1 .1 .1 .0))
+views-placed-alike κs a z z' e e' p q = alike (p .1) (q .1)

@@ -1,0 +1,2 @@
+-- What is known of the exports beyond their own promises.
+pub mod Alike
