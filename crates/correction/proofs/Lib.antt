@@ -6,7 +6,7 @@ mod Far
 mod Rooted
 mod Clips
 mod Around
-mod Contours
+
 mod Ends
 mod Measures
 mod Refusals

@@ -1,6 +1,6 @@
 -- `correction::corners::protect_corner` meets its contract. Assumes nothing.
 use borrow.Author.Needs.{needs}
-use Rattle.correction.proofs.Contours.{hit, miss}
+use Rattle.correction.proofs.corners.Contours.{hit, miss}
 use Rattle.correction.proofs.corners.protect_corner.Statement.{statement}
 use Rattle.correction.proofs.corners.protect_corner.Tie as tie
 

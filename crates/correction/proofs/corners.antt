@@ -1,0 +1,2 @@
+-- The lemmas of corners.
+mod Contours
