@@ -19,7 +19,7 @@ use mir.Val.{Fits}
 use borrow.Author.Tests.{ltb-true, leb-true, eqb-true, lt-ltb, le-ltb, le-leb, eq-eqb, ne-eqb}
 use Rattle.correction.specs.Bitmap.{inBounds}
 use Rattle.correction.specs.Corners.{beside}
-use Rattle.correction.specs.Bounds.{painted, spot, clip}
+use Rattle.correction.specs.Inner.{painted, spot, clip}
 use Rattle.correction.proofs.Places.{row-lt}
 use Rattle.correction.proofs.Painted.{painted-four, painted-same-below}
 

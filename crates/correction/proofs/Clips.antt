@@ -17,7 +17,7 @@ use mir.Syntax.{w64}
 use mir.Val.{Fits, SFits, toZ, ofZ}
 use mir.ValLaws.{toZ-ofZ}
 use borrow.Author.Tests.{ltb-true, ltb-false, lt-ltb, le-ltb}
-use Rattle.correction.specs.Bounds.{clip}
+use Rattle.correction.specs.Inner.{clip}
 
 clip-far : (z : ℤ) (n : ℕ) → ltZ z (negsuc 0) ≡ true → n + 1 ≡ clip z n
 unfolding clip

@@ -12,8 +12,9 @@ use Rattle.numbers.proofs.Laws.Order as Order
 use Rattle.numbers.proofs.Laws.Order.{nought}
 use Rattle.numbers.proofs.Laws.Monotone.{add-comm, add-mono-right}
 use Rattle.numbers.proofs.Laws.Exact.{add-zero-eq}
-use Rattle.correction.specs.Bitmap.{texelMedian}
-use Rattle.correction.specs.Edges.{near, pairProtects, protectsLower, protectsUpper, asLower, asUpper, someLower, someUpper, someEdge}
+use Rattle.detectors.specs.Texel.{texelMedian}
+use Rattle.detectors.specs.Edge.{near, pairProtects, protectsLower, protectsUpper}
+use Rattle.correction.specs.Edges.{asLower, asUpper, someLower, someUpper, someEdge}
 use Rattle.ground.proofs.Laws.Bools.{holds, held}
 
 -- how far a median is from the outline

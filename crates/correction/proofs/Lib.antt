@@ -3,7 +3,6 @@ mod Places
 mod Painted
 mod Sweep
 mod Far
-mod Rooted
 mod Clips
 mod Around
 

@@ -13,7 +13,7 @@ use lib.ListN.{length}
 use lib.Ieee.{Float}
 use borrow.Author.Tests.{eqb-true, leb-true, not-false}
 use Rattle.correction.specs.Checks.{badChannels, badSide, sizeRefusal}
-use Rattle.correction.specs.Bounds.{Sized}
+use Rattle.correction.specs.Inner.{Sized}
 use Rattle.correction.proofs.Places.{cell-lt, next-row}
 use Rattle.ground.proofs.Laws.Bools.{both-hold, cond-zero}
 

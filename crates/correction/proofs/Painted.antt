@@ -12,7 +12,7 @@ use lib.Seq.{getD-set-same, getD-set-other, ext-getD}
 use borrow.Author.Tests.{eq-eqb, ne-eqb}
 use Rattle.ground.specs.Lists.{tab, any}
 use Rattle.ground.proofs.Laws.Fill.{tab-length, tab-at}
-use Rattle.correction.specs.Bounds.{painted}
+use Rattle.correction.specs.Inner.{painted}
 
 pub painted-length : (p : ℕ → Bool) (st : List ℕ) → length (painted p st) ≡ length st
 unfolding painted

@@ -15,9 +15,9 @@ use lib.ListN.{length, getD}
 use lib.Ieee.{Float, Format, binary32, binary64, nan, le, neg}
 use borrow.Author.Tests.{eqb-true, eqb-false, ltb-false, not-false}
 use Rattle.numbers.specs.Constants.{zeroOf, limitOf}
-use Rattle.correction.specs.declared.config.Settings.{Settings}
+use Rattle.detectors.specs.declared.config.Settings.{Settings}
 use Rattle.correction.specs.Checks.{Input, sizeRefusal, badLength, settingsPlace, oversize, samplesPlace, badOutlines, endBefore, badEnd, endsPlace, badEnds, badSegment, segmentsPlace, outlineRefusal, refusalNumber}
-use Rattle.correction.specs.Bounds.{Outlined}
+use Rattle.correction.specs.Inner.{Outlined}
 use Rattle.correction.proofs.Ends.{before-next}
 use Rattle.ground.proofs.Laws.Search.{first-past}
 use Rattle.ground.proofs.Laws.Bools.{both-hold, both-fail, cond-zero, cond-above}

@@ -13,12 +13,12 @@ use lib.ListN.{length, getD}
 use lib.Dec.{ltb}
 use lib.Seq.{ext-getD}
 use lib.Ieee.{Float, nan}
-use Rattle.correction.specs.declared.config.Settings.{Settings}
+use Rattle.detectors.specs.declared.config.Settings.{Settings}
 use Rattle.ground.specs.Lists.{tab}
 use Rattle.correction.specs.Bitmap.{texel, stencilByte, isProtected, isError}
 use Rattle.correction.specs.Errors.{hasArtifact}
 use Rattle.correction.specs.Collapse.{cellMedian, collapsedSample, collapsed}
-use Rattle.correction.specs.Bounds.{marked, found}
+use Rattle.correction.specs.Inner.{marked, found}
 use Rattle.ground.proofs.Laws.Fill.{tab-length, tab-at, tab-same}
 
 added-two : (e : Bool) → cond e (2 + 1) 2 ≡ 2 + cond e 1 0

@@ -22,7 +22,7 @@ use Rattle.correction.specs.Corners.{contours, cornersProtect}
 use Rattle.correction.specs.Edges.{edgesProtect}
 use Rattle.correction.specs.Errors.{hasArtifact}
 use Rattle.correction.specs.Collapse.{collapsed}
-use Rattle.correction.specs.Bounds.{Sized, Outlined, painted, found}
+use Rattle.correction.specs.Inner.{Sized, Outlined, painted, found}
 use Rattle.correction.specs.Pass.{texels, edgePriorityProtects, protects, flags, byteAt, passStencil, passSamples, countsOf, Answers, answer, stencilAfter, samplesAfter}
 use Rattle.ground.proofs.Laws.Fill.{tab-length, tab-at, tab-same}
 use Rattle.correction.proofs.Painted.{painted-then}

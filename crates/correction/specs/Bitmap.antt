@@ -5,7 +5,6 @@ use mathlib.Core.List.{List, [], _∷_}
 use lib.ListN.{getD}
 use lib.Dec.{eqb, leb, ltb}
 use lib.Ieee.{Float, nan}
-use Rattle.numbers.specs.Select.{medianOf}
 
 -- the number of texel x, y in a bitmap of width w, which is its stencil cell
 abbrev pub cell : ℕ → ℕ → ℕ → ℕ
@@ -18,14 +17,6 @@ place w ch x y i = cell w x y * ch + i
 -- the first three channels of texel x, y
 unfoldable pub texel : List Float → ℕ → ℕ → ℕ → ℕ → List Float
 texel xs w ch x y = getD xs (place w ch x y 0) nan ∷ getD xs (place w ch x y 1) nan ∷ getD xs (place w ch x y 2) nan ∷ []
-
--- channel i of a texel
-abbrev pub channel : List Float → ℕ → Float
-channel a i = getD a i nan
-
--- the median of a texel's three channels
-unfoldable pub texelMedian : List Float → Float
-texelMedian a = medianOf (channel a 0) (channel a 1) (channel a 2)
 
 -- Column nx and row ny, counted from 1, are inside: so 0 and the size plus 1 are the outside's nearest.
 unfoldable pub inBounds : ℕ → ℕ → ℕ → ℕ → Bool

@@ -6,7 +6,7 @@ use lib.ListN.{getD, length}
 use lib.Dec.{eqb, ltb, leb}
 use lib.Ieee.{Float, Format, binary32, binary64, nan, le, neg}
 use Rattle.numbers.specs.Constants.{zeroOf, limitOf}
-use Rattle.correction.specs.declared.config.Settings.{Settings}
+use Rattle.detectors.specs.declared.config.Settings.{Settings}
 use Rattle.ground.specs.Lists.{first}
 
 -- All that comes in.

@@ -3,11 +3,12 @@ use Prim.Native.Nat.{ℕ, _+_, _-_}
 use mathlib.Core.Bool.{Bool, true, false, _&&_, _||_}
 use mathlib.Core.List.{List, [], _∷_}
 use lib.Ieee.{Float}
-use Rattle.correction.specs.declared.config.Settings.{Settings}
-use Rattle.correction.specs.Bitmap.{texelMedian, inBounds}
-use Rattle.correction.specs.Settings.{sideSpan, diagonalSpan}
-use Rattle.correction.specs.Linear.{hasLinearArtifact}
-use Rattle.correction.specs.Diagonal.{hasDiagonalArtifact}
+use Rattle.detectors.specs.declared.config.Settings.{Settings}
+use Rattle.detectors.specs.Texel.{texelMedian}
+use Rattle.correction.specs.Bitmap.{inBounds}
+use Rattle.detectors.specs.Config.{sideSpan, diagonalSpan}
+use Rattle.detectors.specs.Linear.{hasLinearArtifact}
+use Rattle.detectors.specs.Diagonal.{hasDiagonalArtifact}
 
 -- texel c, whose median is m, against the side neighbour at column nx and row ny, counted from 1
 unfoldable pub sideArtifact : (ℕ → ℕ → List Float) → ℕ → ℕ → Float → Bool → Float → List Float → ℕ → ℕ → Bool

@@ -8,9 +8,9 @@ use Rattle.numbers.specs.Constants.{epsilon, oneLessEpsilon}
 use Rattle.numbers.specs.Root.{sqrtOf}
 use Rattle.numbers.specs.Quadratic.{rootsOf}
 use Rattle.correction.specs.declared.pass.Answer.the-variants.{Accepted}
-use Rattle.correction.specs.Settings.{indiscriminate, edgePriority, edgeOnly}
+use Rattle.detectors.specs.Config.{indiscriminate, edgePriority, edgeOnly}
 use Rattle.correction.specs.Checks.{Input}
-use Rattle.correction.specs.Linear.{crossing, inside}
+use Rattle.detectors.specs.Linear.{crossing, inside}
 use Rattle.correction.specs.Corners.{Segment, isCorner}
 use Rattle.correction.specs.Pass.{answer, stencilAfter}
 

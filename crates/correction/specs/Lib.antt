@@ -1,9 +1,5 @@
 pub mod Bitmap
-pub mod Settings
 pub mod Checks
-pub mod Range
-pub mod Linear
-pub mod Diagonal
 pub mod Corners
 pub mod Edges
 pub mod Errors
@@ -13,4 +9,4 @@ pub mod Neighbourhood
 pub mod Stricter
 pub mod View
 pub mod Figures
-pub mod Bounds
+pub mod Inner

@@ -11,7 +11,7 @@ use Rattle.correction.specs.declared.pass.Answer.the-variants.{Accepted,
 use Rattle.correction.specs.declared.pass.Counts.{Counts}
 use Rattle.ground.specs.Lists.{tab, count}
 use Rattle.correction.specs.Bitmap.{texel, stencilByte, isProtected, isError}
-use Rattle.correction.specs.Settings.{disabled, edgePriority, edgeOnly}
+use Rattle.detectors.specs.Config.{disabled, edgePriority, edgeOnly}
 use Rattle.correction.specs.Checks.{Input, input, accepted, refusalNumber, refusalPlace}
 use Rattle.correction.specs.Corners.{contours, cornersProtect}
 use Rattle.correction.specs.Edges.{edgesProtect}

@@ -2,8 +2,7 @@
 ghost use mathlib.Core.Path.{_≡_};
 ghost use Prim.Native.Nat.{_<_};
 ghost use Rattle.correction.specs.Bitmap as Bitmap;
-ghost use Rattle.correction.specs.Bounds.{Sized};
-use numbers::scalar;
+ghost use Rattle.correction.specs.Inner.{Sized};
 
 // The first three channels of texel x, y.
 pub fn texel(xs: &[f32], w: usize, h: usize, ch: usize, x: usize, y: usize) -> [f32; 3]
@@ -13,13 +12,6 @@ pub fn texel(xs: &[f32], w: usize, h: usize, ch: usize, x: usize, y: usize) -> [
 {
     let at = (y * w + x) * ch;
     [xs[at], xs[at + 1], xs[at + 2]]
-}
-
-// The median of a texel's three channels.
-pub fn median(a: [f32; 3]) -> f32
-    ensures { λ r. ⌜ r ≡ Bitmap.texelMedian a ⌝ }
-{
-    scalar::median(a[0], a[1], a[2])
 }
 
 // Column nx and row ny, counted from 1, are inside.

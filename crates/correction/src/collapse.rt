@@ -4,7 +4,7 @@ ghost use Prim.Native.Nat.{_+_, _*_, _≤_, _<_};
 ghost use lib.ListN.{length, getD};
 ghost use Rattle.correction.specs.Bitmap.{isError};
 ghost use Rattle.correction.specs.Collapse as Collapse;
-ghost use Rattle.correction.specs.Bounds.{collapsedAt};
+ghost use Rattle.correction.specs.Inner.{collapsedAt};
 use numbers::scalar;
 
 // The three samples from a place on become their median.

@@ -5,7 +5,7 @@ ghost use mathlib.Core.Bool.{cond, _&&_};
 ghost use lib.Dec.{eqb, ltb};
 ghost use lib.ListN.{length, getD};
 ghost use Rattle.correction.specs.Corners as Corners;
-ghost use Rattle.correction.specs.Bounds.{Outlined, painted, spot, clip, cornerHits, contourHits};
+ghost use Rattle.correction.specs.Inner.{Outlined, painted, spot, clip, cornerHits, contourHits};
 use crate::bitmap;
 use numbers::constants;
 use numbers::rounding;

@@ -6,36 +6,16 @@ ghost use lib.ListN.{length};
 ghost use lib.Ieee.{binary32, lt, sub};
 ghost use Rattle.numbers.specs.Constants.{halfOf};
 ghost use Rattle.numbers.specs.Select.{absOf};
-ghost use Rattle.correction.specs.Bitmap.{texel, texelMedian, inBounds};
+ghost use Rattle.correction.specs.Bitmap.{texel, inBounds};
+ghost use Rattle.detectors.specs.Texel.{texelMedian};
+ghost use Rattle.detectors.specs.Edge as Edge;
 ghost use Rattle.correction.specs.Edges as Edges;
-ghost use Rattle.correction.specs.Settings as Rules;
-ghost use Rattle.correction.specs.Bounds.{Sized, painted};
+ghost use Rattle.detectors.specs.Config as Rules;
+ghost use Rattle.correction.specs.Inner.{Sized, painted};
 use crate::bitmap;
-use crate::config::Settings;
-use crate::linear;
-use numbers::constants;
-use numbers::rounding;
-use numbers::scalar;
-
-// How far from the outline the two medians of a pair may be, together.
-fn radius(length: f64) -> f32
-    ensures { λ r. ⌜ r ≡ Rules.radius length ⌝ }
-{
-    rounding::narrow(constants::PROTECTION_RADIUS_TOLERANCE * length)
-}
-
-// How far median m is from the outline.
-fn away(m: f32) -> f32
-    ensures { λ d. ⌜ d ≡ absOf (sub binary32 m (halfOf binary32)) ⌝ }
-{
-    scalar::abs32(m - constants::HALF)
-}
-
-fn near(r: f32, am: f32, bm: f32) -> bool
-    ensures { λ v. ⌜ v ≡ Edges.near r am bm ⌝ }
-{
-    away(am) + away(bm) < r
-}
+use detectors::config::Settings;
+use detectors::edge;
+use detectors::texel;
 
 // A texel whose median is d away is within some radius: else none of its pairs can be near.
 fn reaches(d: f32, rh: f32, rv: f32, rd: f32) -> bool
@@ -44,64 +24,20 @@ fn reaches(d: f32, rh: f32, rv: f32, rd: f32) -> bool
     d < rh || (d < rv || d < rd)
 }
 
-fn edge_point(ai: f32, bi: f32) -> f64
-    ensures { λ r. ⌜ r ≡ Edges.edgePoint ai bi ⌝ }
-{
-    (std::num::f32_to_f64_with_nan(ai) - constants::HALF_WIDE)
-        / std::num::f32_to_f64_with_nan(ai - bi)
-}
-
-fn edge_at(a: [f32; 3], b: [f32; 3], i: usize, t: f64) -> bool
-    requires { ⌜ i < 3 ⌝ }
-    ensures { λ r. ⌜ r ≡ Edges.edgeAt a b i t ⌝ }
-{
-    t > 0.0
-        && (t < 1.0
-            && linear::interpolated_median_linear(a, b, t) == linear::mixed_channel(a, b, t, i))
-}
-
-// Channel i makes an edge between the two.
-fn edge_between_texels(a: [f32; 3], b: [f32; 3], i: usize) -> bool
-    requires { ⌜ i < 3 ⌝ }
-    ensures { λ r. ⌜ r ≡ Edges.masked a b i ⌝ }
-{
-    edge_at(a, b, i, edge_point(a[i], b[i]))
-}
-
-// Channel i makes an edge and is not the median of texel c.
-fn extreme(a: [f32; 3], b: [f32; 3], c: [f32; 3], m: f32, i: usize) -> bool
-    requires { ⌜ i < 3 ⌝ }
-    ensures { λ r. ⌜ r ≡ Edges.extreme a b c m i ⌝ }
-{
-    if c[i] != m {
-        edge_between_texels(a, b, i)
-    } else {
-        false
-    }
-}
-
-// Texel c of the pair a, b, whose median is m, is protected.
-fn protect_extreme(r: f32, a: [f32; 3], b: [f32; 3], am: f32, bm: f32, c: [f32; 3], m: f32) -> bool
-    ensures { λ v. ⌜ v ≡ Edges.pairProtects r a b am bm c m ⌝ }
-{
-    near(r, am, bm)
-        && (extreme(a, b, c, m, 0) || (extreme(a, b, c, m, 1) || extreme(a, b, c, m, 2)))
-}
-
 // The pair protects its lower texel a, whose median is am.
 fn protects_lower(r: f32, a: [f32; 3], am: f32, b: [f32; 3]) -> bool
     requires { ⌜ am ≡ texelMedian a ⌝ }
-    ensures { λ v. ⌜ v ≡ Edges.protectsLower r a b ⌝ }
+    ensures { λ v. ⌜ v ≡ Edge.protectsLower r a b ⌝ }
 {
-    protect_extreme(r, a, b, am, bitmap::median(b), a, am)
+    edge::pair_protects(r, a, b, am, texel::median(b), a, am)
 }
 
 // The pair protects its other texel b, whose median is bm.
 fn protects_upper(r: f32, a: [f32; 3], b: [f32; 3], bm: f32) -> bool
     requires { ⌜ bm ≡ texelMedian b ⌝ }
-    ensures { λ v. ⌜ v ≡ Edges.protectsUpper r a b ⌝ }
+    ensures { λ v. ⌜ v ≡ Edge.protectsUpper r a b ⌝ }
 {
-    protect_extreme(r, a, b, bitmap::median(a), bm, b, bm)
+    edge::pair_protects(r, a, b, texel::median(a), bm, b, bm)
 }
 
 // Texel c, whose median is m, as the lower one of a pair with column nx and row ny, counted from 1.
@@ -119,9 +55,9 @@ fn as_lower(
 ) -> bool
     requires { ⌜ Sized w h ch (now xs) ⌝ }
     requires { ⌜ m ≡ texelMedian c ⌝ }
-    ensures { λ v. ⌜ v ≡ (inBounds w h nx ny && Edges.protectsLower r c (texel (now (xs .entry)) w ch (nx - 1) (ny - 1))) ⌝ }
+    ensures { λ v. ⌜ v ≡ (inBounds w h nx ny && Edge.protectsLower r c (texel (now (xs .entry)) w ch (nx - 1) (ny - 1))) ⌝ }
 {
-    away(m) < r
+    edge::away(m) < r
         && (bitmap::in_bounds(w, h, nx, ny)
             && protects_lower(r, c, m, bitmap::texel(xs, w, h, ch, nx - 1, ny - 1)))
 }
@@ -140,9 +76,9 @@ fn as_upper(
 ) -> bool
     requires { ⌜ Sized w h ch (now xs) ⌝ }
     requires { ⌜ m ≡ texelMedian c ⌝ }
-    ensures { λ v. ⌜ v ≡ (inBounds w h nx ny && Edges.protectsUpper r (texel (now (xs .entry)) w ch (nx - 1) (ny - 1)) c) ⌝ }
+    ensures { λ v. ⌜ v ≡ (inBounds w h nx ny && Edge.protectsUpper r (texel (now (xs .entry)) w ch (nx - 1) (ny - 1)) c) ⌝ }
 {
-    away(m) < r
+    edge::away(m) < r
         && (bitmap::in_bounds(w, h, nx, ny)
             && protects_upper(r, bitmap::texel(xs, w, h, ch, nx - 1, ny - 1), c, m))
 }
@@ -216,8 +152,8 @@ fn some_edge(
     ensures { λ v. ⌜ v ≡ Edges.someEdge (texel (now (xs .entry)) w ch) w h rh rv rd x y ⌝ }
 {
     let c = bitmap::texel(xs, w, h, ch, x, y);
-    let m = bitmap::median(c);
-    reaches(away(m), rh, rv, rd)
+    let m = texel::median(c);
+    reaches(edge::away(m), rh, rv, rd)
         && (some_lower(xs, w, h, ch, rh, rv, rd, c, m, x, y)
             || some_upper(xs, w, h, ch, rh, rv, rd, c, m, x, y))
 }
@@ -252,9 +188,9 @@ pub fn protect_edges(stencil: &mut [u8], xs: &[f32], w: usize, h: usize, ch: usi
     requires { ⌜ length (now stencil) ≡ h * w ⌝ }
     ensures { λ _. ⌜ now (stencil .exit) ≡ painted (λ k. Edges.edgesProtect (texel (now (xs .entry)) w ch) w h s (k % w) (k / w)) (now (stencil .entry)) ⌝ }
 {
-    let rh = radius(s.horizontal);
-    let rv = radius(s.vertical);
-    let rd = radius(s.diagonal);
+    let rh = edge::radius(s.horizontal);
+    let rv = edge::radius(s.vertical);
+    let rd = edge::radius(s.diagonal);
     let n = stencil.len();
     let mut x = 0usize;
     let mut y = 0usize;

@@ -5,12 +5,13 @@ ghost use mathlib.Core.Bool.{true, false};
 ghost use lib.ListN.{length, getD};
 ghost use Rattle.correction.specs.Bitmap.{texel};
 ghost use Rattle.correction.specs.Errors as Errors;
-ghost use Rattle.correction.specs.Settings.{sideSpan, diagonalSpan};
-ghost use Rattle.correction.specs.Bounds.{Sized, marked, found};
+ghost use Rattle.detectors.specs.Config.{sideSpan, diagonalSpan};
+ghost use Rattle.correction.specs.Inner.{Sized, marked, found};
 use crate::bitmap;
-use crate::config::Settings;
-use crate::diagonal;
-use crate::linear;
+use detectors::config::Settings;
+use detectors::diagonal;
+use detectors::linear;
+use detectors::texel;
 
 // Texel c, whose median is m, against the side neighbour at column nx and row ny, counted from 1.
 fn side_artifact(
@@ -149,7 +150,7 @@ fn has_artifact(
     ensures { λ r. ⌜ r ≡ Errors.hasArtifact (texel (now (xs .entry)) w ch) w h s protected x y ⌝ }
 {
     let c = bitmap::texel(xs, w, h, ch, x, y);
-    some_artifact(xs, w, h, ch, s, protected, bitmap::median(c), c, x, y)
+    some_artifact(xs, w, h, ch, s, protected, texel::median(c), c, x, y)
 }
 
 fn marked_byte(

@@ -2,7 +2,7 @@
 use Prim.Native.Nat.{ℕ}
 use mathlib.Core.List.{List}
 use lib.Ieee.{Float}
-use Rattle.correction.specs.declared.config.Settings.{Settings}
+use Rattle.detectors.specs.declared.config.Settings.{Settings}
 use Rattle.correction.specs.Checks.{Input, input}
 
 abbrev pub settingsOf : Float → Float → Float → Float → Settings

@@ -5,7 +5,7 @@ ghost use Rattle.correction.specs.Checks as Checks;
 ghost use Rattle.correction.specs.Pass as Pass;
 ghost use Rattle.correction.specs.View as View;
 ghost use Rattle.correction_c.specs.Call.{called};
-use correction::config::Settings;
+use detectors::config::Settings;
 use correction::pass;
 use correction::pass::Answer;
 use correction::view;

@@ -3,7 +3,7 @@ mod refusals;
 mod run;
 mod show;
 
-use correction::config::Settings;
+use detectors::config::Settings;
 
 fn case_p() -> [f32; 6] {
     [1.0, 0.0, 0.75, 0.0, 1.0, 0.75]

@@ -1,6 +1,6 @@
 // Each refusal with its place. A stencil that is left as it was shows as `?`.
 use crate::run;
-use correction::config::Settings;
+use detectors::config::Settings;
 
 fn sized(name: &[u8], w: usize, h: usize, ch: usize, stencil: &mut [u8]) {
     let colours = [0u8; 0];

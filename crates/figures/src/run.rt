@@ -1,6 +1,6 @@
 // A figure is run through the public pass and printed.
 use crate::show;
-use correction::config::Settings;
+use detectors::config::Settings;
 use correction::pass;
 
 // Ratio 1 and three equal lengths.

@@ -8,7 +8,7 @@ use native.Mathlib.Omega.{arith}
 use lib.Ieee.{Float}
 use lib.ListN.{length, length-append}
 use Rattle.correction.specs.Checks.{input}
-use Rattle.correction.specs.declared.config.Settings.{Settings}
+use Rattle.detectors.specs.declared.config.Settings.{Settings}
 use Rattle.reading.specs.Answer.{settingsOf, caseOf}
 use Rattle.reading.specs.Case.{modeOf, rowSamples, contourColours, contourCoords, samplesOf, coloursOf, coordsOf, endsOf}
 use Rattle.reading.specs.Grammar.{lengthAt, start, before, width, height, channels, rowsAt}

@@ -3,7 +3,7 @@ use Prim.Native.Nat.{ℕ, _*_}
 use mathlib.Core.Bool.{cond}
 use mathlib.Core.List.{List, []}
 use lib.Dec.{eqb, leb}
-use Rattle.correction.specs.declared.config.Settings.{Settings}
+use Rattle.detectors.specs.declared.config.Settings.{Settings}
 use Rattle.correction.specs.declared.pass.Answer.{Answer}
 use Rattle.correction.specs.declared.pass.Answer.the-variants.{Accepted, Refused}
 use Rattle.correction.specs.Checks.{Input, input}

@@ -11,7 +11,7 @@ ghost use Rattle.reading.specs.Written.{Written, Whole, Lent};
 use crate::bytes;
 use crate::decode;
 use crate::text;
-use correction::config::Settings;
+use detectors::config::Settings;
 use correction::pass;
 use correction::pass::Answer;
 

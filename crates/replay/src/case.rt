@@ -6,7 +6,7 @@ ghost use mathlib.Core.Bool.{true};
 ghost use Rattle.replay.specs.Sizes.{Sized};
 use crate::answer;
 use crate::number;
-use correction::config::Settings;
+use detectors::config::Settings;
 use correction::pass;
 use correction::pass::Answer;
 

@@ -7,14 +7,16 @@ use Rattle.numbers.specs.Narrow.{narrowOf, mixOf}
 use Rattle.numbers.specs.Root.{rootBy, root, rootOf, sqrtOf}
 use Rattle.numbers.specs.Quadratic.{isLinear, linearRoots, discriminant, upperRoot, lowerRoot, squareRoots, rootsOf}
 use Rattle.ground.specs.Lists.{tab, any, some, count, first}
-use Rattle.correction.specs.Bitmap.{texel, texelMedian, inBounds, stencilByte, isProtected, isError}
-use Rattle.correction.specs.Settings.{sideSpan, diagonalSpan, radius}
+use Rattle.correction.specs.Bitmap.{texel, inBounds, stencilByte, isProtected, isError}
+use Rattle.detectors.specs.Texel.{texelMedian}
+use Rattle.detectors.specs.Config.{sideSpan, diagonalSpan, radius}
 use Rattle.correction.specs.Checks.{badChannels, badSide, sizeRefusal, badLength, settingsPlace, oversize, samplesPlace, badOutlines, endBefore, badEnd, endsPlace, badEnds, badSegment, segmentsPlace, outlineRefusal, refusalNumber, accepted}
-use Rattle.correction.specs.Range.{fallsBelow, risesAbove, liesOutside, candidate, within, inRange, rangeTest}
-use Rattle.correction.specs.Linear.{guard, inside, mixedChannel, mixedMedian, next, difference, crossing, linearAt, linearPair, linearPairs, hasLinearArtifact}
-use Rattle.correction.specs.Diagonal.{abc, linearTerm, squareTerm, turningPoint, curve, curveChannel, curveMedian, middleDifference, quadraticRoots, pairRoots, movedEnd, turningTest, rootTests, diagonalAt, diagonalPair, diagonalPairs, hasDiagonalArtifact}
+use Rattle.detectors.specs.Classifier.{fallsBelow, risesAbove, liesOutside, candidate, within, inRange, rangeTest}
+use Rattle.detectors.specs.Linear.{guard, inside, mixedChannel, mixedMedian, next, difference, crossing, linearAt, linearPair, linearPairs, hasLinearArtifact}
+use Rattle.detectors.specs.Diagonal.{abc, linearTerm, squareTerm, turningPoint, curve, curveChannel, curveMedian, middleDifference, quadraticRoots, pairRoots, movedEnd, turningTest, rootTests, diagonalAt, diagonalPair, diagonalPairs, hasDiagonalArtifact}
 use Rattle.correction.specs.Corners.{split, contours, before, shared, isCorner, cornersProtect}
-use Rattle.correction.specs.Edges.{near, edgePoint, edgeAt, masked, extreme, pairProtects, protectsLower, protectsUpper, asLower, asUpper, someLower, someUpper, someEdge, edgesProtect}
+use Rattle.detectors.specs.Edge.{near, edgePoint, edgeAt, masked, extreme, pairProtects, protectsLower, protectsUpper}
+use Rattle.correction.specs.Edges.{asLower, asUpper, someLower, someUpper, someEdge, edgesProtect}
 use Rattle.correction.specs.Errors.{sideArtifact, someSide, diagonalArtifact, someDiagonal, someArtifact, hasArtifact}
 use Rattle.correction.specs.Pass.{texels, edgePriorityProtects, protects, flags, byteAt, passStencil, protectedCount, errorCount, answer, stencilAfter}
 use Rattle.correction.specs.Figures.{Figures}

@@ -11,19 +11,21 @@ use Rattle.numbers.specs.Constants.{limitOf, tolerance}
 use Rattle.numbers.proofs.Laws.Order as Order
 use Rattle.numbers.proofs.Laws.Order.{nought, finite}
 use Rattle.numbers.proofs.Laws.Monotone.{narrow-mono, mul-number, mul-mono, mul-mono-right}
-use Rattle.correction.specs.declared.config.Settings.{Settings}
+use Rattle.detectors.specs.declared.config.Settings.{Settings}
 use Rattle.ground.specs.Lists.{any, some}
 use Rattle.correction.specs.Bitmap.{inBounds}
-use Rattle.correction.specs.Settings.{edgePriority, edgeOnly, sideSpan, diagonalSpan, radius}
+use Rattle.detectors.specs.Config.{edgePriority, edgeOnly, sideSpan, diagonalSpan, radius}
 use Rattle.correction.specs.Checks.{Input, badLength}
 use Rattle.correction.specs.Corners.{Segment, contourProtects, cornersProtect}
-use Rattle.correction.specs.Edges.{near, extreme, pairProtects, protectsLower, protectsUpper, asLower, asUpper, someLower, someUpper, someEdge, edgesProtect}
+use Rattle.detectors.specs.Edge.{near, extreme, pairProtects, protectsLower, protectsUpper}
+use Rattle.correction.specs.Edges.{asLower, asUpper, someLower, someUpper, someEdge, edgesProtect}
 use Rattle.correction.specs.Pass.{texels, edgePriorityProtects, protects}
 use Rattle.correction.specs.Stricter.{Outlines, NoSmaller, Stricter}
 use Rattle.correction.specs.Stricter.Outlines.{none, kept, added, skipped}
 use Rattle.ground.proofs.Laws.Bools.{holds, held, and-implies, or-implies, four-imply}
 use Rattle.correction.proofs.Passed.{length-bounds}
-use Rattle.correction.proofs.Laws.Finite.{Span, product-span}
+use Rattle.detectors.proofs.Laws.Falls.{Spans}
+use Rattle.correction.proofs.Laws.Finite.{product-span}
 
 -- ---- lengths, radius and spans
 
@@ -50,12 +52,6 @@ unfolding radius ofBits le
 radius-grows v v' p p' h =
     narrow-mono (mul binary64 tolerance v) (mul binary64 tolerance v')
     (mul-mono-right binary64 tolerance v v' tt h (mul-number binary64 tolerance v tt (length-finite v p)) (mul-number binary64 tolerance v' tt (length-finite v' p')))
-
--- a span and one that is no smaller
-pub record Spans (span span' : Float) : Type 0 where
-  pub grows : T (le span span')
-  pub first : Span span
-  pub second : Span span'
 
 product-grows : (r r' v v' : Float) → badLength r ≡ false → badLength r' ≡ false → badLength v ≡ false → badLength v' ≡ false → T (le r r') → T (le v v') → Spans (mul binary64 r v) (mul binary64 r' v')
 product-grows r r' v v' p p' q q' h k =

@@ -18,12 +18,12 @@ use contract.Lifetimes.{Lfts}
 use borrow.Fn.Kinds.{Dens}
 use borrow.Author.Tests.{lt-ltb, le-leb}
 use Rattle.ground.proofs.Laws.Bools.{guarded}
-use Rattle.correction.specs.declared.config.Settings.{Settings}
+use Rattle.detectors.specs.declared.config.Settings.{Settings}
 use Rattle.correction.specs.Bitmap.{cell, inBounds, isProtected, isError}
-use Rattle.correction.specs.Settings.{disabled, sideSpan, diagonalSpan}
+use Rattle.detectors.specs.Config.{disabled, sideSpan, diagonalSpan}
 use Rattle.correction.specs.Checks.{Input, accepted}
-use Rattle.correction.specs.Linear.{hasLinearArtifact}
-use Rattle.correction.specs.Diagonal.{hasDiagonalArtifact}
+use Rattle.detectors.specs.Linear.{hasLinearArtifact}
+use Rattle.detectors.specs.Diagonal.{hasDiagonalArtifact}
 use Rattle.correction.specs.Errors.{sideArtifact, someSide, diagonalArtifact, someDiagonal, someArtifact, hasArtifact}
 use Rattle.correction.specs.Neighbourhood.{SameAround, SameSpans}
 use Rattle.correction.specs.Pass.{texels, protects, flags, numberOf, stencilAfter}

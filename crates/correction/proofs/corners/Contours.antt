@@ -18,7 +18,7 @@ use lib.Ieee.{Float, nan}
 use borrow.Author.Tests.{lt-ltb, le-ltb, eq-eqb, ne-eqb}
 use Rattle.ground.specs.Lists.{tab, any, some}
 use Rattle.correction.specs.Corners.{Segment, segmentAt, between, split, contours, before, shared, noSegment, lower, beside, isCorner, around, cornerAt, contourProtects, cornersProtect}
-use Rattle.correction.specs.Bounds.{Outlined, painted, cornerHits, contourHits}
+use Rattle.correction.specs.Inner.{Outlined, painted, cornerHits, contourHits}
 use Rattle.ground.proofs.Laws.Fill.{tab-length, tab-at}
 use Rattle.correction.proofs.Painted.{painted-same, painted-none}
 

@@ -16,7 +16,7 @@ use borrow.Author.Tests.{eq-eqb, ne-eqb, lt-ltb, le-ltb}
 use Rattle.numbers.specs.Select.{medianOf}
 use Rattle.correction.specs.Bitmap.{isError}
 use Rattle.correction.specs.Collapse.{cellMedian, collapsedSample, collapsed}
-use Rattle.correction.specs.Bounds.{collapsedAt}
+use Rattle.correction.specs.Inner.{collapsedAt}
 use Rattle.correction.proofs.Places.{place-lt, next-row}
 use Rattle.ground.proofs.Laws.Fill.{Filled, filled-none, filled-more, filled-run, filled-at, filled-all}
 use Rattle.correction.proofs.collapse.apply.Statement.{statement}

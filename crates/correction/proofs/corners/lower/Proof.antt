@@ -5,7 +5,7 @@ use mir.ValLaws.{toZ-ofZ}
 use mir.Syntax.{w64}
 use borrow.Author.Needs.{needs}
 use Rattle.correction.specs.Corners.{lower}
-use Rattle.correction.specs.Bounds.{clip}
+use Rattle.correction.specs.Inner.{clip}
 use Rattle.correction.proofs.corners.lower.Statement.{statement}
 use Rattle.correction.proofs.corners.lower.Tie as tie
 

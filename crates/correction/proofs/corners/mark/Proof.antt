@@ -5,7 +5,7 @@ use native.Mathlib.Omega.{arith}
 use lib.ListN.{length}
 use denote.Ref.{now}
 use borrow.Author.Needs.{needs}
-use Rattle.correction.specs.Bounds.{spot}
+use Rattle.correction.specs.Inner.{spot}
 use Rattle.correction.proofs.Places.{cell-lt}
 use Rattle.correction.proofs.Painted.{painted-set, painted-none}
 use Rattle.correction.proofs.Around.{inside}

@@ -8,7 +8,7 @@ use lib.ListN.{length, getD}
 use lib.Ieee.{Float}
 use denote.Ref.{now}
 use Rattle.ground.specs.Lists.{any}
-use Rattle.correction.specs.Bounds.{painted, contourHits}
+use Rattle.correction.specs.Inner.{painted, contourHits}
 use Rattle.correction.proofs.Painted.{painted-length, painted-zero, painted-more, painted-same}
 use Rattle.correction.proofs.corners.Contours.{startAt, start-next, start-le, corners-at}
 use Rattle.correction.proofs.corners.protect_corners.Statement.{statement}

@@ -6,12 +6,12 @@ use Prim.Native.Nat.{ℕ, _-_, _/_, _%_}
 use native.Mathlib.Omega.{arith}
 use lib.ListN.{length}
 use lib.Ieee.{Float}
-use Rattle.correction.specs.declared.config.Settings.{Settings}
+use Rattle.detectors.specs.declared.config.Settings.{Settings}
 use Rattle.ground.specs.Lists.{tab}
 use Rattle.correction.specs.Bitmap.{texel}
-use Rattle.correction.specs.Settings.{radius}
+use Rattle.detectors.specs.Config.{radius}
 use Rattle.correction.specs.Edges.{someEdge, edgesProtect}
-use Rattle.correction.specs.Bounds.{painted}
+use Rattle.correction.specs.Inner.{painted}
 use Rattle.correction.proofs.Sweep.{Swept, swept, swept-none, swept-row, swept-on, swept-wrap, swept-all}
 use Rattle.correction.proofs.edges.protect_edges.Statement.{statement}
 use Rattle.correction.proofs.edges.protect_edges.Tie as tie

@@ -1,5 +1,5 @@
 -- `correction::edges::protects_upper` meets its contract. Assumes nothing.
-use Rattle.correction.specs.Edges.{protectsUpper}
+use Rattle.detectors.specs.Edge.{protectsUpper}
 use borrow.Author.Needs.{needs}
 use Rattle.correction.proofs.edges.protects_upper.Statement.{statement}
 use Rattle.correction.proofs.edges.protects_upper.Tie as tie
@@ -7,12 +7,12 @@ use Rattle.correction.proofs.edges.protects_upper.Tie as tie
 median-requires : tie.Need-median-requires
 median-requires c κs = search needs
 
-protect-extreme-requires : tie.Need-protect-extreme-requires
-protect-extreme-requires c κs = search needs
+pair-protects-requires : tie.Need-pair-protects-requires
+pair-protects-requires c κs = search needs
 
 returns : tie.Need-returns
 unfolding protectsUpper
-returns c = rw (c .protect-extreme .ensures, c .before .median .ensures, c .before .before .pre)
+returns c = rw (c .pair-protects .ensures, c .before .median .ensures, c .before .before .pre)
 
 pub protects-upper-spec : {M : Type 1} → statement M
-protects-upper-spec = tie.close (tie.spec median-requires protect-extreme-requires returns)
+protects-upper-spec = tie.close (tie.spec median-requires pair-protects-requires returns)

@@ -1,6 +1,6 @@
 -- `correction::edges::some_edge` meets its contract. Assumes nothing.
 use mathlib.Core.Path.{sym, ap, _∙_}
-use Rattle.correction.specs.Bitmap.{texelMedian}
+use Rattle.detectors.specs.Texel.{texelMedian}
 use Rattle.correction.specs.Edges.{someEdge}
 use Rattle.ground.proofs.Laws.Bools.{or-taken, or-left}
 use Rattle.correction.proofs.Far.{distance, far-edge}

@@ -5,7 +5,8 @@ use mathlib.Core.List.{List}
 use Prim.Native.Nat.{ℕ, _-_}
 use lib.Ieee.{Float}
 use Rattle.correction.specs.Bitmap.{inBounds}
-use Rattle.correction.specs.Edges.{protectsLower, asLower, someLower}
+use Rattle.detectors.specs.Edge.{protectsLower}
+use Rattle.correction.specs.Edges.{asLower, someLower}
 use Rattle.ground.proofs.Laws.Bools.{or-taken, or-left}
 use borrow.Author.Needs.{needs}
 use Rattle.correction.proofs.edges.some_lower.Statement.{statement}

@@ -5,7 +5,8 @@ use mathlib.Core.List.{List}
 use Prim.Native.Nat.{ℕ, _-_}
 use lib.Ieee.{Float}
 use Rattle.correction.specs.Bitmap.{inBounds}
-use Rattle.correction.specs.Edges.{protectsUpper, asUpper, someUpper}
+use Rattle.detectors.specs.Edge.{protectsUpper}
+use Rattle.correction.specs.Edges.{asUpper, someUpper}
 use Rattle.ground.proofs.Laws.Bools.{or-taken, or-left}
 use borrow.Author.Needs.{needs}
 use Rattle.correction.proofs.edges.some_upper.Statement.{statement}

@@ -1,7 +1,7 @@
 -- `correction::errors::marked_byte` meets its contract. Assumes nothing.
 use mathlib.Core.Path.{sym, _∙_}
 use Rattle.correction.specs.Bitmap.{isProtected}
-use Rattle.correction.specs.Bounds.{marked}
+use Rattle.correction.specs.Inner.{marked}
 use borrow.Author.Needs.{needs}
 use Rattle.correction.proofs.errors.marked_byte.Statement.{statement}
 use Rattle.correction.proofs.errors.marked_byte.Tie as tie

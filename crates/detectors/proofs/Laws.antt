@@ -1,0 +1,3 @@
+-- What the pass may know of the detectors.
+pub mod Finite
+pub mod Falls

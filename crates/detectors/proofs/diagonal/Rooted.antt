@@ -1,0 +1,42 @@
+-- A list of at most two values as a count and the two of them, and a search through these in order. Assumes nothing.
+--     rooted    a test holds of some entry of the list just where it holds of one of the values counted
+--     no-root   the search ended at the count
+--     a-root    the test holds of value k
+use mathlib.Core.Path.{_≡_, refl, sym, _∙_, subst}
+use mathlib.Core.Bool.{Bool, true, false, _||_}
+use mathlib.Core.List.{List, [], _∷_}
+use Prim.Native.Nat.{ℕ, _<_, _≤_}
+use native.Mathlib.Nat.{not-suc-le-zero, le-of-suc-le-suc}
+use lib.ListN.{length, getD}
+use lib.Ieee.{Float, binary64}
+use Rattle.numbers.specs.Constants.{zeroOf}
+use Rattle.numbers.specs.Quadratic.{Listed}
+use Rattle.ground.specs.Lists.{any, some}
+use Rattle.detectors.specs.Inner.{rootAt}
+use Rattle.ground.proofs.Laws.Search.{any-at}
+
+or-false : (a : Bool) → (a || false) ≡ a
+or-false true = refl
+or-false false = refl
+
+or-both : (a b : Bool) → (a || (b || false)) ≡ (a || b)
+or-both true b = refl
+or-both false b = or-false b
+
+-- a list and its own count and values
+own : (f : Float → Bool) (xs : List Float) → length xs ≤ 2 → some f xs ≡ any (length xs) (λ j. f (rootAt (getD xs 0 (zeroOf binary64)) (getD xs 1 (zeroOf binary64)) j))
+unfolding some any
+own f [] h = refl
+own f (x ∷ []) h = or-false (f x)
+own f (x ∷ y ∷ []) h = or-both (f x) (f y)
+own f (x ∷ y ∷ z ∷ xs) h = absurd (not-suc-le-zero (le-of-suc-le-suc (le-of-suc-le-suc h)))
+
+module _ (f : Float → Bool) (xs : List Float) (n : ℕ) (u v : Float) (h : length xs ≤ 2) (l : Listed xs n u v) where
+  pub rooted : some f xs ≡ any n (λ j. f (rootAt u v j))
+  rooted = own f xs h ∙ sym (λ i. any (l .counted i) (λ j. f (rootAt (l .one i) (l .two i) j)))
+
+  pub no-root : (k : ℕ) → k ≡ n → any k (λ j. f (rootAt u v j)) ≡ false → some f xs ≡ false
+  no-root k e p = rooted ∙ subst (λ (m : ℕ). any m (λ j. f (rootAt u v j)) ≡ false) e p
+
+  pub a-root : (k : ℕ) → k < n → f (rootAt u v k) ≡ true → some f xs ≡ true
+  a-root k b p = rooted ∙ any-at (λ j. f (rootAt u v j)) n k b p

@@ -1,0 +1,30 @@
+-- `detectors::diagonal::turning_test` meets its contract. Assumes nothing.
+use mathlib.Core.Path.{refl}
+use borrow.Author.Needs.{needs}
+use Rattle.detectors.specs.Diagonal.{turningTest}
+use Rattle.ground.proofs.Laws.Bools.{and-taken, and-left}
+use Rattle.detectors.proofs.diagonal.turning_test.Statement.{statement}
+use Rattle.detectors.proofs.diagonal.turning_test.Tie as tie
+
+interpolated-median-quad-requires : tie.Need-interpolated-median-quad-requires
+interpolated-median-quad-requires c κs = search needs
+
+moved-end-requires : tie.Need-moved-end-requires
+moved-end-requires c κs = search needs
+
+returns : tie.Need-returns
+unfolding turningTest
+returns c = and-taken refl (c .before .before .before .if1 .taken) (and-taken refl (c .before .before .if2 .taken) (rw (c .before .interpolated-median-quad .ensures) at (c .moved-end .ensures)))
+
+returns-2 : tie.Need-returns-2
+unfolding turningTest
+returns-2 c = and-taken refl (c .before .if1 .taken) (and-left _ refl (c .if2 .left))
+
+returns-3 : tie.Need-returns-3
+unfolding turningTest
+returns-3 c = and-left _ refl (c .if1 .left)
+
+pub turning-test-spec : {M : Type 1} → statement M
+turning-test-spec =
+    tie.close
+    (tie.spec interpolated-median-quad-requires moved-end-requires returns returns-2 returns-3)

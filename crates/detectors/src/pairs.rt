@@ -1,0 +1,54 @@
+// What both detectors and the edges share: which texel of two is tested, where a crossing counts, the channel pairs, and the way between two texels.
+ghost use mathlib.Core.Path.{_≡_};
+ghost use Prim.Native.Nat.{_<_};
+ghost use Rattle.detectors.specs.Linear as Linear;
+use numbers::constants;
+use numbers::scalar;
+
+// The farther one from the outline is tested.
+pub fn guard(am: f32, bm: f32) -> bool
+    ensures { λ r. ⌜ r ≡ Linear.guard am bm ⌝ }
+{
+    scalar::abs32(am - constants::HALF) >= scalar::abs32(bm - constants::HALF)
+}
+
+// t lies strictly inside.
+pub fn inside(t: f64) -> bool
+    ensures { λ r. ⌜ r ≡ Linear.inside t ⌝ }
+{
+    t > constants::ARTIFACT_T_EPSILON && t < constants::ONE_LESS_EPSILON
+}
+
+// Channel i between a and b.
+pub fn mixed_channel(a: [f32; 3], b: [f32; 3], t: f64, i: usize) -> f32
+    requires { ⌜ i < 3 ⌝ }
+    ensures { λ r. ⌜ r ≡ Linear.mixedChannel a b t i ⌝ }
+{
+    scalar::mix(a[i], b[i], t)
+}
+
+// The median between a and b.
+pub fn interpolated_median_linear(a: [f32; 3], b: [f32; 3], t: f64) -> f32
+    ensures { λ r. ⌜ r ≡ Linear.mixedMedian a b t ⌝ }
+{
+    let x = mixed_channel(a, b, t, 0);
+    let y = mixed_channel(a, b, t, 1);
+    let z = mixed_channel(a, b, t, 2);
+    scalar::median(x, y, z)
+}
+
+// The channel that a pair takes channel p from.
+pub fn next(p: usize) -> usize
+    ensures { λ r. ⌜ (r ≡ Linear.next p) × (r < 3) ⌝ }
+{
+    if p < 2 { p + 1 } else { 0 }
+}
+
+// The difference of pair p.
+pub fn difference(a: [f32; 3], p: usize) -> f32
+    requires { ⌜ p < 3 ⌝ }
+    ensures { λ r. ⌜ r ≡ Linear.difference a p ⌝ }
+{
+    let j = next(p);
+    a[j] - a[p]
+}
