@@ -6,8 +6,8 @@ use Prim.Native.Nat.{ℕ, _+_, _-_}
 use lib.Dec.{T}
 use lib.Ieee.{Float, nan, inf, fin, Format, binary32, lt, le, add, sub, isNan, fits}
 use lib.Ieee.Fits.{sub-fits}
-use Rattle.numbers.specs.Constants.{halfOf}
-use Rattle.numbers.specs.Select.{absOf}
+use Rattle.detectors.specs.Constants.{halfOf}
+use Rattle.numbers.specs.Scalar.{absOf}
 use Rattle.numbers.proofs.Laws.Order as Order
 use Rattle.numbers.proofs.Laws.Order.{nought}
 use Rattle.numbers.proofs.Laws.Monotone.{add-comm, add-mono-right}

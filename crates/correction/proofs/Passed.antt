@@ -14,7 +14,8 @@ use lib.Dec.{eqb, ltb}
 use lib.ListN.{length, getD}
 use lib.Ieee.{Float, Format, binary32, binary64, nan, le, neg}
 use borrow.Author.Tests.{eqb-true, eqb-false, ltb-false, not-false}
-use Rattle.numbers.specs.Constants.{zeroOf, limitOf}
+use Rattle.numbers.specs.Constants.{zeroOf}
+use Rattle.detectors.specs.Constants.{limitOf}
 use Rattle.detectors.specs.declared.config.Settings.{Settings}
 use Rattle.correction.specs.Checks.{Input, sizeRefusal, badLength, settingsPlace, oversize, samplesPlace, badOutlines, endBefore, badEnd, endsPlace, badEnds, badSegment, segmentsPlace, outlineRefusal, refusalNumber}
 use Rattle.correction.specs.Inner.{Outlined}

@@ -5,7 +5,8 @@ use mathlib.Core.List.{List, [], _∷_}
 use lib.ListN.{getD, length}
 use lib.Dec.{eqb, ltb, leb}
 use lib.Ieee.{Float, Format, binary32, binary64, nan, le, neg}
-use Rattle.numbers.specs.Constants.{zeroOf, limitOf}
+use Rattle.numbers.specs.Constants.{zeroOf}
+use Rattle.detectors.specs.Constants.{limitOf}
 use Rattle.detectors.specs.declared.config.Settings.{Settings}
 use Rattle.ground.specs.Lists.{first}
 

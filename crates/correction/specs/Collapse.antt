@@ -5,7 +5,7 @@ use mathlib.Core.List.{List}
 use lib.ListN.{getD, length}
 use lib.Dec.{ltb}
 use lib.Ieee.{Float, nan}
-use Rattle.numbers.specs.Select.{medianOf}
+use Rattle.numbers.specs.Scalar.{medianOf}
 use Rattle.ground.specs.Lists.{tab}
 
 -- the median of the texel of cell k

@@ -6,8 +6,8 @@ use lib.ListN.{getD, length, take, drop}
 use lib.Dec.{eqb, ltb}
 use lib.IntN.{ℤ, pos, negsuc}
 use lib.Ieee.{Float, nan, binary64, sub}
-use Rattle.numbers.specs.Constants.{halfOf}
-use Rattle.numbers.specs.Floor.{floorOf}
+use Rattle.detectors.specs.Constants.{halfOf}
+use Rattle.numbers.specs.Rounding.{floorOf}
 use Rattle.ground.specs.Lists.{tab, any, some}
 
 -- a segment: its colour, and where it starts

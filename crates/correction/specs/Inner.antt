@@ -7,7 +7,7 @@ use lib.ListN.{getD, length, set}
 use lib.Dec.{eqb, ltb, leb}
 use lib.IntN.{ℤ, pos, negsuc}
 use lib.Ieee.{Float, nan}
-use Rattle.numbers.specs.Select.{medianOf}
+use Rattle.numbers.specs.Scalar.{medianOf}
 use Rattle.detectors.specs.declared.config.Settings.{Settings}
 use Rattle.ground.specs.Lists.{tab, any}
 use Rattle.correction.specs.Bitmap.{cell, texel, inBounds, isProtected}

@@ -8,7 +8,7 @@ ghost use lib.Ieee.{binary32, binary64};
 ghost use Rattle.correction.specs.Checks as Checks;
 ghost use Rattle.correction.specs.Checks.{input};
 use detectors::config::Settings;
-use numbers::constants;
+use detectors::constants;
 
 // The first check that fails and its place; 0 and 0 where all pass.
 pub struct Refusal {

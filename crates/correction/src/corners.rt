@@ -7,7 +7,7 @@ ghost use lib.ListN.{length, getD};
 ghost use Rattle.correction.specs.Corners as Corners;
 ghost use Rattle.correction.specs.Inner.{Outlined, painted, spot, clip, cornerHits, contourHits};
 use crate::bitmap;
-use numbers::constants;
+use detectors::constants;
 use numbers::rounding;
 
 // A signed column or row, clipped: counted from 1 where it is from -1 to n - 1, and n + 1 elsewhere.

@@ -1,3 +1,4 @@
 -- What the pass may know of the detectors.
+pub mod Constants
 pub mod Finite
 pub mod Falls

@@ -2,8 +2,8 @@
 use mathlib.Core.Bool.{Bool, not, _&&_, _||_}
 use mathlib.Core.List.{List, [], _∷_}
 use lib.Ieee.{Float, binary32, binary64, lt, le, ne, add, sub, mul}
-use Rattle.numbers.specs.Constants.{halfOf}
-use Rattle.numbers.specs.Select.{medianOf}
+use Rattle.detectors.specs.Constants.{halfOf}
+use Rattle.numbers.specs.Scalar.{medianOf}
 
 -- am and bm > 0.5 with xm ≤ 0.5
 unfoldable pub fallsBelow : Float → Float → Float → Bool

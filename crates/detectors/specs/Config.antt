@@ -2,8 +2,8 @@
 use Prim.Native.Nat.{ℕ}
 use mathlib.Core.Bool.{Bool, cond}
 use lib.Ieee.{Float, binary64, mul}
-use Rattle.numbers.specs.Constants.{tolerance}
-use Rattle.numbers.specs.Narrow.{narrowOf}
+use Rattle.detectors.specs.Constants.{tolerance}
+use Rattle.numbers.specs.Rounding.{narrowOf}
 use Rattle.detectors.specs.declared.config.Settings.{Settings}
 
 -- mode 0 Disabled, 1 Indiscriminate, 2 EdgePriority, 3 EdgeOnly

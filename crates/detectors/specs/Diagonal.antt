@@ -4,10 +4,11 @@ use mathlib.Core.Bool.{Bool, cond, _&&_, _||_}
 use mathlib.Core.List.{List, []}
 use lib.ListN.{getD}
 use lib.Ieee.{Float, binary32, binary64, lt, neg, add, sub, mul, div}
-use Rattle.numbers.specs.Constants.{zeroOf, oneOf, halfOf}
-use Rattle.numbers.specs.Select.{medianOf}
-use Rattle.numbers.specs.Narrow.{narrowOf}
-use Rattle.numbers.specs.Quadratic.{rootsOf}
+use Rattle.numbers.specs.Constants.{zeroOf, oneOf}
+use Rattle.detectors.specs.Constants.{halfOf}
+use Rattle.numbers.specs.Scalar.{medianOf}
+use Rattle.numbers.specs.Rounding.{narrowOf}
+use Rattle.numbers.specs.EquationSolver.{rootsOf}
 use Rattle.ground.specs.Lists.{any, some}
 use Rattle.detectors.specs.Texel.{channel, texelMedian}
 use Rattle.detectors.specs.Classifier.{rangeTest}

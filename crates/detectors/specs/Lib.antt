@@ -1,3 +1,4 @@
+pub mod Constants
 pub mod Config
 pub mod Texel
 pub mod Classifier

@@ -4,9 +4,9 @@ use mathlib.Core.Bool.{Bool, cond, _&&_}
 use mathlib.Core.List.{List}
 use lib.Dec.{ltb}
 use lib.Ieee.{Float, binary32, binary64, lt, le, sub, div}
-use Rattle.numbers.specs.Constants.{zeroOf, oneOf, halfOf, epsilon, oneLessEpsilon}
-use Rattle.numbers.specs.Select.{medianOf, absOf}
-use Rattle.numbers.specs.Narrow.{mixOf}
+use Rattle.numbers.specs.Constants.{zeroOf, oneOf}
+use Rattle.detectors.specs.Constants.{halfOf, epsilon, oneLessEpsilon}
+use Rattle.numbers.specs.Scalar.{medianOf, absOf, mixOf}
 use Rattle.ground.specs.Lists.{any}
 use Rattle.detectors.specs.Texel.{channel, texelMedian}
 use Rattle.detectors.specs.Classifier.{rangeTest}

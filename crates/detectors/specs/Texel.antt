@@ -3,7 +3,7 @@ use Prim.Native.Nat.{ℕ}
 use mathlib.Core.List.{List}
 use lib.ListN.{getD}
 use lib.Ieee.{Float, nan}
-use Rattle.numbers.specs.Select.{medianOf}
+use Rattle.numbers.specs.Scalar.{medianOf}
 
 -- channel i of a texel
 abbrev pub channel : List Float → ℕ → Float

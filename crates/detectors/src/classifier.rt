@@ -1,7 +1,7 @@
 // The artifact classifier: the range test that the detectors share.
 ghost use mathlib.Core.Path.{_≡_};
 ghost use Rattle.detectors.specs.Classifier as Classifier;
-use numbers::constants;
+use crate::constants;
 use numbers::scalar;
 
 fn falls_below(am: f32, bm: f32, xm: f32) -> bool

@@ -1,7 +1,7 @@
 // The diagonal detector: a texel, its two side neighbours and the one across.
 ghost use mathlib.Core.Path.{_≡_};
 ghost use Prim.Native.Nat.{_<_};
-ghost use Rattle.numbers.specs.Quadratic.{Listed};
+ghost use Rattle.numbers.specs.EquationSolver.{Listed};
 ghost use Rattle.detectors.specs.Diagonal as Diagonal;
 ghost use Rattle.ground.specs.Lists.{any};
 ghost use Rattle.detectors.specs.Config as Config;
@@ -10,7 +10,7 @@ use crate::classifier;
 use crate::config::Settings;
 use crate::pairs;
 use crate::texel;
-use numbers::constants;
+use crate::constants;
 use numbers::equation_solver;
 use numbers::equation_solver::Roots;
 use numbers::rounding;

@@ -2,12 +2,12 @@
 ghost use mathlib.Core.Path.{_≡_};
 ghost use Prim.Native.Nat.{_<_};
 ghost use lib.Ieee.{binary32, sub};
-ghost use Rattle.numbers.specs.Constants.{halfOf};
-ghost use Rattle.numbers.specs.Select.{absOf};
+ghost use Rattle.detectors.specs.Constants.{halfOf};
+ghost use Rattle.numbers.specs.Scalar.{absOf};
 ghost use Rattle.detectors.specs.Config as Config;
 ghost use Rattle.detectors.specs.Edge as Edge;
 use crate::pairs;
-use numbers::constants;
+use crate::constants;
 use numbers::rounding;
 use numbers::scalar;
 

@@ -2,7 +2,7 @@
 ghost use mathlib.Core.Path.{_≡_};
 ghost use Prim.Native.Nat.{_<_};
 ghost use Rattle.detectors.specs.Linear as Linear;
-use numbers::constants;
+use crate::constants;
 use numbers::scalar;
 
 // The farther one from the outline is tested.

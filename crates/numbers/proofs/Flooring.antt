@@ -17,8 +17,8 @@ use lib.Ieee.Bits.{is-true, is-false}
 use mir.Syntax.{w64}
 use mir.Val.{SFits, toZ, ofZ}
 use mir.ValLaws.{toZ-pos, toZ-ofZ}
-use Rattle.numbers.specs.Floor.{floorOf}
-use Rattle.numbers.specs.Steps.{scaled}
+use Rattle.numbers.specs.Rounding.{floorOf}
+use Rattle.numbers.specs.Inner.{scaled}
 use Rattle.numbers.proofs.Narrowing.{val, fields-value, exp, digits, signed, with-lead, lead-lo, top-field}
 use Rattle.numbers.proofs.Patterns.{shifted}
 

@@ -15,7 +15,7 @@ use Rattle.numbers.proofs.Compared.{Cmp, cmp}
 use lib.Ieee.Scale.{round-same}
 use lib.Arith.{lt→nleb, le→nltb}
 use lib.Ieee.Bits.{cond-no, is-false, toBits-ofBits, nanBits-is}
-use Rattle.numbers.specs.Narrow.{narrowOf}
+use Rattle.numbers.specs.Rounding.{narrowOf}
 use Rattle.numbers.proofs.Patterns.{drop-is, drop-none, round-at, closest-shift, pattern, pattern-no-nan}
 
 -- ---- by the fraction that a value equals

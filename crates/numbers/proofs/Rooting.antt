@@ -15,8 +15,8 @@ use lib.Ieee.Exact.{HasValue, round-exact}
 use lib.Ieee.Nearest.{nearest-ge}
 use lib.Ieee.Scale.{round-same}
 use lib.Ieee.Bits.{ofBits-toBits}
-use Rattle.numbers.specs.Root.{root, sqrtOf}
-use Rattle.numbers.specs.Steps.{nearestRoot, rootBits}
+use Rattle.numbers.specs.SquareRoot.{root, sqrtOf}
+use Rattle.numbers.specs.Inner.{nearestRoot, rootBits}
 use Rattle.numbers.proofs.Patterns.{pattern, pattern-no-nan, toBits-val, size-gt}
 use Rattle.numbers.proofs.Narrowing.{value-no-nan, val, value, exp, digits, size-of, size-value, signed, top-field}
 use Rattle.numbers.proofs.Roots.{root-around, rootOf-at, square-le, square-lt, four-pow, doubled}

@@ -10,8 +10,8 @@ use lib.Pow.{pow-add, pow-pos}
 use lib.Ieee.{Format, prec, low, size, nearest, units}
 use lib.Ieee.Digits.{size-lt}
 use lib.Ieee.Fits.{two, two-le-pos}
-use Rattle.numbers.specs.Root.{another, rootBy, root, rootOf}
-use Rattle.numbers.specs.Steps.{IsRoot, Extends, nearestRoot}
+use Rattle.numbers.specs.SquareRoot.{another, rootBy, root, rootOf}
+use Rattle.numbers.specs.Inner.{IsRoot, Extends, nearestRoot}
 use Rattle.numbers.proofs.Compared.{le-or-lt, compare-scale, compare-lt, compare-gt}
 use Rattle.numbers.proofs.Patterns.{size-exact, one-more, dropped}
 

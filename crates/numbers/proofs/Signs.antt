@@ -9,7 +9,7 @@ use lib.Dec.{T, lit<}
 use lib.Ieee.{Float, nan, inf, fin, Format, binary32, binary64, fits, isNan, neg, toBits, ofBits, nanBits, top, hid, ones}
 use lib.Ieee.Fits.{neg-fits}
 use lib.Ieee.Bits.{toBits-lt, ofBits-toBits, nanBits-is}
-use Rattle.numbers.specs.Select.{absOf}
+use Rattle.numbers.specs.Scalar.{absOf}
 use Rattle.numbers.proofs.Laws.Order.{abs-number}
 
 regroup : (t a b : ℕ) → t + a + b ≡ t + (0 + a + b)

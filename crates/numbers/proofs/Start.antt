@@ -8,7 +8,7 @@ use native.Mathlib.Omega.{arith}
 use lib.Dec.{T, leb, ltb, leb→le, ltb→lt}
 use lib.ListN.{getD}
 use lib.Ieee.Fits.{and-l, and-r}
-use Rattle.numbers.specs.Steps.{IsRoot}
+use Rattle.numbers.specs.Inner.{IsRoot}
 use Rattle.numbers.proofs.Table.{at}
 
 unfoldable pub roots : List ℕ

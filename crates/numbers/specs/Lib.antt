@@ -1,8 +1,7 @@
 pub mod Constants
-pub mod Select
-pub mod Narrow
 pub mod Nearest
-pub mod Floor
-pub mod Root
-pub mod Quadratic
-pub mod Steps
+pub mod Rounding
+pub mod Scalar
+pub mod SquareRoot
+pub mod EquationSolver
+pub mod Inner

@@ -2,7 +2,7 @@
 ghost use mathlib.Core.Path.{_≡_};
 ghost use lib.Ieee.{binary64, lt};
 ghost use Rattle.numbers.specs.Constants.{zeroOf};
-ghost use Rattle.numbers.specs.Quadratic.{linearRoots, squareRoots, rootsOf, Listed};
+ghost use Rattle.numbers.specs.EquationSolver.{linearRoots, squareRoots, rootsOf, Listed};
 use crate::constants;
 use crate::scalar;
 use crate::square_root;

@@ -1,9 +1,8 @@
 // From f64 to f32, and from f64 to a whole number, by the bits.
 ghost use mathlib.Core.Path.{_≡_};
 ghost use Prim.Native.Nat.{_<_};
-ghost use Rattle.numbers.specs.Narrow.{narrowOf};
-ghost use Rattle.numbers.specs.Floor.{floorOf};
-ghost use Rattle.numbers.specs.Steps.{scaled};
+ghost use Rattle.numbers.specs.Rounding.{narrowOf, floorOf};
+ghost use Rattle.numbers.specs.Inner.{scaled};
 
 // The f32 nearest to x, at a tie the one whose last digit is even.
 pub fn narrow(x: f64) -> f32

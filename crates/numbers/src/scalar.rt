@@ -1,7 +1,6 @@
 // Minimum, maximum, median, size and mix: `math/scalar.rs`, with the rule for a NaN and for two zeros fixed.
 ghost use mathlib.Core.Path.{_≡_};
-ghost use Rattle.numbers.specs.Select.{minOf, maxOf, medianOf, absOf};
-ghost use Rattle.numbers.specs.Narrow.{mixOf};
+ghost use Rattle.numbers.specs.Scalar.{minOf, maxOf, medianOf, absOf, mixOf};
 use crate::rounding;
 
 // The smaller of two: y where x is a NaN or y is less.

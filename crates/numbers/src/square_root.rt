@@ -2,8 +2,8 @@
 // Where the guess is off: a table for the first digits and two such steps more.
 ghost use mathlib.Core.Path.{_≡_};
 ghost use Prim.Native.Nat.{_+_, _*_, _≤_, _<_};
-ghost use Rattle.numbers.specs.Root.{sqrtOf};
-ghost use Rattle.numbers.specs.Steps.{IsRoot, Extends, nearestRoot, rootBits};
+ghost use Rattle.numbers.specs.SquareRoot.{sqrtOf};
+ghost use Rattle.numbers.specs.Inner.{IsRoot, Extends, nearestRoot, rootBits};
 
 // A whole number's root s, cut to a whole number, and what is left, r.
 struct Root {

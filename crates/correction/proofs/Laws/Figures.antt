@@ -2,10 +2,10 @@
 use mathlib.Core.Path.{refl}
 use lib.Count.{trailingZeros}
 use lib.Ieee.{isNan, lt, le, ne, eq, neg, add, sum, sub, mul, div, round, units, odd, size, span, climb, ofBits, ofFields}
-use Rattle.numbers.specs.Select.{minOf, maxOf, medianOf, absOf}
-use Rattle.numbers.specs.Narrow.{narrowOf, mixOf}
-use Rattle.numbers.specs.Root.{rootBy, root, rootOf, sqrtOf}
-use Rattle.numbers.specs.Quadratic.{isLinear, linearRoots, discriminant, upperRoot, lowerRoot, squareRoots, rootsOf}
+use Rattle.numbers.specs.Scalar.{minOf, maxOf, medianOf, absOf, mixOf}
+use Rattle.numbers.specs.Rounding.{narrowOf}
+use Rattle.numbers.specs.SquareRoot.{rootBy, root, rootOf, sqrtOf}
+use Rattle.numbers.specs.EquationSolver.{isLinear, linearRoots, discriminant, upperRoot, lowerRoot, squareRoots, rootsOf}
 use Rattle.ground.specs.Lists.{tab, any, some, count, first}
 use Rattle.correction.specs.Bitmap.{texel, inBounds, stencilByte, isProtected, isError}
 use Rattle.detectors.specs.Texel.{texelMedian}

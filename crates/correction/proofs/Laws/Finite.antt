@@ -1,5 +1,5 @@
 -- On accepted input every value that a range test compares is finite. Assumes nothing.
-use mathlib.Core.Path.{_≡_, refl}
+use mathlib.Core.Path.{_≡_, refl, subst}
 use mathlib.Core.Bool.{Bool, true, false}
 use mathlib.Core.List.{List, [], _∷_}
 use Prim.Native.Nat.{ℕ, _+_, _-_, _*_, _<_, zero-le}
@@ -7,12 +7,15 @@ use native.Mathlib.Nat.{le-of-eq}
 use native.Mathlib.Omega.{arith}
 use lib.Dec.{T}
 use lib.ListN.{length}
-use lib.Ieee.{Float, binary32, binary64, le, lt, mul, ofBits}
+use lib.IntN.{pos}
+use lib.Ieee.{Float, fin, Format, binary32, binary64, le, lt, mul, ofBits}
 use borrow.Author.Tests.{eqb-true}
-use Rattle.numbers.specs.Constants.{zeroOf, oneOf, limitOf}
+use Rattle.numbers.specs.Constants.{zeroOf, oneOf}
+use Rattle.detectors.specs.Constants.{limitOf}
+use Rattle.numbers.specs.Scalar.{absOf}
 use Rattle.numbers.proofs.Laws.Order.{nought, abs-le}
 use Rattle.numbers.proofs.Laws.Monotone.{mul-not-negative}
-use Rattle.numbers.proofs.Laws.Bounds.{Within, within-no-nan, within-limit, between-within, mul-within}
+use Rattle.numbers.proofs.Laws.Bounds.{Within, within-no-nan, within-of-le, between-within, mul-within}
 use Rattle.ground.proofs.Laws.Bools.{holds}
 use Rattle.detectors.specs.declared.config.Settings.{Settings}
 use Rattle.detectors.specs.Config.{sideSpan, diagonalSpan}
@@ -27,6 +30,15 @@ use Rattle.correction.specs.Pass.{texels}
 use Rattle.correction.proofs.Measures.{sizes, lies}
 use Rattle.correction.proofs.Passed.{Passed, passed, length-bounds, size-bounds}
 use Rattle.correction.proofs.Places as places
+
+limit-is : (f : Format) → limitOf f ≡ fin false 1 (pos 20)
+unfolding ofBits
+limit-is binary32 = refl
+limit-is binary64 = refl
+
+-- a value whose size is at most the limit is at most 2 ^ 20 in size
+within-limit : (f : Format) (x : Float) → T (le (absOf x) (limitOf f)) → Within 20 x
+within-limit f x h = within-of-le 20 x (subst (λ (y : Float). T (le (absOf x) y)) (limit-is f) h)
 
 -- A sample that is not oversize is at most 2 ^ 20 in size.
 pub sample-within : (v : Float) → oversize binary32 v ≡ false → Within 20 v

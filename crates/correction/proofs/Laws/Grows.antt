@@ -7,7 +7,7 @@ use native.Mathlib.Omega.{arith}
 use lib.Dec.{T, eqb}
 use lib.Ieee.{Float, binary64, le, mul, ofBits}
 use borrow.Author.Tests.{eqb-true, eqb-false, eq-eqb}
-use Rattle.numbers.specs.Constants.{limitOf, tolerance}
+use Rattle.detectors.specs.Constants.{limitOf, tolerance}
 use Rattle.numbers.proofs.Laws.Order as Order
 use Rattle.numbers.proofs.Laws.Order.{nought, finite}
 use Rattle.numbers.proofs.Laws.Monotone.{narrow-mono, mul-number, mul-mono, mul-mono-right}

@@ -8,7 +8,7 @@ use lib.ListN.{getD}
 use lib.Dec.{T}
 use lib.Ieee.{Float, nan, inf, fin, binary64, lt, le, ne, neg, add, sub, mul}
 use Rattle.numbers.specs.Constants.{zeroOf, oneOf}
-use Rattle.numbers.specs.Select.{medianOf}
+use Rattle.numbers.specs.Scalar.{medianOf}
 use Rattle.numbers.proofs.Laws.Order as Order
 use Rattle.numbers.proofs.Laws.Order.{finite}
 use Rattle.numbers.proofs.Laws.Monotone.{add-number, add-mono-right, sub-number, sub-anti-right, mul-mono-right}

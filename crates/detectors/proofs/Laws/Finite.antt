@@ -8,8 +8,9 @@ use native.Mathlib.Omega.{arith}
 use lib.Dec.{T}
 use lib.ListN.{getD}
 use lib.Ieee.{Float, binary32, binary64, le, lt, add, sub, mul, neg, isNan, ofBits}
-use Rattle.numbers.specs.Constants.{zeroOf, oneOf, epsilon, oneLessEpsilon}
-use Rattle.numbers.specs.Select.{medianOf}
+use Rattle.numbers.specs.Constants.{zeroOf, oneOf}
+use Rattle.detectors.specs.Constants.{epsilon, oneLessEpsilon}
+use Rattle.numbers.specs.Scalar.{medianOf}
 use Rattle.numbers.proofs.Laws.Order.{nought, one, finite, le-of-lt, le-trans}
 use Rattle.numbers.proofs.Laws.Monotone.{sub-not-negative}
 use Rattle.numbers.proofs.Laws.Bounds.{Within, within-more, within-finite, within-no-nan, between-within, neg-within, median-within, narrow-within, mix-within, add-within, sub-within, mul-within}

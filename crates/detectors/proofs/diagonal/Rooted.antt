@@ -10,7 +10,7 @@ use native.Mathlib.Nat.{not-suc-le-zero, le-of-suc-le-suc}
 use lib.ListN.{length, getD}
 use lib.Ieee.{Float, binary64}
 use Rattle.numbers.specs.Constants.{zeroOf}
-use Rattle.numbers.specs.Quadratic.{Listed}
+use Rattle.numbers.specs.EquationSolver.{Listed}
 use Rattle.ground.specs.Lists.{any, some}
 use Rattle.detectors.specs.Inner.{rootAt}
 use Rattle.ground.proofs.Laws.Search.{any-at}

@@ -7,7 +7,7 @@ use contract.Lifetimes.{Lfts}
 use denote.Triple.Clauses.{AtExit}
 use borrow.Fn.Kinds.{PK, RK, Dens, Out, resT, endedOf}
 use lib.Ieee.{Float}
-use Rattle.numbers.specs.Quadratic.{rootsOf, Listed}
+use Rattle.numbers.specs.EquationSolver.{rootsOf, Listed}
 use Rattle.numbers.specs.declared.equation_solver.Roots.{Roots}
 use Rattle.numbers.proofs.Laws.Quadratic.{listed-same}
 use Rattle.numbers.proofs.scalar.min.Kinds as min-kinds

@@ -10,9 +10,9 @@ use lib.Pow.{pow-add, pow-mono, pow-lt}
 use lib.Ieee.{Float, nan, inf, fin, Format, binary32, binary64, emax, up, down, unlike, round, add, sub, mul, neg, le, lt, isNan, fits, ofBits}
 use lib.Ieee.Fits.{down-pos}
 use lib.Ieee.Order.{round-mono}
-use Rattle.numbers.specs.Constants.{zeroOf, oneOf, limitOf}
-use Rattle.numbers.specs.Narrow.{narrowOf, mixOf}
-use Rattle.numbers.specs.Select.{minOf, maxOf, medianOf, absOf}
+use Rattle.numbers.specs.Constants.{zeroOf, oneOf}
+use Rattle.numbers.specs.Rounding.{narrowOf}
+use Rattle.numbers.specs.Scalar.{mixOf, minOf, maxOf, medianOf, absOf}
 use Rattle.numbers.proofs.Differences.{sum-is, sum-size, round-neg, Signed, round-signed}
 use Rattle.numbers.proofs.Laws.Order.{AtMost, nought, one, finite, finite-number, le→at-most, at-most→le}
 use Rattle.numbers.proofs.Laws.Monotone.{rest-lo, rest-hi}
@@ -88,15 +88,6 @@ le-of-within k (fin s m e) w = at-most→le false m e false 1 (pos k) (cross (m 
   where
     cross : (a c p : ℕ) → a ≤ p * c → a * 1 + 0 ≤ 1 * p * c + 0
     cross a c p h = omega arith
-
-limit-is : (f : Format) → limitOf f ≡ fin false 1 (pos 20)
-unfolding ofBits
-limit-is binary32 = refl
-limit-is binary64 = refl
-
--- A value whose size is at most the limit is at most 2 ^ 20 in size.
-pub within-limit : (f : Format) (x : Float) → T (le (absOf x) (limitOf f)) → Within 20 x
-within-limit f x h = within-of-le 20 x (subst (λ (y : Float). T (le (absOf x) y)) (limit-is f) h)
 
 -- What lies between two bounded values is bounded.
 pub between-within : (k : ℕ) (lo x hi : Float) → Within k lo → Within k hi → T (le lo x) → T (le x hi) → Within k x

@@ -3,41 +3,29 @@ use mathlib.Core.Path.{_≡_, refl, subst}
 use Prim.Native.Nat.{ℕ, _^_, _<_}
 use native.Mathlib.Nat.{zero-lt-suc}
 use mathlib.Core.Bool.{false}
-use lib.Ieee.{Float, Format, binary32, binary64, ofBits, round, sub}
-use Rattle.numbers.specs.Constants.{zeroOf, oneOf, halfOf, limitOf, epsilon, oneLessEpsilon, tolerance, dominance, two, four}
+use lib.Ieee.{Float, Format, binary32, binary64, ofBits, round}
+use Rattle.numbers.specs.Constants.{zeroOf, oneOf, dominance, two, four}
 use Rattle.numbers.specs.Nearest.{Nearest}
 use Rattle.numbers.proofs.Laws.Nearest.{round-nearest}
 
--- The constants by their fractions, and 1 - 0.01 also as the rounded difference of the two.
+-- The constants of the number rules by their fractions.
 pub record Named : Type 0 where
   pub zero-is : (f : Format) → Nearest f false 0 1 (zeroOf f)
   pub one-is : (f : Format) → Nearest f false 1 1 (oneOf f)
-  pub half-is : (f : Format) → Nearest f false 1 2 (halfOf f)
-  pub limit-is : (f : Format) → Nearest f false (2 ^ 20) 1 (limitOf f)
-  pub epsilon-is : Nearest binary64 false 1 100 epsilon
-  pub one-less-epsilon-is : Nearest binary64 false 99 100 oneLessEpsilon
-  pub one-less-epsilon-difference : oneLessEpsilon ≡ sub binary64 (oneOf binary64) epsilon
-  pub tolerance-is : Nearest binary64 false 1001 1000 tolerance
   pub dominance-is : Nearest binary64 false (10 ^ 12) 1 dominance
   pub two-is : Nearest binary64 false 2 1 two
   pub four-is : Nearest binary64 false 4 1 four
 
 -- what a fraction rounds to is nearest to it
-named : (f : Format) (num den : ℕ) (x : Float) → 0 < den → round f false num den ≡ x → Nearest f false num den x
+pub named : (f : Format) (num den : ℕ) (x : Float) → 0 < den → round f false num den ≡ x → Nearest f false num den x
 named f num den x D e = subst (Nearest f false num den) e (round-nearest f false num den D)
 
 -- Each constant is the value that is nearest to its decimal.
 pub constants : Named
-unfolding ofBits round sub
+unfolding ofBits round
 constants = record {
   zero-is = λ f. named f 0 1 (zeroOf f) (zero-lt-suc 0) (zero f);
   one-is = λ f. named f 1 1 (oneOf f) (zero-lt-suc 0) (one f);
-  half-is = λ f. named f 1 2 (halfOf f) (zero-lt-suc 1) (half f);
-  limit-is = λ f. named f (2 ^ 20) 1 (limitOf f) (zero-lt-suc 0) (limit f);
-  epsilon-is = named binary64 1 100 epsilon (zero-lt-suc 99) refl;
-  one-less-epsilon-is = named binary64 99 100 oneLessEpsilon (zero-lt-suc 99) refl;
-  one-less-epsilon-difference = refl;
-  tolerance-is = named binary64 1001 1000 tolerance (zero-lt-suc 999) refl;
   dominance-is = named binary64 (10 ^ 12) 1 dominance (zero-lt-suc 0) refl;
   two-is = named binary64 2 1 two (zero-lt-suc 0) refl;
   four-is = named binary64 4 1 four (zero-lt-suc 0) refl;
@@ -50,11 +38,3 @@ constants = record {
     one : (f : Format) → round f false 1 1 ≡ oneOf f
     one binary32 = refl
     one binary64 = refl
-
-    half : (f : Format) → round f false 1 2 ≡ halfOf f
-    half binary32 = refl
-    half binary64 = refl
-
-    limit : (f : Format) → round f false (2 ^ 20) 1 ≡ limitOf f
-    limit binary32 = refl
-    limit binary64 = refl

@@ -12,7 +12,7 @@ use lib.Ieee.Fits.{up-pos, down-pos, round-fits}
 use lib.Ieee.Exact.{HasValue, round-exact}
 use lib.Ieee.Scale.{round-same}
 use Rattle.numbers.specs.Constants.{oneOf}
-use Rattle.numbers.specs.Narrow.{narrowOf}
+use Rattle.numbers.specs.Rounding.{narrowOf}
 use Rattle.numbers.proofs.Differences.{scale-plus, scale-minus, sum-is, unlike-false, zero-of}
 use Rattle.numbers.proofs.Laws.Order.{plus, minus, eq-refl, eq-zeros}
 use Rattle.numbers.proofs.Held.{held, count, value-unique}

@@ -12,7 +12,7 @@ use lib.Ieee.Fits.{up-pos, down-pos}
 use lib.Ieee.Nearest.{div-mono}
 use mir.Syntax.{w64}
 use mir.Val.{SFits}
-use Rattle.numbers.specs.Floor.{floorOf}
+use Rattle.numbers.specs.Rounding.{floorOf}
 use Rattle.numbers.proofs.Differences.{zero-of}
 use Rattle.numbers.proofs.Laws.Order.{AtMost, le→at-most}
 use Rattle.numbers.proofs.Flooring.{ceiling, ceiling-le, ceiling-mono, ceiling-suc, ceiling-zero, capped, capped-most}

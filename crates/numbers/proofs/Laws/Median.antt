@@ -4,7 +4,7 @@ use mathlib.Core.Logic.{_⊎_, inl, inr}
 use mathlib.Core.Bool.{Bool, true, false, not, _||_, cond}
 use lib.Dec.{T}
 use lib.Ieee.{Float, Format, up, le, lt, eq, isNan, fits}
-use Rattle.numbers.specs.Select.{minOf, maxOf, medianOf}
+use Rattle.numbers.specs.Scalar.{minOf, maxOf, medianOf}
 use Rattle.numbers.proofs.Laws.Order.{number-left, number-right, le-of-lt, le-refl, le-of-not-lt, le-trans, eq-of-le-le}
 
 abbrev NoNan : Float → Type 0

@@ -12,7 +12,7 @@ use lib.Ieee.{Float, nan, inf, fin, Format, binary32, binary64, prec, emax, low,
 use lib.Ieee.Fits.{two, up-pos, down-pos, round-fits}
 use lib.Ieee.Exact.{HasValue}
 use lib.Ieee.Scale.{grid}
-use Rattle.numbers.specs.Narrow.{narrowOf}
+use Rattle.numbers.specs.Rounding.{narrowOf}
 use Rattle.numbers.specs.Nearest.{apart, distance, largest, middle, Closest, Nearest, sumSize, sumSign}
 use Rattle.numbers.proofs.Compared.{le-or-lt}
 use Rattle.numbers.proofs.Differences.{plus, minus}

@@ -10,9 +10,9 @@ use lib.ListN.{length, getD, take}
 use lib.Ieee.{Float, nan, binary64, lt, eq, mul, div, neg, ofBits}
 use lib.Ieee.Bits.{is-false}
 use Rattle.numbers.specs.Constants.{zeroOf, dominance, two}
-use Rattle.numbers.specs.Select.{absOf}
-use Rattle.numbers.specs.Root.{sqrtOf}
-use Rattle.numbers.specs.Quadratic.{isLinear, linearRoots, discriminant, upperRoot, lowerRoot, squareRoots, rootsOf, Listed}
+use Rattle.numbers.specs.Scalar.{absOf}
+use Rattle.numbers.specs.SquareRoot.{sqrtOf}
+use Rattle.numbers.specs.EquationSolver.{isLinear, linearRoots, discriminant, upperRoot, lowerRoot, squareRoots, rootsOf, Listed}
 use Rattle.numbers.proofs.Laws.Order.{lt-not-le, le-of-eq}
 
 -- ---- which of the two rules

@@ -13,9 +13,9 @@ use lib.Ieee.Digits.{size-lt, size-le, size-reaches}
 use lib.Ieee.Fits.{up-pos, down-pos}
 use lib.Ieee.Exact.{HasValue, units-val}
 use lib.Ieee.Bits.{ofBits-fits}
-use Rattle.numbers.specs.Root.{sqrtOf, NearestRoot, MidpointAbove, MidpointBelow}
+use Rattle.numbers.specs.SquareRoot.{sqrtOf, NearestRoot, MidpointAbove, MidpointBelow}
 use Rattle.numbers.proofs.Held.{held, count, value-unique}
-use Rattle.numbers.specs.Steps.{nearestRoot}
+use Rattle.numbers.specs.Inner.{nearestRoot}
 use Rattle.numbers.proofs.Patterns.{pattern, pow-lt-back, size-gt, shifted}
 use Rattle.numbers.proofs.Compared.{le-or-lt}
 use Rattle.numbers.proofs.Roots.{bracket, four-pow}

@@ -13,7 +13,7 @@ use lib.Arith.{digits-div, digits-mod}
 use lib.Ieee.{Float, nan}
 use denote.Ref.{now}
 use borrow.Author.Tests.{eq-eqb, ne-eqb, lt-ltb, le-ltb}
-use Rattle.numbers.specs.Select.{medianOf}
+use Rattle.numbers.specs.Scalar.{medianOf}
 use Rattle.correction.specs.Bitmap.{isError}
 use Rattle.correction.specs.Collapse.{cellMedian, collapsedSample, collapsed}
 use Rattle.correction.specs.Inner.{collapsedAt}

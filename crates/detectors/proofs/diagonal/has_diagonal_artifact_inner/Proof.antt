@@ -7,7 +7,7 @@ use native.Mathlib.Omega.{arith}
 use lib.ListN.{length}
 use lib.Ieee.{Float}
 use borrow.Author.Needs.{needs}
-use Rattle.numbers.specs.Quadratic.{Listed}
+use Rattle.numbers.specs.EquationSolver.{Listed}
 use Rattle.numbers.proofs.Laws.Quadratic.{at-most-two}
 use Rattle.ground.specs.Lists.{any}
 use Rattle.detectors.specs.Inner.{rootAt}

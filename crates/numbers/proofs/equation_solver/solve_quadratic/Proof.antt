@@ -4,8 +4,8 @@ use mathlib.Core.Path.{_≡_, sym, _∙_, subst}
 use mathlib.Core.List.{List}
 use lib.Ieee.{Float, binary64, lt, mul}
 use Rattle.numbers.specs.Constants.{dominance}
-use Rattle.numbers.specs.Select.{absOf}
-use Rattle.numbers.specs.Quadratic.{Listed, discriminant}
+use Rattle.numbers.specs.Scalar.{absOf}
+use Rattle.numbers.specs.EquationSolver.{Listed, discriminant}
 use Rattle.numbers.proofs.Laws.Quadratic.{linear-at-zero, linear-dominated, not-linear, roots-linear, roots-square}
 use Rattle.numbers.proofs.equation_solver.solve_quadratic.Statement.{statement}
 use Rattle.numbers.proofs.equation_solver.solve_quadratic.Tie as tie

@@ -8,8 +8,8 @@ use lib.Dec.{T}
 use lib.IntN.{ℤ, pos, negsuc, negℤ}
 use lib.Ieee.{Float, isNan, binary64, toBits, ofBits}
 use lib.Ieee.Bits.{ofBits-toBits}
-use Rattle.numbers.specs.Floor.{floorOf}
-use Rattle.numbers.specs.Steps.{scaled}
+use Rattle.numbers.specs.Rounding.{floorOf}
+use Rattle.numbers.specs.Inner.{scaled}
 use Rattle.numbers.proofs.Tests.{is-nan, no-nan}
 use Rattle.numbers.proofs.Flooring.{e-of, m-of, scaled-lt, no-sign, sign, plain, minus-none, minus-cut, minus-whole, out, kept, kept-fits, after-fits, after-kept, minus-fits, minus-kept}
 use Rattle.numbers.proofs.rounding.floor_to_i64.Statement.{statement}

@@ -2,7 +2,7 @@
 use mathlib.Core.Path.{sym, subst}
 use lib.Dec.{T}
 use lib.Ieee.{binary64, fits}
-use Rattle.numbers.specs.Select.{absOf}
+use Rattle.numbers.specs.Scalar.{absOf}
 use Rattle.numbers.proofs.Tests.{no-nan, is-nan}
 use Rattle.numbers.proofs.Signs.{read-abs, abs-pattern}
 use Rattle.numbers.proofs.scalar.abs64.Statement.{statement}

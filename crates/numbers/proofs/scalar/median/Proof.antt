@@ -1,6 +1,6 @@
 -- `numbers::scalar::median` meets its contract: what its four calls ensure, put together. Assumes nothing.
 use borrow.Author.Needs.{needs}
-use Rattle.numbers.specs.Select.{medianOf}
+use Rattle.numbers.specs.Scalar.{medianOf}
 use Rattle.numbers.proofs.scalar.median.Statement.{statement}
 use Rattle.numbers.proofs.scalar.median.Tie as tie
 

@@ -1,6 +1,6 @@
 -- `numbers::scalar::mix` meets its contract: what its three calls ensure, put together. Assumes nothing.
 use borrow.Author.Needs.{needs}
-use Rattle.numbers.specs.Narrow.{mixOf}
+use Rattle.numbers.specs.Scalar.{mixOf}
 use Rattle.numbers.proofs.scalar.mix.Statement.{statement}
 use Rattle.numbers.proofs.scalar.mix.Tie as tie
 

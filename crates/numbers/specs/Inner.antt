@@ -2,7 +2,7 @@
 use mathlib.Core.Path.{_≡_}
 use Prim.Native.Nat.{ℕ, _+_, _-_, _*_, _/_, _%_, _^_, _≤_, _<_, compare}
 use lib.Ieee.{nearest}
-use Rattle.numbers.specs.Root.{root}
+use Rattle.numbers.specs.SquareRoot.{root}
 
 -- s is the root of n, cut to a whole number, and r is what is left
 abbrev pub IsRoot : ℕ → ℕ → ℕ → Type 0

@@ -6,8 +6,8 @@ use Prim.Native.Nat.{ℕ}
 use lib.ListN.{length, getD}
 use lib.Ieee.{Float, binary64, add, sub, mul, div, neg, lt, eq}
 use Rattle.numbers.specs.Constants.{zeroOf, dominance, two, four}
-use Rattle.numbers.specs.Select.{absOf}
-use Rattle.numbers.specs.Root.{sqrtOf}
+use Rattle.numbers.specs.Scalar.{absOf}
+use Rattle.numbers.specs.SquareRoot.{sqrtOf}
 
 -- a = 0 or |b| > 1e12·|a|
 unfoldable pub isLinear : Float → Float → Bool

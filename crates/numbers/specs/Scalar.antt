@@ -1,6 +1,8 @@
--- The smaller and the larger of two floats, the middle one of three, and the size of one. Definitions only.
+-- The smaller and the larger of two floats, the middle one of three, the size of one, and the mix of two. Definitions only.
 use mathlib.Core.Bool.{_||_, false, cond}
-use lib.Ieee.{Float, nan, inf, fin, lt, isNan}
+use lib.Ieee.{Float, nan, inf, fin, binary64, lt, isNan, add, mul, sub}
+use Rattle.numbers.specs.Constants.{oneOf}
+use Rattle.numbers.specs.Rounding.{narrowOf}
 
 -- y if x is NaN or y < x, else x
 unfoldable pub minOf : Float → Float → Float
@@ -19,3 +21,7 @@ unfoldable pub absOf : Float → Float
 absOf nan = nan
 absOf (inf s) = inf false
 absOf (fin s m e) = fin false m e
+
+-- (1 - w) * a + w * b, each operation rounded once in binary64, then narrowed
+unfoldable pub mixOf : Float → Float → Float → Float
+mixOf a b w = narrowOf (add binary64 (mul binary64 (sub binary64 (oneOf binary64) w) a) (mul binary64 w b))
