@@ -1,2 +1,4 @@
--- The lemmas of corners.
-mod Contours
+-- Clipped columns, the four texels around a point, contours.
+pub mod Around
+pub mod Clips
+pub mod Contours

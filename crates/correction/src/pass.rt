@@ -9,11 +9,11 @@ ghost use Rattle.correction.specs.Pass as Pass;
 ghost use Rattle.correction.specs.Inner.{Sized, Outlined};
 use crate::checks;
 use crate::collapse;
-use detectors::config;
-use detectors::config::Settings;
 use crate::corners;
 use crate::edges;
 use crate::errors;
+use detectors::config;
+use detectors::config::Settings;
 
 // The stencil cells that are protected, and those with an error.
 pub struct Counts {

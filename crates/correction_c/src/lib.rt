@@ -5,10 +5,10 @@ ghost use Rattle.correction.specs.Checks as Checks;
 ghost use Rattle.correction.specs.Pass as Pass;
 ghost use Rattle.correction.specs.View as View;
 ghost use Rattle.correction_c.specs.Call.{called};
-use detectors::config::Settings;
 use correction::pass;
 use correction::pass::Answer;
 use correction::view;
+use detectors::config::Settings;
 
 // Answers the number of the first check that fails, 0 where all pass, and writes its place and the two counts.
 #[no_mangle]

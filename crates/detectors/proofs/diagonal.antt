@@ -1,2 +1,2 @@
 -- What the roots of a pair are searched by.
-mod Rooted
+pub mod Rooted

@@ -6,8 +6,8 @@ ghost use Rattle.detectors.specs.Constants.{halfOf};
 ghost use Rattle.numbers.specs.Scalar.{absOf};
 ghost use Rattle.detectors.specs.Config as Config;
 ghost use Rattle.detectors.specs.Edge as Edge;
-use crate::pairs;
 use crate::constants;
+use crate::pairs;
 use numbers::rounding;
 use numbers::scalar;
 
@@ -68,7 +68,15 @@ fn extreme(a: [f32; 3], b: [f32; 3], c: [f32; 3], m: f32, i: usize) -> bool
 }
 
 // Texel c of the pair a, b, whose median is m, is protected.
-pub fn pair_protects(r: f32, a: [f32; 3], b: [f32; 3], am: f32, bm: f32, c: [f32; 3], m: f32) -> bool
+pub fn pair_protects(
+    r: f32,
+    a: [f32; 3],
+    b: [f32; 3],
+    am: f32,
+    bm: f32,
+    c: [f32; 3],
+    m: f32,
+) -> bool
     ensures { λ v. ⌜ v ≡ Edge.pairProtects r a b am bm c m ⌝ }
 {
     near(r, am, bm)

@@ -116,12 +116,5 @@ pub fn has_linear_artifact(
 ) -> bool
     ensures { λ r. ⌜ r ≡ Linear.hasLinearArtifact (Config.sideSpan s upright) protected am a b ⌝ }
 {
-    linear_pairs(
-        side_span(s, upright),
-        protected,
-        am,
-        texel::median(b),
-        a,
-        b,
-    )
+    linear_pairs(side_span(s, upright), protected, am, texel::median(b), a, b)
 }

@@ -1,7 +1,7 @@
 // A figure is run through the public pass and printed.
 use crate::show;
-use detectors::config::Settings;
 use correction::pass;
+use detectors::config::Settings;
 
 // Ratio 1 and three equal lengths.
 pub fn all(l: f64) -> Settings {

@@ -1,15 +1,2 @@
 pub mod Laws
-mod Tests
-mod Signs
-mod Patterns
-mod Compared
-mod Narrowing
-mod Flooring
-mod Roots
-mod Table
-mod Start
-mod Rooting
-mod Differences
-mod Held
-mod Multiples
-mod Distances
+pub mod floats

@@ -11,9 +11,9 @@ ghost use Rattle.reading.specs.Written.{Written, Whole, Lent};
 use crate::bytes;
 use crate::decode;
 use crate::text;
-use detectors::config::Settings;
 use correction::pass;
 use correction::pass::Answer;
+use detectors::config::Settings;
 
 // The pass on a decoded case.
 fn run(

@@ -6,9 +6,9 @@ ghost use mathlib.Core.Bool.{true};
 ghost use Rattle.replay.specs.Sizes.{Sized};
 use crate::answer;
 use crate::number;
-use detectors::config::Settings;
 use correction::pass;
 use correction::pass::Answer;
+use detectors::config::Settings;
 
 // Where a case begins, and how many samples, cells, colours, coordinates and ends it holds.
 pub struct Case {

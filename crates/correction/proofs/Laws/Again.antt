@@ -22,8 +22,8 @@ use Rattle.correction.specs.Collapse.{cellMedian, collapsedSample, colla
 use Rattle.correction.specs.Pass.{flags, passSamples, stencilAfter, samplesAfter, fedBack, numberOf}
 use Rattle.ground.proofs.Laws.Fill.{tab-length, tab-at}
 use Rattle.ground.proofs.Laws.Search.{first-is-end}
-use Rattle.correction.proofs.Measures.{sizes}
-use Rattle.correction.proofs.Passed.{passed, stages}
+use Rattle.correction.proofs.checks.Measures.{sizes}
+use Rattle.correction.proofs.checks.Passed.{passed, stages}
 use Rattle.correction.proofs.pass.msdf_error_correction.Kinds.{ps}
 use Rattle.correction.proofs.pass.msdf_error_correction.Reads as entry
 use Rattle.correction.proofs.Laws.Answer.{zero-accepts}

@@ -27,9 +27,9 @@ use Rattle.detectors.proofs.Laws.Finite.{SmallTexel, Span, SmallFour, AllFinite
 use Rattle.correction.specs.Bitmap.{texel, inBounds}
 use Rattle.correction.specs.Checks.{Input, badLength, oversize, refusalNumber, accepted}
 use Rattle.correction.specs.Pass.{texels}
-use Rattle.correction.proofs.Measures.{sizes, lies}
-use Rattle.correction.proofs.Passed.{Passed, passed, length-bounds, size-bounds}
-use Rattle.correction.proofs.Places as places
+use Rattle.correction.proofs.checks.Measures.{sizes, lies}
+use Rattle.correction.proofs.checks.Passed.{Passed, passed, length-bounds, size-bounds}
+use Rattle.correction.proofs.bitmap.Places as places
 
 limit-is : (f : Format) → limitOf f ≡ fin false 1 (pos 20)
 unfolding ofBits

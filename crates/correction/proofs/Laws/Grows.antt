@@ -23,7 +23,7 @@ use Rattle.correction.specs.Pass.{texels, edgePriorityProtects, protects
 use Rattle.correction.specs.Stricter.{Outlines, NoSmaller, Stricter}
 use Rattle.correction.specs.Stricter.Outlines.{none, kept, added, skipped}
 use Rattle.ground.proofs.Laws.Bools.{holds, held, and-implies, or-implies, four-imply}
-use Rattle.correction.proofs.Passed.{length-bounds}
+use Rattle.correction.proofs.checks.Passed.{length-bounds}
 use Rattle.detectors.proofs.Laws.Falls.{Spans}
 use Rattle.correction.proofs.Laws.Finite.{product-span}
 

@@ -17,7 +17,7 @@ use Rattle.correction.specs.Bitmap.{isProtected, isError}
 use Rattle.correction.specs.Checks.{Input, input, refusalNumber, accepted}
 use Rattle.correction.specs.Pass.{protects, flags, byteAt, passStencil, passSamples, stencilAfter, samplesAfter}
 use Rattle.ground.proofs.Laws.Fill.{tab-length, tab-at}
-use Rattle.correction.proofs.Staged.{protected-staged, error-staged}
+use Rattle.correction.proofs.pass.Staged.{protected-staged, error-staged}
 use Rattle.correction.proofs.pass.msdf_error_correction.Kinds.{ps}
 
 pub number-zero : (i : Input) → accepted i ≡ true → refusalNumber i ≡ 0

@@ -38,8 +38,8 @@ use Rattle.correction.specs.Stricter.{Outlines, Stricter, withRatio}
 use Rattle.correction.specs.Stricter.Outlines.{none, kept}
 use Rattle.ground.proofs.Laws.Bools.{and-implies}
 use Rattle.ground.proofs.Laws.Fill.{tab-at}
-use Rattle.correction.proofs.Passed.{passed}
-use Rattle.correction.proofs.Measures.{sizes}
+use Rattle.correction.proofs.checks.Passed.{passed}
+use Rattle.correction.proofs.checks.Measures.{sizes}
 use Rattle.correction.proofs.pass.msdf_error_correction.Kinds.{ps}
 use Rattle.correction.proofs.pass.msdf_error_correction.Reads as entry
 use Rattle.correction.proofs.Laws.Answer.{zero-accepts}

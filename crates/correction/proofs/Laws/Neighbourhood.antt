@@ -27,7 +27,7 @@ use Rattle.detectors.specs.Diagonal.{hasDiagonalArtifact}
 use Rattle.correction.specs.Errors.{sideArtifact, someSide, diagonalArtifact, someDiagonal, someArtifact, hasArtifact}
 use Rattle.correction.specs.Neighbourhood.{SameAround, SameSpans}
 use Rattle.correction.specs.Pass.{texels, protects, flags, numberOf, stencilAfter}
-use Rattle.correction.proofs.Places.{inside}
+use Rattle.correction.proofs.bitmap.Places.{inside}
 use Rattle.correction.proofs.pass.msdf_error_correction.Kinds.{ps}
 use Rattle.correction.proofs.pass.msdf_error_correction.Reads as entry
 use Rattle.correction.proofs.Laws.Answer.{zero-accepts}

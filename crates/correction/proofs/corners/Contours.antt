@@ -20,7 +20,7 @@ use Rattle.ground.specs.Lists.{tab, any, some}
 use Rattle.correction.specs.Corners.{Segment, segmentAt, between, split, contours, before, shared, noSegment, lower, beside, isCorner, around, cornerAt, contourProtects, cornersProtect}
 use Rattle.correction.specs.Inner.{Outlined, painted, cornerHits, contourHits}
 use Rattle.ground.proofs.Laws.Fill.{tab-length, tab-at}
-use Rattle.correction.proofs.Painted.{painted-same, painted-none}
+use Rattle.correction.proofs.bitmap.Painted.{painted-same, painted-none}
 
 module _ (w : ℕ) (colours : List ℕ) (coords : List Float) (from end i j : ℕ) (b : Bool) (e : j ≡ cond (eqb i from) (end - 1) (i - 1)) (f : b ≡ ltb (shared (getD colours j 0) (getD colours i 0)) 2) where
   corner : b ≡ ltb (shared (getD colours (cond (eqb i from) (end - 1) (i - 1)) 0) (getD colours i 0)) 2

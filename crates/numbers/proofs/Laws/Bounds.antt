@@ -13,7 +13,7 @@ use lib.Ieee.Order.{round-mono}
 use Rattle.numbers.specs.Constants.{zeroOf, oneOf}
 use Rattle.numbers.specs.Rounding.{narrowOf}
 use Rattle.numbers.specs.Scalar.{mixOf, minOf, maxOf, medianOf, absOf}
-use Rattle.numbers.proofs.Differences.{sum-is, sum-size, round-neg, Signed, round-signed}
+use Rattle.numbers.proofs.floats.Differences.{sum-is, sum-size, round-neg, Signed, round-signed}
 use Rattle.numbers.proofs.Laws.Order.{AtMost, nought, one, finite, finite-number, le→at-most, at-most→le}
 use Rattle.numbers.proofs.Laws.Monotone.{rest-lo, rest-hi}
 use Rattle.numbers.proofs.Laws.Exact.{round-value}

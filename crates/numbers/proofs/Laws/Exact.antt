@@ -13,9 +13,9 @@ use lib.Ieee.Exact.{HasValue, round-exact}
 use lib.Ieee.Scale.{round-same}
 use Rattle.numbers.specs.Constants.{oneOf}
 use Rattle.numbers.specs.Rounding.{narrowOf}
-use Rattle.numbers.proofs.Differences.{scale-plus, scale-minus, sum-is, unlike-false, zero-of}
+use Rattle.numbers.proofs.floats.Differences.{scale-plus, scale-minus, sum-is, unlike-false, zero-of}
 use Rattle.numbers.proofs.Laws.Order.{plus, minus, eq-refl, eq-zeros}
-use Rattle.numbers.proofs.Held.{held, count, value-unique}
+use Rattle.numbers.proofs.floats.Held.{held, count, value-unique}
 
 -- ---- rounding
 -- A value that the format holds is what its own fraction rounds to.

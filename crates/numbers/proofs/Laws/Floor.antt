@@ -13,9 +13,9 @@ use lib.Ieee.Nearest.{div-mono}
 use mir.Syntax.{w64}
 use mir.Val.{SFits}
 use Rattle.numbers.specs.Rounding.{floorOf}
-use Rattle.numbers.proofs.Differences.{zero-of}
+use Rattle.numbers.proofs.floats.Differences.{zero-of}
 use Rattle.numbers.proofs.Laws.Order.{AtMost, le→at-most}
-use Rattle.numbers.proofs.Flooring.{ceiling, ceiling-le, ceiling-mono, ceiling-suc, ceiling-zero, capped, capped-most}
+use Rattle.numbers.proofs.rounding.Flooring.{ceiling, ceiling-le, ceiling-mono, ceiling-suc, ceiling-zero, capped, capped-most}
 
 -- ---- what it is
 -- The floor of a value x that is not negative, and below 2 ^ 63, is a k with k ≤ x < k + 1.

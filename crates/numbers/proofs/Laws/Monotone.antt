@@ -14,7 +14,7 @@ use lib.Ieee.Bits.{is-true, is-false}
 use lib.Ieee.Order.{round-mono}
 use Rattle.numbers.specs.Scalar.{absOf, mixOf}
 use Rattle.numbers.specs.Rounding.{narrowOf}
-use Rattle.numbers.proofs.Differences.{of-at-most, sum-is, sum-comm, sums-order, products-order, unlike-false, round-neg, Signed, round-signed, round-zero, zero-of}
+use Rattle.numbers.proofs.floats.Differences.{of-at-most, sum-is, sum-comm, sums-order, products-order, unlike-false, round-neg, Signed, round-signed, round-zero, zero-of}
 use Rattle.numbers.proofs.Laws.Order.{plus, minus, AtMost, nought, one, finite, finite-number, le→at-most, at-most→le, le-refl, le-trans, le-inf, inf-le, le-neg, neg-neg, neg-number, between-finite, le-of-abs-le, ge-of-abs-le}
 
 -- ---- rounding

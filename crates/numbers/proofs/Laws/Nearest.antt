@@ -14,11 +14,11 @@ use lib.Ieee.Exact.{HasValue}
 use lib.Ieee.Scale.{grid}
 use Rattle.numbers.specs.Rounding.{narrowOf}
 use Rattle.numbers.specs.Nearest.{apart, distance, largest, middle, Closest, Nearest, sumSize, sumSign}
-use Rattle.numbers.proofs.Compared.{le-or-lt}
-use Rattle.numbers.proofs.Differences.{plus, minus}
-use Rattle.numbers.proofs.Distances.{closest-is, closest-only, exponents, wide, overflowed, counted}
-use Rattle.numbers.proofs.Held.{held, count}
-use Rattle.numbers.proofs.Multiples.{most}
+use Rattle.numbers.proofs.floats.Compared.{le-or-lt}
+use Rattle.numbers.proofs.floats.Differences.{plus, minus}
+use Rattle.numbers.proofs.floats.Distances.{closest-is, closest-only, exponents, wide, overflowed, counted}
+use Rattle.numbers.proofs.floats.Held.{held, count}
+use Rattle.numbers.proofs.floats.Multiples.{most}
 
 -- ---- that the definitions say what they are called
 -- The largest value is one of the format.

@@ -11,10 +11,10 @@ use lib.Dec.{T, not-T, eqb, eqb→eq}
 use lib.Ieee.{Float, nan, inf, fin, Format, up, down, neg, le, lt, eq, isNan, fits}
 use lib.Ieee.Fits.{up-pos, down-pos, and-l, and-r}
 use Rattle.numbers.specs.Scalar.{absOf}
-use Rattle.numbers.proofs.Held.{value-unique}
-use Rattle.numbers.proofs.Differences.{or-split, or-l, or-r, of-below, of-not-below, of-level, at-most, of-at-most, flip, nothing, through, zero-of}
+use Rattle.numbers.proofs.floats.Held.{value-unique}
+use Rattle.numbers.proofs.floats.Differences.{or-split, or-l, or-r, of-below, of-not-below, of-level, at-most, of-at-most, flip, nothing, through, zero-of}
 -- `AtMost s a t b` is ±a ≤ ±b of signed whole numbers, negative where s or t is true.
-pub use Rattle.numbers.proofs.Differences.{plus, minus, AtMost}
+pub use Rattle.numbers.proofs.floats.Differences.{plus, minus, AtMost}
 
 -- 0 and 1
 abbrev pub nought : Float

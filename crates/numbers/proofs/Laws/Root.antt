@@ -14,12 +14,12 @@ use lib.Ieee.Fits.{up-pos, down-pos}
 use lib.Ieee.Exact.{HasValue, units-val}
 use lib.Ieee.Bits.{ofBits-fits}
 use Rattle.numbers.specs.SquareRoot.{sqrtOf, NearestRoot, MidpointAbove, MidpointBelow}
-use Rattle.numbers.proofs.Held.{held, count, value-unique}
+use Rattle.numbers.proofs.floats.Held.{held, count, value-unique}
 use Rattle.numbers.specs.Inner.{nearestRoot}
-use Rattle.numbers.proofs.Patterns.{pattern, pow-lt-back, size-gt, shifted}
-use Rattle.numbers.proofs.Compared.{le-or-lt}
-use Rattle.numbers.proofs.Roots.{bracket, four-pow}
-use Rattle.numbers.proofs.Rooting.{Wide, sqrt-units, nearest-wide, four-two}
+use Rattle.numbers.proofs.floats.Patterns.{pattern, pow-lt-back, size-gt, shifted}
+use Rattle.numbers.proofs.floats.Compared.{le-or-lt}
+use Rattle.numbers.proofs.square_root.Roots.{bracket, four-pow}
+use Rattle.numbers.proofs.square_root.Rooting.{Wide, sqrt-units, nearest-wide, four-two}
 
 -- ---- x = N / L is M * 4 ^ k / L ^ 2, with an M of 105 or 106 digits
 record Square (N : ℕ) : Type 0 where

@@ -4,7 +4,7 @@ use native.Mathlib.Omega.{arith}
 use lib.ListN.{length}
 use denote.Ref.{now}
 use Rattle.correction.specs.Bitmap.{texel}
-use Rattle.correction.proofs.Places.{Place, placed}
+use Rattle.correction.proofs.bitmap.Places.{Place, placed}
 use Rattle.correction.proofs.bitmap.texel.Statement.{statement}
 use Rattle.correction.proofs.bitmap.texel.Tie as tie
 

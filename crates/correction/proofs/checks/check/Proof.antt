@@ -5,7 +5,7 @@ use lib.ListN.{length}
 use denote.Ref.{now}
 use borrow.Author.Needs.{needs}
 use Rattle.correction.specs.Checks.{input, outlinePlace}
-use Rattle.correction.proofs.Refusals.{by-sizes, by-settings, by-samples, by-outlines}
+use Rattle.correction.proofs.checks.Refusals.{by-sizes, by-settings, by-samples, by-outlines}
 use Rattle.correction.proofs.checks.check.Statement.{statement}
 use Rattle.correction.proofs.checks.check.Tie as tie
 

@@ -12,7 +12,7 @@ use borrow.Author.Needs.{needs}
 use Rattle.ground.specs.Lists.{any}
 use Rattle.correction.specs.Checks.{endBefore, badEnd, endsPlace}
 use Rattle.ground.proofs.Laws.Search.{none-zero, none-more, first-found, first-end}
-use Rattle.correction.proofs.Ends.{before-first, before-next}
+use Rattle.correction.proofs.checks.Ends.{before-first, before-next}
 use Rattle.correction.proofs.checks.ends_place.Statement.{statement}
 use Rattle.correction.proofs.checks.ends_place.Tie as tie
 

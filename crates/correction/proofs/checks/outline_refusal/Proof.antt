@@ -7,7 +7,7 @@ use denote.Ref.{now}
 use borrow.Author.Needs.{needs}
 use borrow.Author.Tests.{lt-ltb, le-ltb}
 use Rattle.correction.specs.Checks.{outlineRefusal, outlinePlace}
-use Rattle.correction.proofs.Passed.{good-outlines}
+use Rattle.correction.proofs.checks.Passed.{good-outlines}
 use Rattle.correction.proofs.checks.outline_refusal.Statement.{statement}
 use Rattle.correction.proofs.checks.outline_refusal.Tie as tie
 

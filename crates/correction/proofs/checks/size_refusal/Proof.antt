@@ -5,7 +5,7 @@ use native.Mathlib.Omega.{arith}
 use borrow.Author.Needs.{needs}
 use borrow.Author.Tests.{eq-eqb, ne-eqb}
 use Rattle.correction.specs.Checks.{badChannels, badSide, sizeRefusal}
-use Rattle.correction.proofs.Measures.{side-bound, channel-bound, area-fits, volume-fits}
+use Rattle.correction.proofs.checks.Measures.{side-bound, channel-bound, area-fits, volume-fits}
 use Rattle.correction.proofs.checks.size_refusal.Statement.{statement}
 use Rattle.correction.proofs.checks.size_refusal.Tie as tie
 

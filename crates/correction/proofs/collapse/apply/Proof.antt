@@ -17,7 +17,7 @@ use Rattle.numbers.specs.Scalar.{medianOf}
 use Rattle.correction.specs.Bitmap.{isError}
 use Rattle.correction.specs.Collapse.{cellMedian, collapsedSample, collapsed}
 use Rattle.correction.specs.Inner.{collapsedAt}
-use Rattle.correction.proofs.Places.{place-lt, next-row}
+use Rattle.correction.proofs.bitmap.Places.{place-lt, next-row}
 use Rattle.ground.proofs.Laws.Fill.{Filled, filled-none, filled-more, filled-run, filled-at, filled-all}
 use Rattle.correction.proofs.collapse.apply.Statement.{statement}
 use Rattle.correction.proofs.collapse.apply.Tie as tie

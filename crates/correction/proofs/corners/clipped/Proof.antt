@@ -1,6 +1,6 @@
 -- `correction::corners::clipped` meets its contract. Assumes nothing.
 use borrow.Author.Needs.{needs}
-use Rattle.correction.proofs.Clips.{at-far, at-near, cast, at-in, at-out}
+use Rattle.correction.proofs.corners.Clips.{at-far, at-near, cast, at-in, at-out}
 use Rattle.correction.proofs.corners.clipped.Statement.{statement}
 use Rattle.correction.proofs.corners.clipped.Tie as tie
 

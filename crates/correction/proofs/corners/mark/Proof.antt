@@ -6,9 +6,9 @@ use lib.ListN.{length}
 use denote.Ref.{now}
 use borrow.Author.Needs.{needs}
 use Rattle.correction.specs.Inner.{spot}
-use Rattle.correction.proofs.Places.{cell-lt}
-use Rattle.correction.proofs.Painted.{painted-set, painted-none}
-use Rattle.correction.proofs.Around.{inside}
+use Rattle.correction.proofs.bitmap.Places.{cell-lt}
+use Rattle.correction.proofs.bitmap.Painted.{painted-set, painted-none}
+use Rattle.correction.proofs.corners.Around.{inside}
 use Rattle.correction.proofs.corners.mark.Statement.{statement}
 use Rattle.correction.proofs.corners.mark.Tie as tie
 

@@ -1,6 +1,6 @@
 -- `correction::corners::mark_around` meets its contract. Assumes nothing.
 use borrow.Author.Needs.{needs}
-use Rattle.correction.proofs.Around.{next-fits, marked-around}
+use Rattle.correction.proofs.corners.Around.{next-fits, marked-around}
 use Rattle.correction.proofs.corners.mark_around.Statement.{statement}
 use Rattle.correction.proofs.corners.mark_around.Tie as tie
 

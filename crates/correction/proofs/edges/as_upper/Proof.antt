@@ -2,8 +2,8 @@
 use mathlib.Core.Path.{sym, _∙_}
 use mathlib.Core.Bool.{and-false}
 use Rattle.ground.proofs.Laws.Bools.{and-taken, and-left}
-use Rattle.correction.proofs.Places.{inside}
-use Rattle.correction.proofs.Far.{far-upper}
+use Rattle.correction.proofs.bitmap.Places.{inside}
+use Rattle.correction.proofs.edges.Far.{far-upper}
 use borrow.Author.Needs.{needs}
 use Rattle.correction.proofs.edges.as_upper.Statement.{statement}
 use Rattle.correction.proofs.edges.as_upper.Tie as tie

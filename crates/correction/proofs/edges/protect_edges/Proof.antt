@@ -12,7 +12,7 @@ use Rattle.correction.specs.Bitmap.{texel}
 use Rattle.detectors.specs.Config.{radius}
 use Rattle.correction.specs.Edges.{someEdge, edgesProtect}
 use Rattle.correction.specs.Inner.{painted}
-use Rattle.correction.proofs.Sweep.{Swept, swept, swept-none, swept-row, swept-on, swept-wrap, swept-all}
+use Rattle.correction.proofs.bitmap.Sweep.{Swept, swept, swept-none, swept-row, swept-on, swept-wrap, swept-all}
 use Rattle.correction.proofs.edges.protect_edges.Statement.{statement}
 use Rattle.correction.proofs.edges.protect_edges.Tie as tie
 

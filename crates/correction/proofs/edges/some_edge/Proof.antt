@@ -3,7 +3,7 @@ use mathlib.Core.Path.{sym, ap, _∙_}
 use Rattle.detectors.specs.Texel.{texelMedian}
 use Rattle.correction.specs.Edges.{someEdge}
 use Rattle.ground.proofs.Laws.Bools.{or-taken, or-left}
-use Rattle.correction.proofs.Far.{distance, far-edge}
+use Rattle.correction.proofs.edges.Far.{distance, far-edge}
 use borrow.Author.Needs.{needs}
 use Rattle.correction.proofs.edges.some_edge.Statement.{statement}
 use Rattle.correction.proofs.edges.some_edge.Tie as tie

@@ -3,7 +3,7 @@ use mathlib.Core.Path.{_≡_, sym, _∙_, ap}
 use mathlib.Core.Bool.{Bool, true, false, not, Bool·not-not}
 use Rattle.correction.specs.Errors.{diagonalArtifact}
 use Rattle.ground.proofs.Laws.Bools.{and-taken, and-left}
-use Rattle.correction.proofs.Places.{Inside, inside}
+use Rattle.correction.proofs.bitmap.Places.{Inside, inside}
 use borrow.Author.Needs.{needs}
 use Rattle.correction.proofs.errors.diagonal_artifact.Statement.{statement}
 use Rattle.correction.proofs.errors.diagonal_artifact.Tie as tie

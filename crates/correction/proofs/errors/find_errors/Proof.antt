@@ -4,7 +4,7 @@ use Prim.Native.Nat.{ℕ, _-_, _<_}
 use native.Mathlib.Omega.{arith}
 use lib.ListN.{length}
 use Rattle.correction.specs.Inner.{marked, found}
-use Rattle.correction.proofs.Sweep.{Swept, swept-none, swept-on, swept-wrap, swept-all, swept-same, swept-row}
+use Rattle.correction.proofs.bitmap.Sweep.{Swept, swept-none, swept-on, swept-wrap, swept-all, swept-same, swept-row}
 use Rattle.correction.proofs.errors.find_errors.Statement.{statement}
 use Rattle.correction.proofs.errors.find_errors.Tie as tie
 

@@ -2,7 +2,7 @@
 use mathlib.Core.Path.{sym, _∙_}
 use Rattle.correction.specs.Errors.{sideArtifact}
 use Rattle.ground.proofs.Laws.Bools.{and-taken, and-left}
-use Rattle.correction.proofs.Places.{Inside, inside}
+use Rattle.correction.proofs.bitmap.Places.{Inside, inside}
 use borrow.Author.Needs.{needs}
 use Rattle.correction.proofs.errors.side_artifact.Statement.{statement}
 use Rattle.correction.proofs.errors.side_artifact.Tie as tie

@@ -2,7 +2,7 @@
 use denote.Ref.{now}
 use borrow.Author.Needs.{needs}
 use Rattle.correction.specs.Checks.{input}
-use Rattle.correction.proofs.Whole.{switched-off, find-ready, apply-ready, done}
+use Rattle.correction.proofs.pass.Whole.{switched-off, find-ready, apply-ready, done}
 use Rattle.correction.proofs.pass.correct.Statement.{statement}
 use Rattle.correction.proofs.pass.correct.Tie as tie
 

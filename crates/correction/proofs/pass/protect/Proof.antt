@@ -3,7 +3,7 @@ use mathlib.Core.Path.{_∙_}
 use denote.Ref.{now}
 use borrow.Author.Needs.{needs}
 use Rattle.correction.specs.Checks.{input}
-use Rattle.correction.proofs.Whole.{protects-all, protects-none, protects-some}
+use Rattle.correction.proofs.pass.Whole.{protects-all, protects-none, protects-some}
 use Rattle.correction.proofs.pass.protect.Statement.{statement}
 use Rattle.correction.proofs.pass.protect.Tie as tie
 

@@ -8,7 +8,7 @@ use borrow.Author.Tests.{eq-eqb, ne-eqb, lt-ltb, le-ltb}
 use Rattle.correction.specs.Bitmap.{isError}
 use Rattle.correction.specs.Checks.{sizeRefusal}
 use Rattle.correction.specs.View.{viewable, viewed}
-use Rattle.correction.proofs.Measures.{Lies, lies, sizes}
+use Rattle.correction.proofs.checks.Measures.{Lies, lies, sizes}
 use borrow.Author.Needs.{needs}
 use Rattle.correction.proofs.view.texel_view.Statement.{statement}
 use Rattle.correction.proofs.view.texel_view.Tie as tie

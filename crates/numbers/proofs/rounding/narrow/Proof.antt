@@ -8,8 +8,8 @@ use lib.Ieee.{Float, fits, isNan, binary64, toBits, ofBits, div, nanBits}
 use lib.Ieee.Bits.{toBits-lt, ofBits-toBits}
 use borrow.Author.Needs.{needs}
 use Rattle.numbers.specs.Rounding.{narrowOf}
-use Rattle.numbers.proofs.Tests.{is-nan, no-nan}
-use Rattle.numbers.proofs.Narrowing.{Right, size-of, y-no-nan, small-digits, size-no-nan, narrow-small, narrow-mid, narrow-high, mid-fin}
+use Rattle.ground.proofs.Laws.Nan.{is-nan, no-nan}
+use Rattle.numbers.proofs.rounding.Narrowing.{Right, size-of, y-no-nan, small-digits, size-no-nan, narrow-small, narrow-mid, narrow-high, mid-fin}
 use Rattle.numbers.proofs.rounding.narrow.Statement.{statement}
 use Rattle.numbers.proofs.rounding.narrow.Tie as tie
 

@@ -1,7 +1,7 @@
 -- `numbers::rounding::scale` meets its contract (`Flooring.antt`). Assumes nothing.
 use borrow.Author.Needs.{needs}
 use native.Mathlib.Omega.{arith}
-use Rattle.numbers.proofs.Flooring.{scaled-none, scaled-down, scaled-up}
+use Rattle.numbers.proofs.rounding.Flooring.{scaled-none, scaled-down, scaled-up}
 use Rattle.numbers.proofs.rounding.scale.Statement.{statement}
 use Rattle.numbers.proofs.rounding.scale.Tie as tie
 

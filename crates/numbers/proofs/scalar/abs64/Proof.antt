@@ -3,8 +3,8 @@ use mathlib.Core.Path.{sym, subst}
 use lib.Dec.{T}
 use lib.Ieee.{binary64, fits}
 use Rattle.numbers.specs.Scalar.{absOf}
-use Rattle.numbers.proofs.Tests.{no-nan, is-nan}
-use Rattle.numbers.proofs.Signs.{read-abs, abs-pattern}
+use Rattle.ground.proofs.Laws.Nan.{no-nan, is-nan}
+use Rattle.numbers.proofs.floats.Signs.{read-abs, abs-pattern}
 use Rattle.numbers.proofs.scalar.abs64.Statement.{statement}
 use Rattle.numbers.proofs.scalar.abs64.Tie as tie
 

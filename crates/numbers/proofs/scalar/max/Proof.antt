@@ -1,6 +1,6 @@
 -- `numbers::scalar::max` meets its contract. Assumes nothing.
 use Rattle.numbers.specs.Scalar.{maxOf}
-use Rattle.numbers.proofs.Tests.{ne-self}
+use Rattle.ground.proofs.Laws.Nan.{ne-self}
 use Rattle.numbers.proofs.scalar.max.Statement.{statement}
 use Rattle.numbers.proofs.scalar.max.Tie as tie
 

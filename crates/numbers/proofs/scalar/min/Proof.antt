@@ -1,6 +1,6 @@
 -- `numbers::scalar::min` meets its contract. Assumes nothing.
 use Rattle.numbers.specs.Scalar.{minOf}
-use Rattle.numbers.proofs.Tests.{ne-self}
+use Rattle.ground.proofs.Laws.Nan.{ne-self}
 use Rattle.numbers.proofs.scalar.min.Statement.{statement}
 use Rattle.numbers.proofs.scalar.min.Tie as tie
 

@@ -3,7 +3,7 @@ use borrow.Author.Needs.{needs}
 use Prim.Native.Nat.{ℕ, _+_, _*_, _/_, _%_, _-_, _≤_}
 use mathlib.Core.Path.{refl}
 use native.Mathlib.Omega.{arith}
-use Rattle.numbers.proofs.Roots.{Sizes, sizes, taken-off, as-is, less-one}
+use Rattle.numbers.proofs.square_root.Roots.{Sizes, sizes, taken-off, as-is, less-one}
 use Rattle.numbers.proofs.square_root.extend.Statement.{statement}
 use Rattle.numbers.proofs.square_root.extend.Tie as tie
 

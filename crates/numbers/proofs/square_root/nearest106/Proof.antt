@@ -4,7 +4,7 @@ use Prim.Native.Nat.{ℕ, _+_, _*_, _/_, _%_, _≤_, _<_}
 use mathlib.Core.Path.{_≡_}
 use native.Mathlib.Nat.{div-add-mod', mod-lt, mul-le-mul}
 use native.Mathlib.Omega.{arith}
-use Rattle.numbers.proofs.Roots.{last-quotient, last-up, last-down}
+use Rattle.numbers.proofs.square_root.Roots.{last-quotient, last-up, last-down}
 use Rattle.numbers.proofs.square_root.nearest106.Statement.{statement}
 use Rattle.numbers.proofs.square_root.nearest106.Tie as tie
 

@@ -4,7 +4,7 @@ use Prim.Native.Nat.{ℕ, _-_, _*_, _/_, _≤_}
 use mathlib.Core.Path.{sym, subst}
 use native.Mathlib.Omega.{arith}
 use Rattle.numbers.specs.Inner.{IsRoot}
-use Rattle.numbers.proofs.Start.{roots, Entry, entry, squared, exact, lower}
+use Rattle.numbers.proofs.square_root.Start.{roots, Entry, entry, squared, exact, lower}
 use Rattle.numbers.proofs.square_root.root14.Statement.{statement}
 use Rattle.numbers.proofs.square_root.root14.Tie as tie
 

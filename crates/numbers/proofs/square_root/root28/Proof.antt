@@ -2,7 +2,7 @@
 use borrow.Author.Needs.{needs}
 use Prim.Native.Nat.{_/_}
 use native.Mathlib.Omega.{arith}
-use Rattle.numbers.proofs.Roots.{between}
+use Rattle.numbers.proofs.square_root.Roots.{between}
 use Rattle.numbers.proofs.square_root.root28.Statement.{statement}
 use Rattle.numbers.proofs.square_root.root28.Tie as tie
 

@@ -3,7 +3,7 @@ use borrow.Author.Needs.{needs}
 use Prim.Native.Nat.{_/_}
 use native.Mathlib.Nat.{le-of-lt, mul-le-mul}
 use native.Mathlib.Omega.{arith}
-use Rattle.numbers.proofs.Roots.{between}
+use Rattle.numbers.proofs.square_root.Roots.{between}
 use Rattle.numbers.proofs.square_root.root54.Statement.{statement}
 use Rattle.numbers.proofs.square_root.root54.Tie as tie
 

@@ -4,7 +4,7 @@ use Prim.Native.Nat.{ℕ, _+_, _*_, _/_, _%_, _-_, _≤_, _<_}
 use mathlib.Core.Path.{_∙_, ap}
 use native.Mathlib.Omega.{arith}
 use Rattle.numbers.specs.Inner.{nearestRoot, rootBits}
-use Rattle.numbers.proofs.Roots.{between, doubled}
+use Rattle.numbers.proofs.square_root.Roots.{between, doubled}
 use Rattle.numbers.proofs.square_root.root_bits.Statement.{statement}
 use Rattle.numbers.proofs.square_root.root_bits.Tie as tie
 

@@ -6,7 +6,7 @@ use mathlib.Core.Bool.{not}
 use lib.Dec.{T}
 use lib.Ieee.{binary64, fits, toBits, ofBits, nanBits, div}
 use Rattle.numbers.specs.Inner.{rootBits}
-use Rattle.numbers.proofs.Rooting.{Right, Small, small, normal, above-bits, above-top, at-zero, at-rest}
+use Rattle.numbers.proofs.square_root.Rooting.{Right, Small, small, normal, above-bits, above-top, at-zero, at-rest}
 use Rattle.numbers.proofs.square_root.sqrt.Statement.{statement}
 use Rattle.numbers.proofs.square_root.sqrt.Tie as tie
 

@@ -25,10 +25,10 @@ use Rattle.correction.specs.Collapse.{collapsed}
 use Rattle.correction.specs.Inner.{Sized, Outlined, painted, found}
 use Rattle.correction.specs.Pass.{texels, edgePriorityProtects, protects, flags, byteAt, passStencil, passSamples, countsOf, Answers, answer, stencilAfter, samplesAfter}
 use Rattle.ground.proofs.Laws.Fill.{tab-length, tab-at, tab-same}
-use Rattle.correction.proofs.Painted.{painted-then}
-use Rattle.correction.proofs.Staged.{found-staged, error-staged, collapsed-same, collapsed-none}
-use Rattle.correction.proofs.Measures.{sizes, sized, cells}
-use Rattle.correction.proofs.Passed.{passed}
+use Rattle.correction.proofs.bitmap.Painted.{painted-then}
+use Rattle.correction.proofs.pass.Staged.{found-staged, error-staged, collapsed-same, collapsed-none}
+use Rattle.correction.proofs.checks.Measures.{sizes, sized, cells}
+use Rattle.correction.proofs.checks.Passed.{passed}
 use Rattle.correction.proofs.Laws.Answer.{as-answered}
 
 -- every entry of a list of 2 and 0 is below 255

@@ -13,7 +13,7 @@ use native.Mathlib.Omega.{arith}
 use lib.ListN.{length, getD, set}
 use lib.Arith.{digits-div, digits-mod}
 use Rattle.ground.specs.Lists.{tab}
-use Rattle.correction.proofs.Places.{row-lt, next-row}
+use Rattle.correction.proofs.bitmap.Places.{row-lt, next-row}
 use Rattle.ground.proofs.Laws.Fill.{Filled, filled-none, filled-more, filled-all}
 
 -- what the loop leaves in cell k

@@ -11,12 +11,12 @@ use lib.Ieee.{Float, nan, inf, fin, Format, binary32, binary64, up, down, neares
 use lib.Ieee.Fits.{down-pos, nearest-le}
 use lib.Ieee.Exact.{HasValue, odd-sign}
 use lib.Ieee.Nearest.{closest, closest-same, nearest-ge}
-use Rattle.numbers.proofs.Compared.{Cmp, cmp}
+use Rattle.numbers.proofs.floats.Compared.{Cmp, cmp}
 use lib.Ieee.Scale.{round-same}
 use lib.Arith.{lt→nleb, le→nltb}
 use lib.Ieee.Bits.{cond-no, is-false, toBits-ofBits, nanBits-is}
 use Rattle.numbers.specs.Rounding.{narrowOf}
-use Rattle.numbers.proofs.Patterns.{drop-is, drop-none, round-at, closest-shift, pattern, pattern-no-nan}
+use Rattle.numbers.proofs.floats.Patterns.{drop-is, drop-none, round-at, closest-shift, pattern, pattern-no-nan}
 
 -- ---- by the fraction that a value equals
 narrow-value : (x : Float) (s : Bool) (a c : ℕ) → 0 < c → HasValue x s a c → narrowOf x ≡ round binary32 s a c

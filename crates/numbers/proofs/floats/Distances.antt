@@ -15,11 +15,11 @@ use lib.Ieee.Nearest.{nearest-ge}
 use lib.Ieee.Order.{drop, kept, round-mono, transfer}
 use lib.Ieee.Scale.{grid, overflow}
 use Rattle.numbers.specs.Nearest.{apart, distance, middle, Closest}
-use Rattle.numbers.proofs.Compared.{le-or-lt}
-use Rattle.numbers.proofs.Differences.{Signed, round-signed, round-neg}
-use Rattle.numbers.proofs.Held.{held, count, value-unique}
-use Rattle.numbers.proofs.Multiples.{whole, whole-lt, whole-ge, kept-le, Other, Beside, best-number, overflows}
-use Rattle.numbers.proofs.Patterns.{toBits-val, written-is}
+use Rattle.numbers.proofs.floats.Compared.{le-or-lt}
+use Rattle.numbers.proofs.floats.Differences.{Signed, round-signed, round-neg}
+use Rattle.numbers.proofs.floats.Held.{held, count, value-unique}
+use Rattle.numbers.proofs.floats.Multiples.{whole, whole-lt, whole-ge, kept-le, Other, Beside, best-number, overflows}
+use Rattle.numbers.proofs.floats.Patterns.{toBits-val, written-is}
 
 -- ---- distances, counted in the format's smallest values
 -- c times as far

@@ -17,10 +17,10 @@ use lib.Ieee.Scale.{round-same}
 use lib.Ieee.Bits.{ofBits-toBits}
 use Rattle.numbers.specs.SquareRoot.{root, sqrtOf}
 use Rattle.numbers.specs.Inner.{nearestRoot, rootBits}
-use Rattle.numbers.proofs.Patterns.{pattern, pattern-no-nan, toBits-val, size-gt}
-use Rattle.numbers.proofs.Narrowing.{value-no-nan, val, value, exp, digits, size-of, size-value, signed, top-field}
-use Rattle.numbers.proofs.Roots.{root-around, rootOf-at, square-le, square-lt, four-pow, doubled}
-use Rattle.numbers.proofs.Signs.{size-lt-top}
+use Rattle.numbers.proofs.floats.Patterns.{pattern, pattern-no-nan, toBits-val, size-gt}
+use Rattle.numbers.proofs.rounding.Narrowing.{value-no-nan, val, value, exp, digits, size-of, size-value, signed, top-field}
+use Rattle.numbers.proofs.square_root.Roots.{root-around, rootOf-at, square-le, square-lt, four-pow, doubled}
+use Rattle.numbers.proofs.floats.Signs.{size-lt-top}
 use Rattle.numbers.proofs.Laws.Order.{nought}
 
 -- ---- the root of a value with N * 2 ^ 1074 = M * 4 ^ k, for an M of 105 or 106 digits

@@ -19,8 +19,8 @@ use mir.Val.{SFits, toZ, ofZ}
 use mir.ValLaws.{toZ-pos, toZ-ofZ}
 use Rattle.numbers.specs.Rounding.{floorOf}
 use Rattle.numbers.specs.Inner.{scaled}
-use Rattle.numbers.proofs.Narrowing.{val, fields-value, exp, digits, signed, with-lead, lead-lo, top-field}
-use Rattle.numbers.proofs.Patterns.{shifted}
+use Rattle.numbers.proofs.rounding.Narrowing.{val, fields-value, exp, digits, signed, with-lead, lead-lo, top-field}
+use Rattle.numbers.proofs.floats.Patterns.{shifted}
 
 -- ---- m * 2 ^ e / 2 ^ 1075, by shifts
 pub scaled-none : (m e : ℕ) → m < 9007199254740992 → e < 1023 → 0 ≡ scaled m e

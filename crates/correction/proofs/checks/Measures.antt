@@ -14,7 +14,7 @@ use lib.Ieee.{Float}
 use borrow.Author.Tests.{eqb-true, leb-true, not-false}
 use Rattle.correction.specs.Checks.{badChannels, badSide, sizeRefusal}
 use Rattle.correction.specs.Inner.{Sized}
-use Rattle.correction.proofs.Places.{cell-lt, next-row}
+use Rattle.correction.proofs.bitmap.Places.{cell-lt, next-row}
 use Rattle.ground.proofs.Laws.Bools.{both-hold, cond-zero}
 
 pub side-bound : (n : ℕ) → badSide n ≡ false → (1 ≤ n) × (n ≤ 4096)

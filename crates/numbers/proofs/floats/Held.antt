@@ -11,7 +11,7 @@ use lib.Ieee.Digits.{back}
 use lib.Ieee.Fits.{down-pos, and-l, and-r}
 use lib.Ieee.Exact.{HasValue}
 use lib.Ieee.Bits.{ofBits-toBits}
-use Rattle.numbers.proofs.Patterns.{toBits-val, pow-le-back, shifted}
+use Rattle.numbers.proofs.floats.Patterns.{toBits-val, pow-le-back, shifted}
 
 -- m * 2 ^ e, counted in the format's smallest values, is a number of no more digits than the format keeps, and zeros after it.
 pub record Held (f : Format) (m : ℕ) (e : ℤ) : Type 0 where

@@ -20,8 +20,8 @@ use borrow.Author.Tests.{ltb-true, leb-true, eqb-true, lt-ltb, le-ltb, le-leb, e
 use Rattle.correction.specs.Bitmap.{inBounds}
 use Rattle.correction.specs.Corners.{beside}
 use Rattle.correction.specs.Inner.{painted, spot, clip}
-use Rattle.correction.proofs.Places.{row-lt}
-use Rattle.correction.proofs.Painted.{painted-four, painted-same-below}
+use Rattle.correction.proofs.bitmap.Places.{row-lt}
+use Rattle.correction.proofs.bitmap.Painted.{painted-four, painted-same-below}
 
 same : (p q : Bool) → (p ≡ true → q ≡ true) → (q ≡ true → p ≡ true) → p ≡ q
 same true q f g = sym (f refl)

@@ -12,8 +12,8 @@ use lib.Ieee.Fits.{kept-lt, nearest-le}
 use lib.Ieee.Nearest.{closest}
 use lib.Ieee.Order.{drop, kept}
 use Rattle.numbers.specs.Nearest.{apart}
-use Rattle.numbers.proofs.Compared.{Cmp, cmp, le-or-lt}
-use Rattle.numbers.proofs.Patterns.{shifted, pow-le-back}
+use Rattle.numbers.proofs.floats.Compared.{Cmp, cmp, le-or-lt}
+use Rattle.numbers.proofs.floats.Patterns.{shifted, pow-le-back}
 
 -- ---- how far q * u + r is from j * u
 -- from a multiple at or below q * u, i units below it

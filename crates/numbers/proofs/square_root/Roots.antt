@@ -12,8 +12,8 @@ use lib.Ieee.Digits.{size-lt}
 use lib.Ieee.Fits.{two, two-le-pos}
 use Rattle.numbers.specs.SquareRoot.{another, rootBy, root, rootOf}
 use Rattle.numbers.specs.Inner.{IsRoot, Extends, nearestRoot}
-use Rattle.numbers.proofs.Compared.{le-or-lt, compare-scale, compare-lt, compare-gt}
-use Rattle.numbers.proofs.Patterns.{size-exact, one-more, dropped}
+use Rattle.numbers.proofs.floats.Compared.{le-or-lt, compare-scale, compare-lt, compare-gt}
+use Rattle.numbers.proofs.floats.Patterns.{size-exact, one-more, dropped}
 
 -- ---- squares
 pub square-le : (a b : ℕ) → a * a < suc b * suc b → a ≤ b

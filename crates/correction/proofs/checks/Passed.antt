@@ -19,7 +19,7 @@ use Rattle.detectors.specs.Constants.{limitOf}
 use Rattle.detectors.specs.declared.config.Settings.{Settings}
 use Rattle.correction.specs.Checks.{Input, sizeRefusal, badLength, settingsPlace, oversize, samplesPlace, badOutlines, endBefore, badEnd, endsPlace, badEnds, badSegment, segmentsPlace, outlineRefusal, refusalNumber}
 use Rattle.correction.specs.Inner.{Outlined}
-use Rattle.correction.proofs.Ends.{before-next}
+use Rattle.correction.proofs.checks.Ends.{before-next}
 use Rattle.ground.proofs.Laws.Search.{first-past}
 use Rattle.ground.proofs.Laws.Bools.{both-hold, both-fail, cond-zero, cond-above}
 

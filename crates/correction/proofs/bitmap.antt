@@ -1,0 +1,4 @@
+-- Where texels and cells lie, and the loops over them.
+pub mod Painted
+pub mod Places
+pub mod Sweep

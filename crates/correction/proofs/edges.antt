@@ -1,0 +1,2 @@
+-- Texels too far from the outline for any edge.
+pub mod Far

@@ -1,0 +1,3 @@
+-- Narrowing and floor by the bits.
+pub mod Flooring
+pub mod Narrowing
