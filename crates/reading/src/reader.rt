@@ -18,7 +18,7 @@ pub struct Field {
 }
 
 // The field at a place.
-fn field_at(s: &[u8], at: usize) -> Field
+pub fn field_at(s: &[u8], at: usize) -> Field
     ensures { λ f. ⌜ Told (now (s .entry)) at f ⌝ }
 {
     let end = s.len();
