@@ -1,4 +1,4 @@
--- What the inner functions that write leave for each other. Definitions only.
+-- What the inner functions leave for each other: those that write, and those that walk through the fields. Definitions only.
 use mathlib.Core.Path.{_≡_}
 use Prim.Native.Nat.{ℕ, zero, suc, _+_, _-_, _*_, _≤_, _<_}
 use mathlib.Core.List.{List}
@@ -59,18 +59,18 @@ pub record Measured (s : List ℕ) (row : ℕ) : Type 0 where
   pub sized : sizeBreach s ≡ fine
   pub wide : row ≡ 4 * rowSize s
 
--- 01 is due
+-- 01 is due: nothing is read but the length
 pub record Begun (s : List ℕ) (at : ℕ) : Type 0 where
   pub short : length s ≤ 65536
   pub first : at ≡ 0
 
--- 02 is due
+-- 02 is due: the size is read, and all rows are left
 pub record Sized (s : List ℕ) (at left row : ℕ) : Type 0 where
   pub measured : Measured s row
   pub all : left ≡ height s
   pub place : at ≡ 8
 
--- 03 is due, or what comes after the contours
+-- 03 is due, or what comes after the contours, which so far end at the place
 pub record Outlining (s : List ℕ) (at left row rows k n : ℕ) : Type 0 where
   pub measured : Measured s row
   pub all : left ≡ height s
@@ -78,7 +78,7 @@ pub record Outlining (s : List ℕ) (at left row rows k n : ℕ) : Type 0 where
   pub reached : Reached s at k n
   pub place : rows ≡ at
 
--- 04 is due while rows are left, and then 00
+-- 04 is due while rows are left, and then 00: what is left decides whether the rows have a breach
 pub record Rowing (s : List ℕ) (at left row rows k n : ℕ) : Type 0 where
   pub measured : Measured s row
   pub set : fieldBreach s 8 2 33 ≡ fine

@@ -75,11 +75,14 @@ fn contour_breach(s: &[u8], f: Field, k: usize, n: usize) -> usize
     body_breach(s, f)
 }
 
-// What the fields say that are walked: the tag that is due next, 0 for none; how many rows are left, and of how many bytes; the breach, or FINE and then where the rows start, and how many contours and segments there are.
+// What is known where a field starts.
 pub struct Layout {
+    // The tag that is due; 0 once a breach or the end is met.
     pub due: usize,
+    // How many rows are left, and how many bytes each has.
     pub left: usize,
     pub row: usize,
+    // The breach, or FINE and then where the rows start, and how many contours and segments there are.
     pub breach: usize,
     pub rows: usize,
     pub contours: usize,
@@ -165,27 +168,22 @@ fn settings(s: &[u8], f: Field, l: Layout) -> Layout
 }
 
 // 03: one more contour.
-fn contour(s: &[u8], f: Field, l: Layout) -> Layout
-    requires { ⌜ Told (now s) (f .at) f × Outlining (now s) (f .at) (l .left) (l .row) (l .rows) (l .contours) (l .segments) × (f .tag ≡ 3) ⌝ }
+fn contour(s: &[u8], f: Field, mut l: Layout) -> Layout
+    requires { ⌜ Told (now s) (f .at) f × Outlining (now s) (f .at) (l .left) (l .row) (l .rows) (l .contours) (l .segments) × (f .tag ≡ 3) × (l .due ≡ 3) ⌝ }
     ensures { λ r. ⌜ Stepped (now (s .entry)) (f .at) (f .next) 3 r ⌝ }
 {
     let b = contour_breach(s, f, l.contours, l.segments);
     if b != FINE {
         return broken(b);
     }
-    Layout {
-        due: 3,
-        left: l.left,
-        row: l.row,
-        breach: FINE,
-        rows: f.next,
-        contours: l.contours + 1,
-        segments: l.segments + f.len / 17,
-    }
+    l.rows = f.next;
+    l.contours = l.contours + 1;
+    l.segments = l.segments + f.len / 17;
+    l
 }
 
 // 00: the end, and nothing after it.
-fn end(s: &[u8], f: Field, l: Layout) -> Layout
+fn end(s: &[u8], f: Field, mut l: Layout) -> Layout
     requires { ⌜ Told (now s) (f .at) f × Rowing (now s) (f .at) (l .left) (l .row) (l .rows) (l .contours) (l .segments) × (l .left ≡ 0) ⌝ }
     ensures { λ r. ⌜ Stepped (now (s .entry)) (f .at) (f .next) 4 r ⌝ }
 {
@@ -196,19 +194,13 @@ fn end(s: &[u8], f: Field, l: Layout) -> Layout
     if f.at + 3 < s.len() {
         return broken(f.at + 3);
     }
-    Layout {
-        due: 0,
-        left: 0,
-        row: l.row,
-        breach: FINE,
-        rows: l.rows,
-        contours: l.contours,
-        segments: l.segments,
-    }
+    l.due = 0;
+    l.breach = FINE;
+    l
 }
 
 // 04: one more row, or the end where none is left.
-fn row(s: &[u8], f: Field, l: Layout) -> Layout
+fn row(s: &[u8], f: Field, mut l: Layout) -> Layout
     requires { ⌜ Told (now s) (f .at) f × Rowing (now s) (f .at) (l .left) (l .row) (l .rows) (l .contours) (l .segments) ⌝ }
     ensures { λ r. ⌜ Stepped (now (s .entry)) (f .at) (f .next) 4 r ⌝ }
 {
@@ -219,18 +211,12 @@ fn row(s: &[u8], f: Field, l: Layout) -> Layout
     if b != FINE {
         return broken(b);
     }
-    Layout {
-        due: 4,
-        left: l.left - 1,
-        row: l.row,
-        breach: FINE,
-        rows: l.rows,
-        contours: l.contours,
-        segments: l.segments,
-    }
+    l.due = 4;
+    l.left = l.left - 1;
+    l
 }
 
-// One more field, of the tag that is due or of one that may come in its place.
+// The field that is told, where a tag is due: instead of a contour the first row may come, and instead of a row the end.
 fn step(s: &[u8], f: Field, l: Layout) -> Layout
     requires { ⌜ Told (now s) (f .at) f × Walked (now s) (f .at) l × (0 < l .due) ⌝ }
     ensures { λ r. ⌜ Stepped (now (s .entry)) (f .at) (f .next) (l .due) r ⌝ }

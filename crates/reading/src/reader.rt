@@ -1,5 +1,6 @@
 // The field reader: the input, and the place in it at which the next field starts.
-// It tells the field at its place and moves on behind it; `fields::read` makes one and walks it through the input.
+// It tells the field at its place and moves on behind it, and `fields::read` makes one and walks it through the whole input.
+// Each function over a reader is proved by hand, so these three and that loop are all: whatever judges or decodes a field takes the slice and the field that was told.
 ghost use mathlib.Core.Path.{_≡_};
 ghost use Rattle.reading.specs.Written.{Told};
 use crate::bytes;
@@ -9,7 +10,7 @@ pub struct Reader<'a> {
     pub at: usize,
 }
 
-// A field: where it starts, its tag and its length, 0 where the input ends before them, and where its contents end, which is the input's end where some of them are missing.
+// A field: where it starts, its tag and its length, 0 where the input ends before them, and where its contents end and the next field starts, which is the input's end where some of them are missing.
 pub struct Field {
     pub at: usize,
     pub tag: u8,
@@ -56,6 +57,7 @@ pub fn field_at(s: &[u8], at: usize) -> Field
     }
 }
 
+// A reader at the first field.
 pub fn new<'a>(src: &'a [u8]) -> Reader<'a>
     ensures { λ r. ⌜ (r .src ≡ src .entry) × (r .at ≡ 0) ⌝ }
 {

@@ -1,8 +1,10 @@
 -- `reading::fields::contour` meets its contract. Assumes nothing.
-use mathlib.Core.Path.{sym, _∙_, refl}
+use mathlib.Core.Path.{sym, subst, _∙_, refl}
+use Prim.Native.Nat.{_+_, _/_}
 use native.Mathlib.Omega.{arith}
 use borrow.Author.Needs.{needs}
-use Rattle.reading.specs.Written.{Stage}
+use Rattle.reading.specs.Grammar.{lengthAt}
+use Rattle.reading.specs.Written.{Stage, Reached}
 use Rattle.reading.proofs.Layouts.{breach-outline}
 use Rattle.reading.proofs.Outlines.{reached-more, outlined-broken}
 use Rattle.reading.proofs.Stages.{stepped-on, stepped-broken, next-contour, told-contour}
@@ -24,11 +26,11 @@ returns c =
     let b = e ∙ sym (outlined-broken _ (m .short) _ _ _ (o .reached) here (λ z. c .before .if1 .taken (e ∙ z))) in
     stepped-broken _ _ _ (omega arith) (omega arith) (c .broken .ensures) (b ∙ sym (breach-outline _ (m .short) (m .sized) (o .set) (λ z. c .before .if1 .taken (b ∙ z)))) (c .before .if1 .taken)
 
-add-t6 : tie.Need-add-t6
-add-t6 c = search needs
+add-l : tie.Need-add-l
+add-l c = search needs
 
-add-t8 : tie.Need-add-t8
-add-t8 c = search needs
+add-l-2 : tie.Need-add-l-2
+add-l-2 c = search needs
 
 returns-2 : tie.Need-returns-2
 unfolding Stage
@@ -38,13 +40,14 @@ returns-2 c =
     let fine = sym (c .before .before .before .before .contour-breach .ensures) ∙ c .before .before .before .if1 .left in
     let n = next-contour _ (m .short) _ (c .before .before .before .before .before .before .pre .0) (omega arith) _ _ fine in
     stepped-on _ _ _ (omega arith) (omega arith) (omega arith)
+    (rw (c .before .before .before .before .before .before .pre .3)
     (record {
       measured = m;
       all = o .all;
       set = o .set;
       reached = rw (n .0, n .1) (reached-more _ (m .short) _ _ _ (o .reached) fine);
       place = refl;
-    })
+    }))
 
 pub contour-spec : {M : Type 1} → statement M
 contour-spec =
@@ -53,6 +56,6 @@ contour-spec =
     contour-breach-requires
     broken-requires
     returns
-    add-t6
-    add-t8
+    add-l
+    add-l-2
     returns-2)

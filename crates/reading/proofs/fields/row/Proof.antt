@@ -22,8 +22,8 @@ broken-requires c κs = search needs
 returns-2 : tie.Need-returns-2
 returns-2 c = stepped-broken _ _ _ (omega arith) (omega arith) (c .broken .ensures) (row-broken _ (c .before .before .before .before .before .before .pre .1) (omega arith) (c .before .before .field-breach .ensures) (c .before .if2 .taken)) (c .before .if2 .taken)
 
-sub-t6 : tie.Need-sub-t6
-sub-t6 c = search needs
+sub-l : tie.Need-sub-l
+sub-l c = search needs
 
 returns-3 : tie.Need-returns-3
 unfolding Stage
@@ -41,5 +41,5 @@ row-spec =
     field-breach-requires
     broken-requires
     returns-2
-    sub-t6
+    sub-l
     returns-3)

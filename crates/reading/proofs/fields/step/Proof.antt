@@ -19,7 +19,7 @@ returns-2 : tie.Need-returns-2
 returns-2 c = stepped-as _ _ _ (omega arith) (c .before .before .before .before .before .before .pre .2) (c .settings .ensures)
 
 contour-requires : tie.Need-contour-requires
-contour-requires c κs = (c .before .before .before .before .before .before .before .before .before .pre .0, outlining-due _ _ _ (c .before .before .if3 .taken) (c .before .before .before .before .before .before .before .before .before .pre .1), eqb-true _ _ (c .if4 .taken))
+contour-requires c κs = (c .before .before .before .before .before .before .before .before .before .pre .0, outlining-due _ _ _ (c .before .before .if3 .taken) (c .before .before .before .before .before .before .before .before .before .pre .1), eqb-true _ _ (c .if4 .taken), c .before .before .if3 .taken)
 
 returns-3 : tie.Need-returns-3
 returns-3 c = stepped-as _ _ _ (omega arith) (c .before .before .before .before .before .before .before .before .before .before .pre .2) (c .contour .ensures)
