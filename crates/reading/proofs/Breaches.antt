@@ -3,7 +3,7 @@ use mathlib.Core.Bool.{Bool, true, false, cond, not}
 use mathlib.Core.List.{List}
 use mathlib.Core.Path.{_≡_, refl, ap}
 use Prim.Native.Nat.{ℕ, zero, suc, _+_, _-_, _*_, _/_, _%_, _≤_, _<_}
-use native.Mathlib.Nat.{not-suc-le-zero, zero-mul, suc-mul}
+use native.Mathlib.Nat.{not-suc-le-zero}
 use native.Mathlib.Omega.{arith}
 use lib.Dec.{eqb, ltb, leb}
 use lib.ListN.{length, getD}
@@ -48,7 +48,7 @@ module _ (s : List ℕ) (short : length s ≤ 65536) (at : ℕ) where
       (eqb-true (getD s at 0) tag (not-false (eqb (getD s at 0) tag) (q .0)), ltb-false (length s) (at + 3) (r .0))
 
   -- contents without a breach
-  pub body-fine : (len : ℕ) → bodyBreach s at len ≡ 65537 → at + 3 + len ≤ length s
+  body-fine : (len : ℕ) → bodyBreach s at len ≡ 65537 → at + 3 + len ≤ length s
   unfolding bodyBreach
   body-fine len e = ltb-false (length s) (at + 3 + len) (test-fine (ltb (length s) (at + 3 + len)) (length s) fine no-end e .0)
 
@@ -59,12 +59,24 @@ module _ (s : List ℕ) (short : length s ≤ 65536) (at : ℕ) where
       let p = both-fine (headBreach s at tag) _ e in
       body-fine len (test-fine (not (eqb (lengthAt s at) len)) at _ (λ z. omega arith) (p .1) .1)
 
+  -- and its length
+  pub field-length : (tag len : ℕ) → at ≤ 65536 → fieldBreach s at tag len ≡ 65537 → lengthAt s at ≡ len
+  unfolding fieldBreach
+  field-length tag len l e =
+      let p = both-fine (headBreach s at tag) _ e in
+      eqb-true (lengthAt s at) len (not-false (eqb (lengthAt s at) len) (test-fine (not (eqb (lengthAt s at) len)) at _ (λ z. omega arith) (p .1) .0))
+
   -- a contour without a breach
   pub record Contour (k n : ℕ) : Type 0 where
     pub whole : at + 3 + lengthAt s at ≤ length s
     pub segments : lengthAt s at % 17 ≡ 0
     pub room : k < 64
     pub few : n + lengthAt s at / 17 ≤ 256
+
+  -- its tag
+  pub contour-tag : (k n : ℕ) → at ≤ 65536 → contourBreach s at k n ≡ 65537 → (getD s at 0 ≡ 3) × (at + 3 ≤ length s)
+  unfolding contourBreach
+  contour-tag k n l e = head-fine 3 l (both-fine (headBreach s at 3) _ e .0)
 
   -- what is there of a contour without a breach
   pub contour-fine : (k n : ℕ) → at ≤ 65536 → contourBreach s at k n ≡ 65537 → Contour k n
@@ -91,15 +103,6 @@ rows-step zero s at n h = absurd (not-suc-le-zero h)
 rows-step (suc left) s at n h =
     let z : left ≡ suc left - 1 = omega arith in
     ap (λ (m : ℕ). orElse (fieldBreach s at 4 (4 * n)) (rowsBreach m s (at + (3 + 4 * n)) n)) z
-
--- where none has a breach they are all there
-pub rows-fine : (h : ℕ) (s : List ℕ) → length s ≤ 65536 → (at n : ℕ) → at ≤ length s → rowsBreach h s at n ≡ 65537 → at + h * (3 + 4 * n) ≤ length s
-unfolding rowsBreach
-rows-fine zero s short at n l e = omega (arith, zero-mul (3 + 4 * n))
-rows-fine (suc h) s short at n l e =
-    let p = both-fine (fieldBreach s at 4 (4 * n)) _ e in
-    let q = field-fine s short at 4 (4 * n) (omega arith) (p .0) in
-    omega (arith, suc-mul h (3 + 4 * n), rows-fine h s short (at + (3 + 4 * n)) n (omega arith) (p .1))
 
 -- no row is left
 pub rows-none : (left : ℕ) (s : List ℕ) (at n : ℕ) → left ≤ 0 → rowsBreach left s at n ≡ 65537

@@ -13,7 +13,8 @@ use Rattle.reading.specs.Answer.{settingsOf, caseOf}
 use Rattle.reading.specs.Case.{modeOf, rowSamples, contourColours, contourCoords, samplesOf, coloursOf, coordsOf, endsOf}
 use Rattle.reading.specs.Grammar.{lengthAt, start, before, width, height, channels, rowsAt}
 use Rattle.reading.specs.Lists.{joined, listed}
-use Rattle.reading.specs.Written.{Outlined, Whole}
+use Rattle.reading.specs.Written.{Told, Outlined, Whole}
+use Rattle.reading.specs.declared.reader.Field.{Field}
 use Rattle.reading.proofs.Layouts.{samples-by-rows}
 use Rattle.reading.proofs.Outlines.{start-next, before-next}
 use Rattle.reading.proofs.Writes.{listed-length}
@@ -63,9 +64,11 @@ contour-inside {s} {end} {k} {n} {i} {place} o e l =
       omega (arith, ap (λ (m : ℕ). m / 17) z, before-next s i, before-mono s (add-one-le l), o .segments),
     )
 
--- place i of contour i, when the next is reached
-pub place-next : (s : List ℕ) (i : ℕ) {place len : ℕ} → place ≡ start s i → len ≡ lengthAt s place → place + 3 + len ≡ start s (i + 1)
-place-next s i {place} {len} e d = omega (arith, e, d, ap (lengthAt s) e, start-next s i)
+-- contour i of k, as it is told at its place: its length, and where the next one starts
+pub contour-told : {s : List ℕ} {end k n i place : ℕ} {f : Field} → Outlined s end k n → place ≡ start s i → i < k → Told s place f → (f .len ≡ lengthAt s place) × (f .next ≡ start s (i + 1))
+contour-told {s} {end} {k} {n} {i} {place} o e l t =
+    let z = contour-inside o e l .0 in
+    (t .sized (omega arith), t .behind z ∙ omega (arith, e, ap (lengthAt s) e, start-next s i))
 
 -- how many segments stand before the next contour
 pub count-next : (s : List ℕ) (i : ℕ) {place len : ℕ} → place ≡ start s i → len ≡ lengthAt s place → before s i + len / 17 ≡ before s (i + 1)

@@ -1,15 +1,15 @@
 -- The whole input: which check finds the breach, and what is there where none does. Assumes nothing.
 use mathlib.Core.List.{List}
-use mathlib.Core.Path.{_≡_, sym, ap, subst, _∙_}
-use Prim.Native.Nat.{ℕ, _+_, _*_, _≤_, _<_}
+use mathlib.Core.Path.{_≡_, sym, _∙_}
+use Prim.Native.Nat.{ℕ, _*_, _≤_, _<_}
 use native.Mathlib.Nat.{mul-assoc, mul-left-comm}
 use native.Mathlib.Omega.{arith}
 use lib.Dec.{ltb}
 use lib.ListN.{length}
 use borrow.Author.Tests.{lt-ltb, le-ltb, ltb-false}
-use Rattle.reading.specs.Grammar.{orElse, sizeBreach, settingsBreach, outlineBreach, rowsBreach, endBreach, fieldBreach, breach, start, width, height, channels, rowSize, rowsAt}
-use Rattle.reading.specs.Written.{Outlined, Whole, Read}
-use Rattle.reading.proofs.Breaches.{found, passed, both-fine, test-fine, field-fine, rows-fine}
+use Rattle.reading.specs.Grammar.{orElse, sizeBreach, settingsBreach, outlineBreach, rowsBreach, endBreach, fieldBreach, breach, width, height, channels, rowSize, rowsAt, endAt}
+use Rattle.reading.specs.Written.{Read}
+use Rattle.reading.proofs.Breaches.{found, passed, both-fine, test-fine, field-fine}
 
 -- the sample count with the height in front
 pub samples-by-rows : (w h ch : ℕ) → h * (w * ch) ≡ w * h * ch
@@ -43,37 +43,23 @@ module _ (s : List ℕ) (short : length s ≤ 65536) where
     unfolding breach settingsBreach
     breach-settings n = simp (le-ltb 65536 (length s) short) (passed (sizeBreach s) _ sized ∙ found (fieldBreach s 8 2 33) _ n)
 
-    module _ (set : fieldBreach s 8 2 33 ≡ 65537) (at k n : ℕ) (o : Outlined s at k n) where
+    module _ (set : fieldBreach s 8 2 33 ≡ 65537) where
       -- what follows the settings
-      tail : ℕ
-      tail = orElse (outlineBreach s) (orElse (rowsBreach (height s) s at (rowSize s)) (endBreach s (at + height s * (3 + 4 * rowSize s))))
+      breach-tail : breach s ≡ orElse (outlineBreach s) (orElse (rowsBreach (height s) s (rowsAt s) (rowSize s)) (endBreach s (endAt s)))
+      unfolding breach settingsBreach
+      breach-tail = simp (le-ltb 65536 (length s) short) (passed (sizeBreach s) _ sized ∙ passed (fieldBreach s 8 2 33) _ set)
 
-      at-rows : at ≡ rowsAt s
-      at-rows = o .place ∙ ap (start s) (o .count)
+      -- a contour has it
+      pub breach-outline : (outlineBreach s ≡ 65537 → ⊥) → breach s ≡ outlineBreach s
+      breach-outline n = breach-tail ∙ found (outlineBreach s) _ n
 
-      breach-tail : breach s ≡ tail
-      unfolding breach settingsBreach tail
-      breach-tail = simp (le-ltb 65536 (length s) short) (passed (sizeBreach s) _ sized ∙ passed (fieldBreach s 8 2 33) _ set ∙ rw at-rows)
+      -- a row has it
+      pub breach-rows : outlineBreach s ≡ 65537 → (rowsBreach (height s) s (rowsAt s) (rowSize s) ≡ 65537 → ⊥) → breach s ≡ rowsBreach (height s) s (rowsAt s) (rowSize s)
+      breach-rows u n = breach-tail ∙ passed (outlineBreach s) _ u ∙ found (rowsBreach (height s) s (rowsAt s) (rowSize s)) _ n
 
-      whole : tail ≡ 65537 → Whole s at k n
-      unfolding tail
-      whole e =
-          let p = both-fine (outlineBreach s) _ e in
-          let q = both-fine (rowsBreach (height s) s at (rowSize s)) _ (p .1) in
-          record {
-            short = short;
-            headed = field-fine s short 8 2 33 (omega arith) set;
-            small = size-fine s short sized .1;
-            outlined = o;
-            rowed = subst (λ (a : ℕ). a + height s * (3 + 4 * rowSize s) ≤ length s) at-rows (rows-fine (height s) s short at (rowSize s) (o .inside) (q .0));
-          }
-
-      -- what follows the settings decides
-      pub read-tail : (b h m : ℕ) → h ≡ height s → m ≡ rowSize s → b ≡ orElse (outlineBreach s) (orElse (rowsBreach h s at m) (endBreach s (at + h * (3 + 4 * m)))) → Read s b at k n
-      unfolding tail
-      read-tail b h m eh em e =
-          let f : b ≡ tail = e ∙ rw (eh, em) in
-          record { breached = f ∙ sym breach-tail; whole = λ z. whole (sym f ∙ z) }
+      -- the end decides
+      pub breach-end : outlineBreach s ≡ 65537 → rowsBreach (height s) s (rowsAt s) (rowSize s) ≡ 65537 → breach s ≡ endBreach s (endAt s)
+      breach-end u e = breach-tail ∙ passed (outlineBreach s) _ u ∙ passed (rowsBreach (height s) s (rowsAt s) (rowSize s)) _ e
 
 -- an input without a breach is short, and has few samples
 pub breach-small : (s : List ℕ) → breach s ≡ 65537 → width s * height s * channels s ≤ 12288

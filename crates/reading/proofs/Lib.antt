@@ -4,6 +4,7 @@ mod Breaches
 mod Sizes
 mod Outlines
 mod Layouts
+mod Stages
 mod Writes
 mod Decoded
 mod Lengths

@@ -5,25 +5,16 @@ use mathlib.Core.Path.{_≡_, refl, sym, ap, _∙_}
 use Prim.Native.Nat.{ℕ, zero, suc, _+_, _-_, _/_, _≤_}
 use native.Mathlib.Numerals.{add-one}
 use native.Mathlib.Omega.{arith}
-use lib.ListN.{length}
-use borrow.Author.Tests.{eq-eqb, ne-eqb}
-use Rattle.reading.specs.Grammar.{lengthAt, contourBreach, start, before, goodContour, contoursFrom, contours}
-use Rattle.reading.specs.Written.{Outlined}
-use Rattle.reading.proofs.Breaches.{contour-fine}
-
--- k contours with n segments are read, and the next field is at a place
-pub record Reached (s : List ℕ) (at k n : ℕ) : Type 0 where
-  pub place : at ≡ start s k
-  pub segments : n ≡ before s k
-  pub inside : at ≤ length s
-  pub few : k ≤ 64
-  pub sparse : n ≤ 256
-  pub same : contours s ≡ contoursFrom (64 - k) s k
+use lib.ListN.{length, getD}
+use borrow.Author.Tests.{lt-ltb, eq-eqb, ne-eqb}
+use Rattle.reading.specs.Grammar.{lengthAt, contourBreach, start, before, goodContour, contoursFrom, contours, isContour, outlineBreach}
+use Rattle.reading.specs.Written.{Reached, Outlined}
+use Rattle.reading.proofs.Breaches.{contour-tag, contour-fine}
 
 -- before the first contour
-pub reached-none : (s : List ℕ) → 44 ≤ length s → Reached s 44 0 0
+pub reached-none : (s : List ℕ) {at : ℕ} → at ≡ 44 → at ≤ length s → Reached s at 0 0
 unfolding start before contours
-reached-none s h = record { place = refl; segments = refl; inside = h; few = omega arith; sparse = omega arith; same = refl }
+reached-none s e h = record { place = e; segments = refl; inside = h; few = omega arith; sparse = omega arith; same = refl }
 
 -- where the next contour starts, and how many segments stand before it
 pub start-next : (s : List ℕ) (k : ℕ) → start s (k + 1) ≡ start s k + 3 + lengthAt s (start s k)
@@ -70,7 +61,7 @@ module _ (s : List ℕ) (short : length s ≤ 65536) (at k n : ℕ) (r : Reached
       }
 
   -- the first that is not
-  pub reached-end : (contourBreach s at k n ≡ 65537 → ⊥) → Outlined s at k n
+  reached-end : (contourBreach s at k n ≡ 65537 → ⊥) → Outlined s at k n
   reached-end e =
       record {
         count = sym (r .same ∙ from-bad (64 - k) s k (bad e));
@@ -80,3 +71,26 @@ module _ (s : List ℕ) (short : length s ≤ 65536) (at k n : ℕ) (r : Reached
         few = r .few;
         sparse = r .sparse;
       }
+
+  -- no contour follows
+  not-contour : isContour s at ≡ false → contourBreach s at k n ≡ 65537 → ⊥
+  unfolding isContour
+  not-contour i e =
+      let l = r .inside in
+      let f = contour-tag s short at k n (omega arith) e in
+      let z : true ≡ false = sym (simp (lt-ltb at (length s) (omega arith), eq-eqb (getD s at 0) 3 (f .0))) ∙ i in
+      let y : _≡_ {A = ℕ} 0 1 = cc in
+      omega arith
+
+  -- the contours end where none follows, and none is broken
+  pub outlined-all : isContour s at ≡ false → Outlined s at k n
+  outlined-all i = reached-end (not-contour i)
+
+  pub outlined-unbroken : isContour s at ≡ false → outlineBreach s ≡ 65537
+  unfolding outlineBreach
+  outlined-unbroken i = let o = outlined-all i in rw (← o .count, ← o .place) (simp i)
+
+  -- one that follows and has a breach is broken
+  pub outlined-broken : isContour s at ≡ true → (contourBreach s at k n ≡ 65537 → ⊥) → outlineBreach s ≡ contourBreach s at k n
+  unfolding outlineBreach
+  outlined-broken i e = let o = reached-end e in rw (← o .count, ← o .place, ← o .segments) (simp i)

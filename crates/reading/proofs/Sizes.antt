@@ -1,7 +1,7 @@
 -- Products of the input's numbers. Assumes nothing.
 use mathlib.Core.Path.{_≡_}
 use Prim.Native.Nat.{ℕ, _+_, _*_, _≤_, _<_}
-use native.Mathlib.Nat.{mul-le-mul-left, mul-le-mul-right, suc-mul, le-of-lt, le-trans}
+use native.Mathlib.Nat.{mul-le-mul-left, mul-le-mul-right, suc-mul, le-of-lt}
 use native.Mathlib.Numerals.{add-one, add-one-le}
 use native.Mathlib.Omega.{arith}
 
@@ -12,10 +12,6 @@ pair-fits a b p q = omega (arith, mul-le-mul-left a (le-of-lt q))
 -- and one of one byte
 pub triple-fits : (a b c : ℕ) → a < 65536 → b < 65536 → c < 256 → a * b * c ≤ 1099511627776
 triple-fits a b c p q r = omega (arith, mul-le-mul-left (a * b) (le-of-lt r), pair-fits a b p q)
-
--- one row of several has no more samples than all
-pub one-row : (left h n : ℕ) → 0 < left → left ≤ h → h * n ≤ 12288 → n ≤ 12288
-one-row left h n p q r = omega (arith, mul-le-mul-right n (le-trans p q))
 
 -- the samples of a row
 pub row-fits : (a b : ℕ) → a < 65536 → b < 256 → a * b < 16777216

@@ -1,16 +1,35 @@
--- What the inner functions that write leave for each other. Definitions only.
+-- What the inner functions leave for each other: those that write, and those that walk through the fields. Definitions only.
 use mathlib.Core.Path.{_≡_}
-use Prim.Native.Nat.{ℕ, _+_, _*_, _≤_}
+use Prim.Native.Nat.{ℕ, zero, suc, _+_, _-_, _*_, _≤_, _<_}
 use mathlib.Core.List.{List}
-use lib.ListN.{length}
+use lib.ListN.{length, getD}
 use lib.Seq.{sets}
 use lib.Ieee.{Float}
-use Rattle.reading.specs.Grammar.{fine, start, before, contours, endAt, width, height, channels, breach}
+use Rattle.reading.specs.Grammar.{fine, lengthAt, start, before, contoursFrom, contours, rowSize, sizeBreach, fieldBreach, outlineBreach, rowsBreach, endAt, width, height, channels, breach}
+use Rattle.reading.specs.declared.reader.Field.{Field}
+use Rattle.reading.specs.declared.fields.Layout.{Layout}
 
 -- the text stands in the slice from a place on, all else is as it was, and the answer is the place after it
 pub record Written {A : Type 0} (out : List A) (at : ℕ) (text : List A) (next : ℕ) (after : List A) : Type 0 where
   pub holds : after ≡ sets out at text
   pub to : next ≡ at + length text
+
+-- what a field reader tells of the field at a place: its tag, 0 where there is none, its length where that is there, and where its contents end where they are there
+pub record Told (s : List ℕ) (at : ℕ) (f : Field) : Type 0 where
+  pub place : f .at ≡ at
+  pub tagged : at < length s → f .tag ≡ getD s at 0
+  pub untagged : length s ≤ at → f .tag ≡ 0
+  pub sized : at + 3 ≤ length s → f .len ≡ lengthAt s at
+  pub behind : at + 3 + lengthAt s at ≤ length s → f .next ≡ at + 3 + lengthAt s at
+
+-- k contours with n segments are read, and the next field is at a place
+pub record Reached (s : List ℕ) (at k n : ℕ) : Type 0 where
+  pub place : at ≡ start s k
+  pub segments : n ≡ before s k
+  pub inside : at ≤ length s
+  pub few : k ≤ 64
+  pub sparse : n ≤ 256
+  pub same : contours s ≡ contoursFrom (64 - k) s k
 
 -- where the contours end, how many there are and how many segments they have
 pub record Outlined (s : List ℕ) (at k n : ℕ) : Type 0 where
@@ -33,6 +52,64 @@ pub record Whole (s : List ℕ) (at k n : ℕ) : Type 0 where
 pub record Read (s : List ℕ) (b at k n : ℕ) : Type 0 where
   pub breached : b ≡ breach s
   pub whole : b ≡ fine → Whole s at k n
+
+-- the size field is read, and says how long a row is
+pub record Measured (s : List ℕ) (row : ℕ) : Type 0 where
+  pub short : length s ≤ 65536
+  pub sized : sizeBreach s ≡ fine
+  pub wide : row ≡ 4 * rowSize s
+
+-- 01 is due: nothing is read but the length
+pub record Begun (s : List ℕ) (at : ℕ) : Type 0 where
+  pub short : length s ≤ 65536
+  pub first : at ≡ 0
+
+-- 02 is due: the size is read, and all rows are left
+pub record Sized (s : List ℕ) (at left row : ℕ) : Type 0 where
+  pub measured : Measured s row
+  pub all : left ≡ height s
+  pub place : at ≡ 8
+
+-- 03 is due, or what comes after the contours, which so far end at the place
+pub record Outlining (s : List ℕ) (at left row rows k n : ℕ) : Type 0 where
+  pub measured : Measured s row
+  pub all : left ≡ height s
+  pub set : fieldBreach s 8 2 33 ≡ fine
+  pub reached : Reached s at k n
+  pub place : rows ≡ at
+
+-- 04 is due while rows are left, and then 00: what is left decides whether the rows have a breach
+pub record Rowing (s : List ℕ) (at left row rows k n : ℕ) : Type 0 where
+  pub measured : Measured s row
+  pub set : fieldBreach s 8 2 33 ≡ fine
+  pub outlined : Outlined s rows k n
+  pub unbroken : outlineBreach s ≡ fine
+  pub same : rowsBreach (height s) s rows (rowSize s) ≡ rowsBreach left s at (rowSize s)
+  pub ends : at + left * (3 + 4 * rowSize s) ≡ endAt s
+  pub inside : at ≤ length s
+
+-- what is known where a tag is due at a place; 0 says that none is, since a breach was met or the end
+unfoldable pub Stage : ℕ → List ℕ → ℕ → Layout → Type 0
+Stage zero s at l = Read s (l .breach) (l .rows) (l .contours) (l .segments)
+Stage (suc zero) s at l = Begun s at
+Stage (suc (suc zero)) s at l = Sized s at (l .left) (l .row)
+Stage (suc (suc (suc zero))) s at l = Outlining s at (l .left) (l .row) (l .rows) (l .contours) (l .segments)
+Stage (suc (suc (suc (suc zero)))) s at l = Rowing s at (l .left) (l .row) (l .rows) (l .contours) (l .segments)
+Stage (suc (suc (suc (suc (suc d))))) s at l = ⊥
+
+-- the fields before a place are walked
+abbrev pub Walked : List ℕ → ℕ → Layout → Type 0
+Walked s at l = Stage (l .due) s at l
+
+-- how many turns there are at most from a place on, where a tag is due
+unfoldable pub turns : ℕ → ℕ → ℕ
+turns at zero = 0
+turns at (suc due) = 65537 - at
+
+-- the field at a place is walked: what is known behind it, and that fewer turns are left
+pub record Stepped (s : List ℕ) (at next due : ℕ) (r : Layout) : Type 0 where
+  pub walked : Walked s next r
+  pub fewer : turns next (r .due) < turns at due
 
 -- the slices that are lent for the case
 pub record Lent (xs : List Float) (st cs : List ℕ) (ps : List Float) (es : List ℕ) : Type 0 where

@@ -8,6 +8,7 @@ ghost use Rattle.reading.specs.Case as Case;
 ghost use Rattle.reading.specs.Lists.{joined};
 ghost use Rattle.reading.specs.Written.{Written, Outlined};
 use crate::bytes;
+use crate::reader;
 
 // The n samples of the row at a place.
 fn decode_row(s: &[u8], from: usize, n: usize, out: &mut [f32], at: usize) -> usize
@@ -85,9 +86,9 @@ pub fn decode_colours(s: &[u8], end: usize, k: usize, n: usize, out: &mut [u8]) 
     let mut place = 44usize;
     let mut i = 0usize;
     while i < k {
-        let len = bytes::be16(s, place + 1);
-        at = contour_colours(s, place, len / 17, out, at);
-        place = place + 3 + len;
+        let f = reader::field_at(s, place);
+        at = contour_colours(s, place, f.len / 17, out, at);
+        place = f.next;
         i += 1;
     }
     at
@@ -103,9 +104,9 @@ pub fn decode_coords(s: &[u8], end: usize, k: usize, n: usize, out: &mut [f64]) 
     let mut place = 44usize;
     let mut i = 0usize;
     while i < k {
-        let len = bytes::be16(s, place + 1);
-        at = contour_coords(s, place, len / 17, out, at);
-        place = place + 3 + len;
+        let f = reader::field_at(s, place);
+        at = contour_coords(s, place, f.len / 17, out, at);
+        place = f.next;
         i += 1;
     }
     at
@@ -121,10 +122,10 @@ pub fn decode_ends(s: &[u8], end: usize, k: usize, n: usize, out: &mut [usize]) 
     let mut place = 44usize;
     let mut i = 0usize;
     while i < k {
-        let len = bytes::be16(s, place + 1);
-        last = last + len / 17;
+        let f = reader::field_at(s, place);
+        last = last + f.len / 17;
         out[i] = last;
-        place = place + 3 + len;
+        place = f.next;
         i += 1;
     }
     k

@@ -18,7 +18,7 @@ fn answer_into(input: &[u8], out: &mut [u8]) -> usize
     ensures { λ r. ⌜ (r ≡ length (printed (now (input .entry)))) × (now (out .exit) ≡ printed (now (input .entry)) ++ drop r (now (out .entry))) ⌝ }
 {
     let l = fields::read(input);
-    if l.breach != reader::FINE {
+    if l.breach != fields::FINE {
         return text::put_bad(out, l.breach);
     }
     if input[7] == 0 {

@@ -1,77 +1,79 @@
-// The field reader: the input, and the place in it at which a field starts.
+// The field reader: the input, and the place in it at which the next field starts.
+// It tells the field at its place and moves on behind it, and `fields::read` makes one and walks it through the whole input.
+// Each function over a reader is proved by hand, so these three and that loop are all: whatever judges or decodes a field takes the slice and the field that was told.
 ghost use mathlib.Core.Path.{_≡_};
-ghost use Rattle.reading.specs.Grammar as Grammar;
-
-// No breach.
-pub const FINE: usize = 65537;
+ghost use Rattle.reading.specs.Written.{Told};
+use crate::bytes;
 
 pub struct Reader<'a> {
     pub src: &'a [u8],
     pub at: usize,
 }
 
-// The tag and the length of the field at a place.
-fn head_at(s: &[u8], at: usize, tag: u8) -> usize
-    ensures { λ r. ⌜ r ≡ Grammar.headBreach (now (s .entry)) at tag ⌝ }
-{
-    if s.len() <= at {
-        return s.len();
-    }
-    if s[at] != tag {
-        return at;
-    }
-    if s.len() - at < 3 {
-        return s.len();
-    }
-    FINE
+// A field: where it starts, its tag and its length, 0 where the input ends before them, and where its contents end and the next field starts, which is the input's end where some of them are missing.
+pub struct Field {
+    pub at: usize,
+    pub tag: u8,
+    pub len: usize,
+    pub next: usize,
 }
 
-// The contents of the field at a place.
-fn body_at(s: &[u8], at: usize, len: usize) -> usize
-    ensures { λ r. ⌜ r ≡ Grammar.bodyBreach (now (s .entry)) at len ⌝ }
+// The field at a place.
+pub fn field_at(s: &[u8], at: usize) -> Field
+    ensures { λ f. ⌜ Told (now (s .entry)) at f ⌝ }
 {
-    if s.len() < at {
-        return s.len();
+    let end = s.len();
+    if end <= at {
+        return Field {
+            at,
+            tag: 0,
+            len: 0,
+            next: end,
+        };
     }
-    let left = s.len() - at;
-    if left < 3 {
-        return s.len();
+    let tag = s[at];
+    if end - at < 3 {
+        return Field {
+            at,
+            tag,
+            len: 0,
+            next: end,
+        };
     }
-    if left - 3 < len {
-        return s.len();
+    let len = bytes::be16(s, at + 1);
+    if end - at - 3 < len {
+        return Field {
+            at,
+            tag,
+            len,
+            next: end,
+        };
     }
-    FINE
+    Field {
+        at,
+        tag,
+        len,
+        next: at + 3 + len,
+    }
 }
 
-pub fn new<'a>(src: &'a [u8], at: usize) -> Reader<'a>
-    ensures { λ r. ⌜ (r .src ≡ src .entry) × (r .at ≡ at) ⌝ }
+// A reader at the first field.
+pub fn new<'a>(src: &'a [u8]) -> Reader<'a>
+    ensures { λ r. ⌜ (r .src ≡ src .entry) × (r .at ≡ 0) ⌝ }
 {
-    Reader { src, at }
+    Reader { src, at: 0 }
 }
 
-// The tag and the length of the field that the reader is at.
-pub fn head<'a>(r: Reader<'a>, tag: u8) -> usize
-    ensures { λ b. ⌜ b ≡ Grammar.headBreach (now (r .entry .src)) (r .entry .at) tag ⌝ }
+// What stands at the reader's place.
+pub fn tell<'a>(r: Reader<'a>) -> Field
+    ensures { λ f. ⌜ Told (now (r .entry .src)) (r .entry .at) f ⌝ }
 {
-    head_at(r.src, r.at, tag)
+    field_at(r.src, r.at)
 }
 
-// The contents of the field that the reader is at.
-pub fn body<'a>(r: Reader<'a>, len: usize) -> usize
-    ensures { λ b. ⌜ b ≡ Grammar.bodyBreach (now (r .entry .src)) (r .entry .at) len ⌝ }
+// The reader behind a field that ends at a place.
+pub fn behind<'a>(r: Reader<'a>, at: usize) -> Reader<'a>
+    ensures { λ q. ⌜ (q .src ≡ r .entry .src) × (q .at ≡ at) ⌝ }
 {
-    body_at(r.src, r.at, len)
-}
-
-// From a slice and a place to a reader, and what it finds: whoever calls these two needs no reader.
-pub fn read_head(s: &[u8], at: usize, tag: u8) -> usize
-    ensures { λ b. ⌜ b ≡ Grammar.headBreach (now (s .entry)) at tag ⌝ }
-{
-    head(new(s, at), tag)
-}
-
-pub fn read_body(s: &[u8], at: usize, len: usize) -> usize
-    ensures { λ b. ⌜ b ≡ Grammar.bodyBreach (now (s .entry)) at len ⌝ }
-{
-    body(new(s, at), len)
+    Reader { src: r.src, at }
 }

@@ -5,11 +5,12 @@ use Prim.Native.Nat.{ℕ, _-_, _/_, _≤_}
 use native.Mathlib.Omega.{arith}
 use lib.ListN.{length}
 use denote.Ref.{now}
+use borrow.Author.Needs.{needs}
 use Rattle.reading.specs.Case.{segments, contourColours, coloursOf}
 use Rattle.reading.specs.Grammar.{lengthAt, start, before, contours}
 use Rattle.reading.specs.Lists.{joined}
 use Rattle.reading.specs.Written.{Written}
-use Rattle.reading.proofs.Decoded.{colours-length, start-zero, before-zero, contour-inside, place-next, count-next}
+use Rattle.reading.proofs.Decoded.{colours-length, start-zero, before-zero, contour-inside, contour-told, count-next}
 use Rattle.reading.proofs.Writes.{joined-none, joined-next, joined-all, written-as, written-length}
 use Rattle.reading.proofs.decode.decode_colours.Statement.{statement}
 use Rattle.reading.proofs.decode.decode_colours.Tie as tie
@@ -37,25 +38,16 @@ abbrev μ-loop : tie.MeasureT-loop
 loop-holds : tie.Need-loop-holds Inv-loop μ-loop
 loop-holds c = record { within = omega arith; there = start-zero _; count = omega (arith, before-zero (now (c .before .before .args .s))); len = refl; written = joined-none _ 0 _ }
 
-add-be16 : tie.Need-add-be16 Inv-loop μ-loop
-add-be16 c = omega (arith, contour-inside (c .before .before .before .before .pre .0) (c .before .loop .inv .there) (c .loop-test .taken))
-
-be16-requires : tie.Need-be16-requires Inv-loop μ-loop
-be16-requires c κs = omega (arith, contour-inside (c .before .before .before .before .pre .0) (c .before .loop .inv .there) (c .loop-test .taken))
+field-at-requires : tie.Need-field-at-requires Inv-loop μ-loop
+field-at-requires c κs = search needs
 
 contour-colours-requires : tie.Need-contour-colours-requires Inv-loop μ-loop
 contour-colours-requires c κs =
-    let z = contour-inside (c .before .before .before .before .before .before .pre .0) (c .before .before .before .loop .inv .there) (c .before .before .loop-test .taken) in
-    let l = c .before .before .before .loop .inv in
-    let e = c .before .be16 .ensures .0 in
+    let z = contour-inside (c .before .before .before .before .before .before .before .pre .0) (c .before .before .before .before .loop .inv .there) (c .before .before .before .loop-test .taken) in
+    let l = c .before .before .before .before .loop .inv in
+    let e = contour-told (c .before .before .before .before .before .before .before .pre .0) (l .there) (c .before .before .before .loop-test .taken) (c .before .before .field-at .ensures) .0 in
     let d = ap (λ x. x / 17) e in
     (omega (arith, z .0), omega (arith, z .1, l .count, l .len))
-
-add-place : tie.Need-add-place Inv-loop μ-loop
-add-place c = omega (arith, contour-inside (c .before .before .before .before .before .before .before .before .before .pre .0) (c .before .before .before .before .before .before .loop .inv .there) (c .before .before .before .before .before .loop-test .taken))
-
-add-place-2 : tie.Need-add-place-2 Inv-loop μ-loop
-add-place-2 c = omega (arith, c .before .before .before .before .be16 .ensures .0, contour-inside (c .before .before .before .before .before .before .before .before .before .pre .0) (c .before .before .before .before .before .before .loop .inv .there) (c .before .before .before .before .before .loop-test .taken))
 
 add-i : tie.Need-add-i Inv-loop μ-loop
 add-i c = omega arith
@@ -65,14 +57,15 @@ loop-less c = omega arith
 
 loop-again : tie.Need-loop-again Inv-loop μ-loop
 loop-again c =
-    let l = c .before .before .before .before .before .before .loop in
-    let s = now (c .before .before .before .before .before .before .before .before .before .args .s) in
-    let n = c .before .before .before .before .be16 .result in
-    let e = c .before .before .before .before .be16 .ensures .0 in
+    let l = c .before .before .before .before .before .before .before .loop in
+    let s = now (c .before .before .before .before .before .before .before .before .before .before .args .s) in
+    let n = c .before .before .before .before .before .field-at .result .len in
+    let told = contour-told (c .before .before .before .before .before .before .before .before .before .before .pre .0) (l .inv .there) (c .before .before .before .before .before .before .loop-test .taken) (c .before .before .before .before .before .field-at .ensures) in
+    let e = told .0 in
     let w = c .before .before .contour-colours .ensures in
     record {
       within = omega arith;
-      there = place-next s (l .i) (l .inv .there) e;
+      there = told .1;
       count = omega (arith, w .to, l .inv .count, colours-length s (l .place) (n / 17), count-next s (l .i) (l .inv .there) e);
       len = written-length w ∙ l .inv .len;
       written = joined-next (l .i) (piece s) (l .inv .written) (written-as (piece s (l .i)) (moved s (l .i) (l .place) n (l .inv .there) e) w);
@@ -92,11 +85,8 @@ decode-colours-spec =
     Inv-loop
     μ-loop
     loop-holds
-    add-be16
-    be16-requires
+    field-at-requires
     contour-colours-requires
-    add-place
-    add-place-2
     add-i
     loop-less
     loop-again

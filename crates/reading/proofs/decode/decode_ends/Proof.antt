@@ -1,15 +1,16 @@
 -- `reading::decode::decode_ends` meets its contract: before contour i those below it are decoded. Assumes nothing.
 use mathlib.Core.List.{List}
-use mathlib.Core.Path.{_≡_, refl, _∙_}
+use mathlib.Core.Path.{_≡_, refl, ap, _∙_}
 use Prim.Native.Nat.{ℕ, _+_, _-_, _/_, _≤_}
 use native.Mathlib.Omega.{arith}
 use lib.ListN.{length, length-set}
 use denote.Ref.{now}
+use borrow.Author.Needs.{needs}
 use Rattle.reading.specs.Case.{endsOf}
 use Rattle.reading.specs.Grammar.{start, before, contours}
 use Rattle.reading.specs.Lists.{listed}
 use Rattle.reading.specs.Written.{Written}
-use Rattle.reading.proofs.Decoded.{start-zero, before-zero, contour-inside, place-next, count-next}
+use Rattle.reading.proofs.Decoded.{start-zero, before-zero, contour-inside, contour-told, count-next}
 use Rattle.reading.proofs.Writes.{written-to, listed-none, listed-next, listed-all}
 use Rattle.reading.proofs.decode.decode_ends.Statement.{statement}
 use Rattle.reading.proofs.decode.decode_ends.Tie as tie
@@ -34,26 +35,21 @@ abbrev μ-loop : tie.MeasureT-loop
 loop-holds : tie.Need-loop-holds Inv-loop μ-loop
 loop-holds c = record { within = omega arith; there = start-zero _; count = before-zero _; len = refl; written = listed-none _ 0 _ }
 
-add-be16 : tie.Need-add-be16 Inv-loop μ-loop
-add-be16 c = omega (arith, contour-inside (c .before .before .before .before .pre .0) (c .before .loop .inv .there) (c .loop-test .taken))
-
-be16-requires : tie.Need-be16-requires Inv-loop μ-loop
-be16-requires c κs = omega (arith, contour-inside (c .before .before .before .before .pre .0) (c .before .loop .inv .there) (c .loop-test .taken))
+field-at-requires : tie.Need-field-at-requires Inv-loop μ-loop
+field-at-requires c κs = search needs
 
 add-last : tie.Need-add-last Inv-loop μ-loop
-add-last c = omega (arith, c .be16 .ensures .1, contour-inside (c .before .before .before .before .before .pre .0) (c .before .before .loop .inv .there) (c .before .loop-test .taken))
+add-last c =
+    let l = c .before .before .before .loop .inv in
+    let z = contour-inside (c .before .before .before .before .before .before .pre .0) (l .there) (c .before .before .loop-test .taken) in
+    let e = ap (λ x. x / 17) (contour-told (c .before .before .before .before .before .before .pre .0) (l .there) (c .before .before .loop-test .taken) (c .before .field-at .ensures) .0) in
+    omega (arith, z .1, l .count, c .before .before .before .before .before .before .pre .0 .sparse)
 
 mul-out : tie.Need-mul-out Inv-loop μ-loop
 mul-out c = omega arith
 
 slice-write-out : tie.Need-slice-write-out Inv-loop μ-loop
-slice-write-out c = omega (arith, c .before .before .loop .inv .len)
-
-add-place : tie.Need-add-place Inv-loop μ-loop
-add-place c = omega (arith, contour-inside (c .before .before .before .before .before .pre .0) (c .before .before .loop .inv .there) (c .before .loop-test .taken))
-
-add-place-2 : tie.Need-add-place-2 Inv-loop μ-loop
-add-place-2 c = omega (arith, c .be16 .ensures .0, contour-inside (c .before .before .before .before .before .pre .0) (c .before .before .loop .inv .there) (c .before .loop-test .taken))
+slice-write-out c = omega (arith, c .before .before .before .loop .inv .len)
 
 add-i : tie.Need-add-i Inv-loop μ-loop
 add-i c = omega arith
@@ -63,13 +59,14 @@ loop-less c = omega arith
 
 loop-again : tie.Need-loop-again Inv-loop μ-loop
 loop-again c =
-    let l = c .before .before .loop in
-    let s = now (c .before .before .before .before .before .args .s) in
-    let e = c .be16 .ensures .0 in
-    let w : l .last + c .be16 .result / 17 ≡ before s (l .i + 1) = rw (l .inv .count) (count-next s (l .i) (l .inv .there) e) in
+    let l = c .before .before .before .loop in
+    let s = now (c .before .before .before .before .before .before .args .s) in
+    let told = contour-told (c .before .before .before .before .before .before .pre .0) (l .inv .there) (c .before .before .loop-test .taken) (c .before .field-at .ensures) in
+    let e = told .0 in
+    let w : l .last + c .before .field-at .result .len / 17 ≡ before s (l .i + 1) = rw (l .inv .count) (count-next s (l .i) (l .inv .there) e) in
     record {
       within = omega arith;
-      there = place-next s (l .i) (l .inv .there) e;
+      there = told .1;
       count = w;
       len = simp length-set (l .inv .len);
       written = listed-next (l .i) (ends s) _ (l .inv .written) w;
@@ -89,13 +86,10 @@ decode-ends-spec =
     Inv-loop
     μ-loop
     loop-holds
-    add-be16
-    be16-requires
+    field-at-requires
     add-last
     mul-out
     slice-write-out
-    add-place
-    add-place-2
     add-i
     loop-less
     loop-again

@@ -1,6 +1,5 @@
 -- `reading::fields::field_breach` meets its contract. Assumes nothing.
 use mathlib.Core.Path.{sym, _∙_}
-use native.Mathlib.Omega.{arith}
 use borrow.Author.Needs.{needs}
 use borrow.Author.Tests.{eq-eqb, ne-eqb}
 use Rattle.reading.specs.Grammar.{fieldBreach}
@@ -8,38 +7,36 @@ use Rattle.reading.proofs.Breaches.{found, passed, head-fine}
 use Rattle.reading.proofs.fields.field_breach.Statement.{statement}
 use Rattle.reading.proofs.fields.field_breach.Tie as tie
 
-read-head-requires : tie.Need-read-head-requires
-read-head-requires c κs = search needs
+head-breach-requires : tie.Need-head-breach-requires
+head-breach-requires c κs = search needs
 
 returns : tie.Need-returns
 unfolding fieldBreach
-returns c = rw (← c .before .read-head .ensures) (sym (found _ _ (c .if1 .taken)))
-
-add-be16 : tie.Need-add-be16
-add-be16 c = search needs
-
-be16-requires : tie.Need-be16-requires
-be16-requires c κs = omega (arith, head-fine _ (c .before .before .before .pre .0) _ _ (c .before .before .before .pre .1) (sym (c .before .read-head .ensures) ∙ c .if1 .left) .1)
+returns c = rw (← c .before .head-breach .ensures) (sym (found _ _ (c .if1 .taken)))
 
 returns-2 : tie.Need-returns-2
 unfolding fieldBreach
-returns-2 c = sym (passed _ _ (sym (c .before .before .before .read-head .ensures) ∙ c .before .before .if1 .left) ∙ simp (ne-eqb _ _ (λ z. c .if2 .taken (c .before .be16 .ensures .0 ∙ z))))
+returns-2 c =
+    let fine = sym (c .before .before .before .head-breach .ensures) ∙ c .before .before .if1 .left in
+    let there = head-fine _ (c .before .before .before .before .before .pre .1) _ _ (c .before .before .before .before .before .pre .2) fine .1 in
+    sym (passed _ _ fine ∙ simp (ne-eqb _ _ (λ z. c .if2 .taken (c .before .before .before .before .before .pre .0 .sized there ∙ z))))
 
-read-body-requires : tie.Need-read-body-requires
-read-body-requires c κs = search needs
+body-breach-requires : tie.Need-body-breach-requires
+body-breach-requires c κs = head-fine _ (c .before .before .before .before .before .pre .1) _ _ (c .before .before .before .before .before .pre .2) (sym (c .before .before .before .head-breach .ensures) ∙ c .before .before .if1 .left) .1
 
 returns-3 : tie.Need-returns-3
 unfolding fieldBreach
-returns-3 c = c .read-body .ensures ∙ sym (passed _ _ (sym (c .before .before .before .before .read-head .ensures) ∙ c .before .before .before .if1 .left) ∙ simp (eq-eqb _ _ (sym (c .before .before .be16 .ensures .0) ∙ c .before .if2 .left)))
+returns-3 c =
+    let fine = sym (c .before .before .before .before .head-breach .ensures) ∙ c .before .before .before .if1 .left in
+    let there = head-fine _ (c .before .before .before .before .before .before .pre .1) _ _ (c .before .before .before .before .before .before .pre .2) fine .1 in
+    c .body-breach .ensures ∙ rw (c .before .if2 .left) (sym (passed _ _ fine ∙ simp (eq-eqb _ _ (sym (c .before .before .before .before .before .before .pre .0 .sized there) ∙ c .before .if2 .left))))
 
 pub field-breach-spec : {M : Type 1} → statement M
 field-breach-spec =
     tie.close
     (tie.spec
-    read-head-requires
+    head-breach-requires
     returns
-    add-be16
-    be16-requires
     returns-2
-    read-body-requires
+    body-breach-requires
     returns-3)

@@ -1,0 +1,47 @@
+-- `reading::fields::settings` meets its contract. Assumes nothing.
+use mathlib.Core.Path.{sym, _∙_, refl}
+use native.Mathlib.Omega.{arith}
+use borrow.Author.Needs.{needs}
+use Rattle.reading.specs.Written.{Stage}
+use Rattle.reading.proofs.Layouts.{breach-settings}
+use Rattle.reading.proofs.Outlines.{reached-none}
+use Rattle.reading.proofs.Stages.{stepped-on, stepped-broken, same-field, next-field}
+use Rattle.reading.proofs.fields.settings.Statement.{statement}
+use Rattle.reading.proofs.fields.settings.Tie as tie
+
+field-breach-requires : tie.Need-field-breach-requires
+field-breach-requires c κs = search needs
+
+broken-requires : tie.Need-broken-requires
+broken-requires c κs = search needs
+
+returns : tie.Need-returns
+returns c =
+    let m = c .before .before .before .before .pre .1 .measured in
+    let e = c .before .before .field-breach .ensures ∙ same-field _ 2 33 (c .before .before .before .before .pre .1 .place) in
+    stepped-broken _ _ _ (omega arith) (omega arith) (c .broken .ensures) (e ∙ sym (breach-settings _ (m .short) (m .sized) (λ z. c .before .if1 .taken (e ∙ z)))) (c .before .if1 .taken)
+
+returns-2 : tie.Need-returns-2
+unfolding Stage
+returns-2 c =
+    let m = c .before .before .before .pre .1 .measured in
+    let p = c .before .before .before .pre .1 .place in
+    let fine = sym (c .before .field-breach .ensures) ∙ c .if1 .left in
+    let n = next-field _ (m .short) _ (c .before .before .before .pre .0) (omega arith) 2 33 fine in
+    stepped-on _ _ _ (omega arith) (omega arith) (omega arith)
+    (record {
+      measured = m;
+      all = c .before .before .before .pre .1 .all;
+      set = same-field _ 2 33 (sym p) ∙ fine;
+      reached = reached-none _ (omega arith) (omega arith);
+      place = refl;
+    })
+
+pub settings-spec : {M : Type 1} → statement M
+settings-spec =
+    tie.close
+    (tie.spec
+    field-breach-requires
+    broken-requires
+    returns
+    returns-2)
