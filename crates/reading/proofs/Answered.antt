@@ -14,7 +14,7 @@ use borrow.Author.Tests.{eqb-true, leb-true, not-false}
 use Rattle.correction.specs.Bitmap.{stencilByte, isError}
 use Rattle.correction.specs.Checks.{Input, badChannels, badSide, sizeRefusal, refusalNumber, accepted}
 use Rattle.correction.specs.Collapse.{cellMedian, collapsedSample, collapsed}
-use Rattle.correction.specs.Lists.{tab}
+use Rattle.ground.specs.Lists.{tab}
 use Rattle.correction.specs.Pass.{protects, flags, byteAt, passStencil, passSamples, answer, stencilAfter, samplesAfter}
 use Rattle.correction.specs.declared.pass.Answer.the-variants.{Accepted, Refused}
 use Rattle.correction.specs.declared.pass.Counts.{Counts}

@@ -11,7 +11,7 @@ use lib.ListN.{length, getD, length-append}
 use borrow.Author.Tests.{eqb-true, ltb-true, ltb-false, leb-false}
 use Rattle.correction.specs.Checks.{Input, badLength, badSide, badChannels, badOutlines, badEnds, sizeRefusal, settingsPlace, samplesPlace, endsPlace, segmentsPlace, outlineRefusal, outlinePlace, placeOf, refusalNumber, refusalPlace}
 use Rattle.detectors.specs.declared.config.Settings.{Settings}
-use Rattle.correction.specs.Lists.{count, first}
+use Rattle.ground.specs.Lists.{count, first}
 use Rattle.correction.specs.Pass.{protectedCount, errorCount}
 use Rattle.reading.specs.Case.{segments, contourColours, coloursOf, endsOf}
 use Rattle.reading.specs.Grammar.{fine, orElse, lengthAt, headBreach, bodyBreach, fieldBreach, sizeBreach, settingsBreach, contourBreach, start, before, goodContour, contoursFrom, contours, isContour, rowsAt, outlineBreach, rowSize, rowsBreach, endAt, endBreach, breach, width, height, channels}
