@@ -2,12 +2,10 @@
 //! and with the relation broken in any one way some are, so that the trial can fail.
 
 use crate::cases::{accepted, contour, contours_of, set_contours, Case};
-use crate::judge::{Seen, ERROR};
+use crate::judge::{Seen, ERROR, LIMIT};
 use crate::rng::Rng;
 use crate::shrink;
 use crate::sides::{by_judge, by_pass, Outcome};
-
-const LIMIT: f64 = 1_048_576.0;
 
 /// The judge's answer and the proved pass's.
 fn answers(case: &Case) -> [Outcome; 2] {
