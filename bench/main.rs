@@ -2,40 +2,22 @@
 //! Times are the thread's own processor time (Linux), so that a busy machine disturbs them little.
 //!
 //! `bench [SIZE...]`: for squares of each SIZE, glyph-like and noise, Indiscriminate and EdgePriority, nanoseconds a texel and their ratio.
-//! Exit status 1 if the two differ in a flag's count or a sample, a zero's sign aside.
+//! Exit status 1 if the two differ in a sample, a zero's sign aside.
 
 #[path = "../tests/differential/glyphs.rs"]
+#[allow(dead_code)]
 mod glyphs;
 #[path = "../tests/differential/rng.rs"]
+#[allow(dead_code)]
 mod rng;
+#[path = "../include/rungtwine.rs"]
+mod rungtwine;
 
 use rng::Rng;
+use rungtwine::{error_correction, Mode, Outlines, Settings};
 
 extern "C" {
     fn clock_gettime(clock: i32, time: *mut [i64; 2]) -> i32;
-    fn rungtwine_error_correction(
-        width: usize,
-        height: usize,
-        channels: usize,
-        samples: *mut f32,
-        samples_len: usize,
-        stencil: *mut u8,
-        stencil_len: usize,
-        mode: u8,
-        ratio: f64,
-        horizontal: f64,
-        vertical: f64,
-        diagonal: f64,
-        colours: *const u8,
-        colours_len: usize,
-        coords: *const f64,
-        coords_len: usize,
-        ends: *const usize,
-        ends_len: usize,
-        place: *mut usize,
-        protected: *mut usize,
-        error: *mut usize,
-    ) -> u8;
 }
 
 struct Field {
@@ -90,38 +72,15 @@ fn noise_field(size: usize) -> Field {
 }
 
 /// One run of the proved pass: seconds, and the number of flagged texels.
-fn ours(field: &Field, mode: u8, samples: &mut [f32], stencil: &mut [u8]) -> (f64, usize) {
+fn ours(field: &Field, mode: Mode, samples: &mut [f32], stencil: &mut [u8]) -> (f64, usize) {
     samples.copy_from_slice(&field.samples);
-    let (mut place, mut protected, mut error) = (0, 0, 0);
+    let [horizontal, vertical, diagonal] = field.lengths;
+    let settings = Settings { ratio: RATIO, horizontal, vertical, diagonal };
+    let outlines = Outlines { colours: &field.colours, coords: &field.coords, ends: &field.ends };
     let start = now();
-    let refusal = unsafe {
-        rungtwine_error_correction(
-            field.size,
-            field.size,
-            3,
-            samples.as_mut_ptr(),
-            samples.len(),
-            stencil.as_mut_ptr(),
-            stencil.len(),
-            mode,
-            RATIO,
-            field.lengths[0],
-            field.lengths[1],
-            field.lengths[2],
-            field.colours.as_ptr(),
-            field.colours.len(),
-            field.coords.as_ptr(),
-            field.coords.len(),
-            field.ends.as_ptr(),
-            field.ends.len(),
-            &mut place,
-            &mut protected,
-            &mut error,
-        )
-    };
+    let answer = error_correction((field.size, field.size, 3), samples, stencil, mode, settings, outlines);
     let seconds = now() - start;
-    assert!(refusal == 0, "refused {refusal} {place}");
-    (seconds, error)
+    (seconds, answer.expect("refused").error)
 }
 
 fn median(times: &mut [f64]) -> f64 {
@@ -130,9 +89,9 @@ fn median(times: &mut [f64]) -> f64 {
 }
 
 /// Prints a line of the table and answers whether the two agree.
-fn row(field: &Field, mode: u8) -> bool {
+fn row(field: &Field, mode: Mode) -> bool {
     let texels = field.size * field.size;
-    let task = oracle::Task::new(mode, RATIO, field.lengths, &field.colours, &field.coords, &field.ends);
+    let task = oracle::Task::new(mode as u8, RATIO, field.lengths, &field.colours, &field.coords, &field.ends);
     let (mut samples, mut stencil) = (field.samples.clone(), vec![0u8; texels]);
     let mut bitmap = oracle::bitmap_of::<3>(field.size, field.size, &field.samples);
     let runs = (7_000_000 / texels).clamp(3, 15);
@@ -153,9 +112,8 @@ fn row(field: &Field, mode: u8) -> bool {
     }
     let ns = |times: &mut [f64]| median(times) * 1e9 / texels as f64;
     let (o, p) = (ns(&mut original), ns(&mut proved));
-    let name = if mode == 1 { "Indiscriminate" } else { "EdgePriority" };
     println!(
-        "| {} | {} | {name} | {runs} | {flagged} | {o:.1} | {p:.1} | {:.2} |",
+        "| {} | {} | {mode:?} | {runs} | {flagged} | {o:.1} | {p:.1} | {:.2} |",
         field.size, field.name, p / o
     );
     samples.iter().zip(bitmap.data()).all(|(a, b)| a == b)
@@ -168,7 +126,7 @@ fn main() {
     let mut same = true;
     for size in sizes {
         for field in [glyph_field(size), noise_field(size)] {
-            for mode in [1, 2] {
+            for mode in [Mode::Indiscriminate, Mode::EdgePriority] {
                 same &= row(&field, mode);
             }
         }

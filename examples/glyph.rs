@@ -1,5 +1,6 @@
 //! Corrects the glyph that it reads from standard input and prints the counts, the stencil, rows from the bottom, and where the view finds two of its texels.
 
+#[path = "../include/rungtwine.rs"]
 mod rungtwine;
 
 use rungtwine::{error_correction, texel_view, Bitmap, Mode, Outlines, Settings};

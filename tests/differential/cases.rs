@@ -1,7 +1,7 @@
 //! Cases for the runs: accepted ones that reach every branch, and faults put into them.
 
 use crate::glyphs;
-use crate::judge::Input;
+use crate::judge::{Input, LIMIT};
 use crate::rng::Rng;
 
 #[derive(Clone, Debug)]
@@ -12,8 +12,6 @@ pub struct Case {
     /// The stencil's old contents.
     pub stencil: Vec<u8>,
 }
-
-const LIMIT: f64 = 1_048_576.0;
 
 // Values.
 

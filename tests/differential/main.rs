@@ -5,7 +5,6 @@
 //! `again COUNT SEED`: what a pass leaves as the input of the next.
 //! `show SEED INDEX`: one case of a run.
 //! `example`: the glyph of examples/glyph.txt.
-//! `patch FILE OUT FROM TO`: a copy of a library in which the f64 FROM is TO, wherever its bytes are.
 //! `make-fixed FILE`, `check-fixed FILE`, `show-fixed FILE`: the fixed list.
 //! Exit status 1 if any two sides differ, or a long run leaves a branch out.
 
@@ -17,6 +16,8 @@ mod glyphs;
 mod judge;
 mod monotony;
 mod rng;
+#[path = "../../include/rungtwine.rs"]
+mod rungtwine;
 mod shrink;
 mod sides;
 
@@ -26,19 +27,8 @@ use sides::{compare, Totals};
 /// A run of this many cases has to reach every branch.
 const LONG: u64 = 20_000;
 
-fn sides_there() -> String {
-    let mut names = vec!["the judge"];
-    if cfg!(oracle) {
-        names.push("the original");
-    }
-    if cfg!(rattle) {
-        names.push("the proved pass");
-    }
-    names.join(", ")
-}
-
 fn run(count: u64, seed: u64) -> bool {
-    println!("sides: {}", sides_there());
+    println!("sides: the judge, {}the proved pass", if cfg!(oracle) { "the original, " } else { "" });
     let (mut seen, mut totals) = (Seen::new(), Totals::default());
     let mut wrong = 0;
     let always = cases::every_place();
@@ -60,7 +50,7 @@ fn run(count: u64, seed: u64) -> bool {
     println!("seed {seed}: {} cases, {} accepted with {} texels, {} protected, {} flagged", totals.cases, totals.accepted, totals.texels, totals.protected, totals.flagged);
     let refused: Vec<String> = (1..10).map(|k| format!("{k}: {}", totals.refused[k])).collect();
     println!("refused {}", refused.join(", "));
-    println!("compared with the original {}, with the proved pass {}", totals.by_oracle, totals.by_rattle);
+    println!("compared with the original {}, with the proved pass {}", totals.by_oracle, totals.by_pass);
     println!("zeros whose sign differs from the original's: {}", totals.zero_signs);
     println!("{} of {} branches reached", BRANCHES.len() - missing, BRANCHES.len());
     println!("{wrong} cases differ");
@@ -93,7 +83,6 @@ fn main() {
             print!("{}", cases::example());
             true
         }
-        (Some("patch"), ..) if args.len() == 5 => patch(&args[1], &args[2], &args[3], &args[4]),
         (Some("make-fixed"), ..) => fixed::make(file()),
         (Some("check-fixed"), ..) => fixed::check(file()),
         (Some("show-fixed"), ..) => fixed::show(file()),
@@ -102,20 +91,7 @@ fn main() {
     std::process::exit(i32::from(!good));
 }
 
-/// Answers whether the number was there.
-fn patch(file: &str, out: &str, from: &str, to: &str) -> bool {
-    let pattern = |text: &str| text.parse::<f64>().expect("a number").to_le_bytes();
-    let (from, to) = (pattern(from), pattern(to));
-    let mut data = std::fs::read(file).unwrap_or_else(|e| panic!("{file}: {e}"));
-    let places: Vec<usize> = (0..data.len().saturating_sub(7)).filter(|&k| data[k..k + 8] == from).collect();
-    for &k in &places {
-        data[k..k + 8].copy_from_slice(&to);
-    }
-    std::fs::write(out, data).unwrap_or_else(|e| panic!("{out}: {e}"));
-    !places.is_empty()
-}
-
 fn usage() -> ! {
-    eprintln!("usage: differential run COUNT SEED | monotony COUNT SEED | again COUNT SEED | show SEED INDEX | example | patch FILE OUT FROM TO | make-fixed FILE | check-fixed FILE | show-fixed FILE");
+    eprintln!("usage: differential run COUNT SEED | monotony COUNT SEED | again COUNT SEED | show SEED INDEX | example | make-fixed FILE | check-fixed FILE | show-fixed FILE");
     std::process::exit(2)
 }

@@ -2,20 +2,14 @@
 //! and with the relation broken in any one way some are, so that the trial can fail.
 
 use crate::cases::{accepted, contour, contours_of, set_contours, Case};
-use crate::judge::{Seen, ERROR};
+use crate::judge::{Seen, ERROR, LIMIT};
 use crate::rng::Rng;
 use crate::shrink;
-use crate::sides::{by_judge, Outcome};
+use crate::sides::{by_judge, by_pass, Outcome};
 
-const LIMIT: f64 = 1_048_576.0;
-
-/// The answers of every side that can be asked.
-fn answers(case: &Case) -> Vec<Outcome> {
-    #[allow(unused_mut)]
-    let mut list = vec![by_judge(case, &mut Seen::new())];
-    #[cfg(rattle)]
-    list.push(crate::sides::by_rattle(case).unwrap());
-    list
+/// The judge's answer and the proved pass's.
+fn answers(case: &Case) -> [Outcome; 2] {
+    [by_judge(case, &mut Seen::new()), by_pass(case).unwrap()]
 }
 
 fn larger(rng: &mut Rng, v: f64) -> f64 {

@@ -2,6 +2,7 @@
 
 use crate::cases::Case;
 use crate::judge::{judge, Answer, Seen};
+use crate::rungtwine::raw::rungtwine_error_correction;
 
 pub struct Outcome {
     pub answer: Answer,
@@ -25,91 +26,58 @@ pub fn by_oracle(case: &Case) -> (Vec<f32>, Option<Vec<u8>>) {
     (samples, stencil)
 }
 
-#[cfg(rattle)]
-mod linked {
-    use super::*;
+const ROOM: usize = 16;
+const SAMPLE_GUARD: u32 = 0x7FA5_A5A5;
+const CELL_GUARD: u8 = 0xA5;
 
-    extern "C" {
-        fn rungtwine_error_correction(
-            width: usize,
-            height: usize,
-            channels: usize,
-            samples: *mut f32,
-            samples_len: usize,
-            stencil: *mut u8,
-            stencil_len: usize,
-            mode: u8,
-            ratio: f64,
-            horizontal: f64,
-            vertical: f64,
-            diagonal: f64,
-            colours: *const u8,
-            colours_len: usize,
-            coords: *const f64,
-            coords_len: usize,
-            ends: *const usize,
-            ends_len: usize,
-            place: *mut usize,
-            protected: *mut usize,
-            error: *mut usize,
-        ) -> u8;
+/// The proved pass, with guard elements on both sides of each slice that it may write.
+pub fn by_pass(case: &Case) -> Result<Outcome, String> {
+    let i = &case.input;
+    let (n, m) = (case.samples.len(), case.stencil.len());
+    let mut samples = vec![f32::from_bits(SAMPLE_GUARD); n + 2 * ROOM];
+    samples[ROOM..ROOM + n].copy_from_slice(&case.samples);
+    let mut stencil = vec![CELL_GUARD; m + 2 * ROOM];
+    stencil[ROOM..ROOM + m].copy_from_slice(&case.stencil);
+    let unwritten = usize::MAX - 12345;
+    let (mut place, mut protected, mut error) = (unwritten, unwritten, unwritten);
+    let refusal = unsafe {
+        rungtwine_error_correction(
+            i.width,
+            i.height,
+            i.channels,
+            samples.as_mut_ptr().add(ROOM),
+            n,
+            stencil.as_mut_ptr().add(ROOM),
+            m,
+            i.mode,
+            i.ratio,
+            i.lengths[0],
+            i.lengths[1],
+            i.lengths[2],
+            i.colours.as_ptr(),
+            i.colours.len(),
+            i.coords.as_ptr(),
+            i.coords.len(),
+            i.ends.as_ptr(),
+            i.ends.len(),
+            &mut place,
+            &mut protected,
+            &mut error,
+        )
+    };
+    let kept = |v: &&f32| v.to_bits() == SAMPLE_GUARD;
+    if samples[..ROOM].iter().filter(kept).count() != ROOM || samples[ROOM + n..].iter().filter(kept).count() != ROOM {
+        return Err("wrote beside the samples".into());
     }
-
-    const ROOM: usize = 16;
-    const SAMPLE_GUARD: u32 = 0x7FA5_A5A5;
-    const CELL_GUARD: u8 = 0xA5;
-
-    /// The proved pass, with guard elements on both sides of each slice that it may write.
-    pub fn by_rattle(case: &Case) -> Result<Outcome, String> {
-        let i = &case.input;
-        let (n, m) = (case.samples.len(), case.stencil.len());
-        let mut samples = vec![f32::from_bits(SAMPLE_GUARD); n + 2 * ROOM];
-        samples[ROOM..ROOM + n].copy_from_slice(&case.samples);
-        let mut stencil = vec![CELL_GUARD; m + 2 * ROOM];
-        stencil[ROOM..ROOM + m].copy_from_slice(&case.stencil);
-        let unwritten = usize::MAX - 12345;
-        let (mut place, mut protected, mut error) = (unwritten, unwritten, unwritten);
-        let refusal = unsafe {
-            rungtwine_error_correction(
-                i.width,
-                i.height,
-                i.channels,
-                samples.as_mut_ptr().add(ROOM),
-                n,
-                stencil.as_mut_ptr().add(ROOM),
-                m,
-                i.mode,
-                i.ratio,
-                i.lengths[0],
-                i.lengths[1],
-                i.lengths[2],
-                i.colours.as_ptr(),
-                i.colours.len(),
-                i.coords.as_ptr(),
-                i.coords.len(),
-                i.ends.as_ptr(),
-                i.ends.len(),
-                &mut place,
-                &mut protected,
-                &mut error,
-            )
-        };
-        let kept = |v: &&f32| v.to_bits() == SAMPLE_GUARD;
-        if samples[..ROOM].iter().filter(kept).count() != ROOM || samples[ROOM + n..].iter().filter(kept).count() != ROOM {
-            return Err("wrote beside the samples".into());
-        }
-        if stencil[..ROOM] != [CELL_GUARD; ROOM] || stencil[ROOM + m..] != [CELL_GUARD; ROOM] {
-            return Err("wrote beside the stencil".into());
-        }
-        Ok(Outcome {
-            answer: Answer { refusal, place, protected, error },
-            samples: samples[ROOM..ROOM + n].to_vec(),
-            stencil: stencil[ROOM..ROOM + m].to_vec(),
-        })
+    if stencil[..ROOM] != [CELL_GUARD; ROOM] || stencil[ROOM + m..] != [CELL_GUARD; ROOM] {
+        return Err("wrote beside the stencil".into());
     }
+    Ok(Outcome {
+        answer: Answer { refusal, place, protected, error },
+        samples: samples[ROOM..ROOM + n].to_vec(),
+        stencil: stencil[ROOM..ROOM + m].to_vec(),
+    })
 }
-#[cfg(rattle)]
-pub use linked::by_rattle;
 
 pub fn bits(samples: &[f32]) -> Vec<u32> {
     samples.iter().map(|v| v.to_bits()).collect()
@@ -126,7 +94,7 @@ pub struct Totals {
     pub refused: [u64; 10],
     pub zero_signs: u64,
     pub by_oracle: u64,
-    pub by_rattle: u64,
+    pub by_pass: u64,
 }
 
 #[cfg(oracle)]
@@ -158,10 +126,9 @@ fn against_oracle(case: &Case, judged: &Outcome, totals: &mut Totals) -> Result<
     Ok(())
 }
 
-#[cfg(rattle)]
-fn against_rattle(case: &Case, judged: &Outcome, totals: &mut Totals) -> Result<(), String> {
-    let ours = by_rattle(case).map_err(|e| format!("ours: {e}"))?;
-    totals.by_rattle += 1;
+fn against_pass(case: &Case, judged: &Outcome, totals: &mut Totals) -> Result<(), String> {
+    let ours = by_pass(case).map_err(|e| format!("ours: {e}"))?;
+    totals.by_pass += 1;
     if ours.answer != judged.answer {
         return Err(format!("ours: {:?}, judged {:?}", ours.answer, judged.answer));
     }
@@ -197,7 +164,6 @@ pub fn compare(case: &Case, seen: &mut Seen, totals: &mut Totals) -> Result<Outc
         #[cfg(oracle)]
         against_oracle(case, &judged, totals)?;
     }
-    #[cfg(rattle)]
-    against_rattle(case, &judged, totals)?;
+    against_pass(case, &judged, totals)?;
     Ok(judged)
 }

@@ -3,57 +3,11 @@
 //! `compare COUNT`: that many patterns for each function, and a line for each with how many differ; exit status 1 if any does.
 //! `compare --time`: nanoseconds a call beside the machine's own operation, and the ratio.
 
+#[path = "../../include/rungtwine_numbers.rs"]
+mod proved;
+
 use std::hint::black_box;
 use std::time::Instant;
-
-extern "C" {
-    fn rungtwine_min(x: f32, y: f32) -> f32;
-    fn rungtwine_max(x: f32, y: f32) -> f32;
-    fn rungtwine_median(a: f32, b: f32, c: f32) -> f32;
-    fn rungtwine_abs32(x: f32) -> f32;
-    fn rungtwine_abs64(x: f64) -> f64;
-    fn rungtwine_mix(a: f32, b: f32, w: f64) -> f32;
-    fn rungtwine_narrow(x: f64) -> f32;
-    fn rungtwine_floor(x: f64) -> i64;
-    fn rungtwine_sqrt(x: f64) -> f64;
-    fn rungtwine_root_count(a: f64, b: f64, c: f64) -> usize;
-    fn rungtwine_first_root(a: f64, b: f64, c: f64) -> f64;
-    fn rungtwine_second_root(a: f64, b: f64, c: f64) -> f64;
-}
-
-/// Safe names: every function takes any pattern and has no further demand.
-mod proved {
-    pub fn min(x: f32, y: f32) -> f32 {
-        unsafe { super::rungtwine_min(x, y) }
-    }
-    pub fn max(x: f32, y: f32) -> f32 {
-        unsafe { super::rungtwine_max(x, y) }
-    }
-    pub fn median(a: f32, b: f32, c: f32) -> f32 {
-        unsafe { super::rungtwine_median(a, b, c) }
-    }
-    pub fn abs32(x: f32) -> f32 {
-        unsafe { super::rungtwine_abs32(x) }
-    }
-    pub fn abs64(x: f64) -> f64 {
-        unsafe { super::rungtwine_abs64(x) }
-    }
-    pub fn mix(a: f32, b: f32, w: f64) -> f32 {
-        unsafe { super::rungtwine_mix(a, b, w) }
-    }
-    pub fn narrow(x: f64) -> f32 {
-        unsafe { super::rungtwine_narrow(x) }
-    }
-    pub fn floor(x: f64) -> i64 {
-        unsafe { super::rungtwine_floor(x) }
-    }
-    pub fn sqrt(x: f64) -> f64 {
-        unsafe { super::rungtwine_sqrt(x) }
-    }
-    pub fn roots(a: f64, b: f64, c: f64) -> (usize, f64, f64) {
-        unsafe { (super::rungtwine_root_count(a, b, c), super::rungtwine_first_root(a, b, c), super::rungtwine_second_root(a, b, c)) }
-    }
-}
 
 /// What the machine does, by the rules that the definitions state.
 mod machine {

@@ -5,8 +5,8 @@
 
 /// The largest size of a sample, a coordinate, a ratio or a length.
 pub const LIMIT: f64 = 1_048_576.0;
-pub const SIDE_LIMIT: usize = 4096;
-pub const SEGMENT_LIMIT: usize = 65_536;
+const SIDE_LIMIT: usize = 4096;
+const SEGMENT_LIMIT: usize = 65_536;
 pub const PROTECTED: u8 = 2;
 pub const ERROR: u8 = 1;
 
@@ -36,7 +36,6 @@ pub struct Answer {
 
 macro_rules! branches {
     ($($name:ident : $text:expr,)*) => {
-        #[allow(non_camel_case_types, clippy::upper_case_acronyms)]
         #[derive(Clone, Copy)]
         #[repr(usize)]
         pub enum Branch { $($name,)* }
@@ -204,7 +203,6 @@ branches! {
 }
 
 /// How often each branch was reached.
-#[derive(Clone)]
 pub struct Seen(pub Vec<u64>);
 
 impl Seen {
@@ -218,12 +216,6 @@ impl Seen {
         if yes {
             self.hit(b);
         }
-    }
-}
-
-impl Default for Seen {
-    fn default() -> Seen {
-        Seen::new()
     }
 }
 
@@ -245,7 +237,7 @@ fn max(x: f32, y: f32) -> f32 {
     }
 }
 
-pub fn median(a: f32, b: f32, c: f32) -> f32 {
+fn median(a: f32, b: f32, c: f32) -> f32 {
     max(min(a, b), min(max(a, b), c))
 }
 
@@ -266,7 +258,7 @@ fn mix(a: f32, b: f32, w: f64) -> f32 {
 }
 
 /// The roots in the order of the rule: how many, and their values.
-pub fn solve_quadratic(a: f64, b: f64, c: f64, seen: &mut Seen) -> (usize, [f64; 2]) {
+fn solve_quadratic(a: f64, b: f64, c: f64, seen: &mut Seen) -> (usize, [f64; 2]) {
     if a == 0.0 || b.abs() > 1e12 * a.abs() {
         seen.hit(if a == 0.0 { Branch::QuadraticZero } else { Branch::QuadraticSteep });
         if b == 0.0 {

@@ -1,14 +1,12 @@
 //! The second judge of the reading program: a plain, slow reading of document 01's grammar and printed text in Rust, from input bytes to printed bytes.
 //! It is written from that document and from the readings of its open points, not from the proved library; the pass itself is the second judge's.
-//!   judge one          answers standard input on standard output, as the program does
-//!   judge IN OUT       answers many: IN has each input, OUT each answer, after its length in four big-endian bytes
+//! `judge IN OUT`: IN has each input, OUT each answer, after its length in four big-endian bytes.
 
 #[path = "../judge/judge.rs"]
 #[allow(dead_code)]
 mod judge;
 
 use judge::{Input, Seen, ERROR, PROTECTED};
-use std::io::{Read, Write};
 
 const INPUT_LIMIT: usize = 65_536;
 const SAMPLE_LIMIT: usize = 12_288;
@@ -153,13 +151,8 @@ fn answer(input: &[u8]) -> String {
 
 fn main() -> std::io::Result<()> {
     let words: Vec<String> = std::env::args().skip(1).collect();
-    if words == ["one"] {
-        let mut input = Vec::new();
-        std::io::stdin().read_to_end(&mut input)?;
-        return std::io::stdout().write_all(answer(&input).as_bytes());
-    }
     let [from, to] = words.as_slice() else {
-        eprintln!("usage: judge one, or judge IN OUT");
+        eprintln!("usage: judge IN OUT");
         std::process::exit(2);
     };
     let (inputs, mut answers, mut at) = (std::fs::read(from)?, Vec::new(), 0);

@@ -1,32 +1,10 @@
 //! Runs the texel view over all its cases and holds each answer, the pointer too, to a plain reading of document 01.
 
-#[path = "../../examples/rungtwine.rs"]
+#[path = "../../include/rungtwine.rs"]
 mod rungtwine;
 
+use rungtwine::raw::{rungtwine_texel_view, Texel};
 use rungtwine::Bitmap;
-
-#[repr(C)]
-struct Texel {
-    samples: *const f32,
-    length: usize,
-}
-
-extern "C" {
-    fn rungtwine_texel_view(
-        width: usize,
-        height: usize,
-        channels: usize,
-        original: *const f32,
-        original_len: usize,
-        corrected: *const f32,
-        corrected_len: usize,
-        stencil: *const u8,
-        stencil_len: usize,
-        x: usize,
-        y: usize,
-        texel: *mut Texel,
-    );
-}
 
 const FAR: usize = usize::MAX;
 

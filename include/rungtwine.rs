@@ -1,6 +1,8 @@
-//! A safe way to call the library from Rust: slices carry their lengths, and a refusal is an error with its number and place.
+//! The library `correction_c` for Rust. `raw` declares its functions, which rungtwine.h describes; what follows is a safe way to call them: slices carry
+//! their lengths, and a refusal is an error with its number and place.
+#![allow(dead_code)] // a program may use a part of it
 
-mod raw {
+pub mod raw {
     /// A part of a bitmap.
     #[repr(C)]
     pub struct Texel {

@@ -1,0 +1,62 @@
+//! The library `numbers_c` for Rust: its functions, and safe names for them. They take any pattern of bits and have no further demand.
+#![allow(dead_code)] // a program may use a part of it
+
+pub mod raw {
+    extern "C" {
+        pub fn rungtwine_min(x: f32, y: f32) -> f32;
+        pub fn rungtwine_max(x: f32, y: f32) -> f32;
+        pub fn rungtwine_median(a: f32, b: f32, c: f32) -> f32;
+        pub fn rungtwine_abs32(x: f32) -> f32;
+        pub fn rungtwine_abs64(x: f64) -> f64;
+        pub fn rungtwine_mix(a: f32, b: f32, w: f64) -> f32;
+        pub fn rungtwine_narrow(x: f64) -> f32;
+        pub fn rungtwine_floor(x: f64) -> i64;
+        pub fn rungtwine_sqrt(x: f64) -> f64;
+        pub fn rungtwine_root_count(a: f64, b: f64, c: f64) -> usize;
+        pub fn rungtwine_first_root(a: f64, b: f64, c: f64) -> f64;
+        pub fn rungtwine_second_root(a: f64, b: f64, c: f64) -> f64;
+    }
+}
+
+pub fn min(x: f32, y: f32) -> f32 {
+    unsafe { raw::rungtwine_min(x, y) }
+}
+
+pub fn max(x: f32, y: f32) -> f32 {
+    unsafe { raw::rungtwine_max(x, y) }
+}
+
+pub fn median(a: f32, b: f32, c: f32) -> f32 {
+    unsafe { raw::rungtwine_median(a, b, c) }
+}
+
+pub fn abs32(x: f32) -> f32 {
+    unsafe { raw::rungtwine_abs32(x) }
+}
+
+pub fn abs64(x: f64) -> f64 {
+    unsafe { raw::rungtwine_abs64(x) }
+}
+
+/// `(1 - w) * a + w * b` in f64, rounded to f32.
+pub fn mix(a: f32, b: f32, w: f64) -> f32 {
+    unsafe { raw::rungtwine_mix(a, b, w) }
+}
+
+/// The nearest f32.
+pub fn narrow(x: f64) -> f32 {
+    unsafe { raw::rungtwine_narrow(x) }
+}
+
+pub fn floor(x: f64) -> i64 {
+    unsafe { raw::rungtwine_floor(x) }
+}
+
+pub fn sqrt(x: f64) -> f64 {
+    unsafe { raw::rungtwine_sqrt(x) }
+}
+
+/// The number of roots of `a * t * t + b * t + c`, and each of up to two, 0 where there is none.
+pub fn roots(a: f64, b: f64, c: f64) -> (usize, f64, f64) {
+    unsafe { (raw::rungtwine_root_count(a, b, c), raw::rungtwine_first_root(a, b, c), raw::rungtwine_second_root(a, b, c)) }
+}
