@@ -7,6 +7,7 @@ ghost use Rattle.ground.specs.Lists.{any};
 ghost use Rattle.detectors.specs.Config as Config;
 ghost use Rattle.detectors.specs.Inner.{rootAt};
 use crate::classifier;
+use crate::classifier::Classifier;
 use crate::config::Settings;
 use crate::constants;
 use crate::pairs;
@@ -105,110 +106,51 @@ fn pair_roots(m: [[f32; 3]; 4], p: usize) -> Roots
 }
 
 // One end moved to the turning point e.
-fn moved_end(span: f64, protected: bool, am: f32, dm: f32, em: f32, e: f64, t: f64, xm: f32) -> bool
-    ensures { λ r. ⌜ r ≡ Diagonal.movedEnd span protected am dm em e t xm ⌝ }
+fn moved_end(k: Classifier, am: f32, dm: f32, em: f32, e: f64, t: f64, xm: f32) -> bool
+    ensures { λ r. ⌜ r ≡ Diagonal.movedEnd (k .span) (k .protected) am dm em e t xm ⌝ }
 {
     if e > t {
-        classifier::range_test(span, protected, 0.0, e, t, am, em, xm)
+        classifier::range_test(k, 0.0, e, t, am, em, xm)
     } else {
-        classifier::range_test(span, protected, e, 1.0, t, em, dm, xm)
+        classifier::range_test(k, e, 1.0, t, em, dm, xm)
     }
 }
 
-// The range test that a turning point adds.
-fn turning_test(
-    span: f64,
-    protected: bool,
-    am: f32,
-    dm: f32,
-    m: [[f32; 3]; 4],
-    t: f64,
-    xm: f32,
-    e: f64,
-) -> bool
-    ensures { λ r. ⌜ r ≡ Diagonal.turningTest span protected am dm m t xm e ⌝ }
+// The range test that a turning point e adds.
+fn turning_test(k: Classifier, am: f32, dm: f32, m: [[f32; 3]; 4], t: f64, xm: f32, e: f64) -> bool
+    ensures { λ r. ⌜ r ≡ Diagonal.turningTest (k .span) (k .protected) am dm m t xm e ⌝ }
 {
-    e > 0.0
-        && (e < 1.0
-            && moved_end(
-                span,
-                protected,
-                am,
-                dm,
-                interpolated_median_quad(m, e),
-                e,
-                t,
-                xm,
-            ))
+    e > 0.0 && (e < 1.0 && moved_end(k, am, dm, interpolated_median_quad(m, e), e, t, xm))
 }
 
-fn root_tests(
-    span: f64,
-    protected: bool,
-    am: f32,
-    dm: f32,
-    m: [[f32; 3]; 4],
-    p: usize,
-    t: f64,
-    xm: f32,
-) -> bool
+// The range tests of a root t of pair p, whose median is xm.
+fn root_tests(k: Classifier, am: f32, dm: f32, m: [[f32; 3]; 4], p: usize, t: f64, xm: f32) -> bool
     requires { ⌜ p < 3 ⌝ }
-    ensures { λ r. ⌜ r ≡ Diagonal.rootTests span protected am dm m p t xm ⌝ }
+    ensures { λ r. ⌜ r ≡ Diagonal.rootTests (k .span) (k .protected) am dm m p t xm ⌝ }
 {
-    classifier::range_test(span, protected, 0.0, 1.0, t, am, dm, xm)
-        || (turning_test(span, protected, am, dm, m, t, xm, turning_point(m, p))
-            || turning_test(
-                span,
-                protected,
-                am,
-                dm,
-                m,
-                t,
-                xm,
-                turning_point(m, pairs::next(p)),
-            ))
+    classifier::range_test(k, 0.0, 1.0, t, am, dm, xm)
+        || (turning_test(k, am, dm, m, t, xm, turning_point(m, p))
+            || turning_test(k, am, dm, m, t, xm, turning_point(m, pairs::next(p))))
 }
 
-fn diagonal_at(
-    span: f64,
-    protected: bool,
-    am: f32,
-    dm: f32,
-    m: [[f32; 3]; 4],
-    p: usize,
-    t: f64,
-) -> bool
+// A root t of pair p is an artifact.
+fn diagonal_at(k: Classifier, am: f32, dm: f32, m: [[f32; 3]; 4], p: usize, t: f64) -> bool
     requires { ⌜ p < 3 ⌝ }
-    ensures { λ r. ⌜ r ≡ Diagonal.diagonalAt span protected am dm m p t ⌝ }
+    ensures { λ r. ⌜ r ≡ Diagonal.diagonalAt (k .span) (k .protected) am dm m p t ⌝ }
 {
-    pairs::inside(t)
-        && root_tests(
-            span,
-            protected,
-            am,
-            dm,
-            m,
-            p,
-            t,
-            interpolated_median_quad(m, t),
-        )
+    pairs::inside(t) && root_tests(k, am, dm, m, p, t, interpolated_median_quad(m, t))
 }
 
-fn root_at(r: Roots, k: usize) -> f64
-    ensures { λ t. ⌜ t ≡ rootAt (r .first) (r .second) k ⌝ }
+// Root i of up to two.
+fn root_at(r: Roots, i: usize) -> f64
+    ensures { λ t. ⌜ t ≡ rootAt (r .first) (r .second) i ⌝ }
 {
-    if k == 0 { r.first } else { r.second }
+    if i == 0 { r.first } else { r.second }
 }
 
 // The pairs in order, and of each the roots in order; the search stops at the first artifact.
-fn has_diagonal_artifact_inner(
-    span: f64,
-    protected: bool,
-    am: f32,
-    dm: f32,
-    m: [[f32; 3]; 4],
-) -> bool
-    ensures { λ r. ⌜ r ≡ any 3 (Diagonal.diagonalPair span protected am dm m) ⌝ }
+fn some_pair(k: Classifier, am: f32, dm: f32, m: [[f32; 3]; 4]) -> bool
+    ensures { λ r. ⌜ r ≡ any 3 (Diagonal.diagonalPair (k .span) (k .protected) am dm m) ⌝ }
 {
     let mut p = 0usize;
     let verdict = 'pairs: loop {
@@ -217,28 +159,26 @@ fn has_diagonal_artifact_inner(
         }
         let r = pair_roots(m, p);
         let n = r.count;
-        let mut k = 0usize;
-        while k < n {
-            if diagonal_at(span, protected, am, dm, m, p, root_at(r, k)) {
+        let mut i = 0usize;
+        while i < n {
+            if diagonal_at(k, am, dm, m, p, root_at(r, i)) {
                 break 'pairs true;
             }
-            k += 1;
+            i += 1;
         }
         p += 1;
     };
     verdict
 }
 
-fn diagonal_pairs(span: f64, protected: bool, am: f32, dm: f32, m: [[f32; 3]; 4]) -> bool
-    ensures { λ r. ⌜ r ≡ Diagonal.diagonalPairs span protected am dm m ⌝ }
-{
-    pairs::guard(am, dm) && has_diagonal_artifact_inner(span, protected, am, dm, m)
-}
-
 // Texel m[0], whose median is am, against the one across, m[3].
 pub fn has_diagonal_artifact(s: Settings, protected: bool, am: f32, m: [[f32; 3]; 4]) -> bool
     ensures { λ r. ⌜ r ≡ Diagonal.hasDiagonalArtifact (Config.diagonalSpan s) protected am m ⌝ }
 {
-    let span = s.ratio * s.diagonal;
-    diagonal_pairs(span, protected, am, texel::median(m[3]), m)
+    let k = Classifier {
+        span: s.ratio * s.diagonal,
+        protected,
+    };
+    let dm = texel::median(m[3]);
+    pairs::guard(am, dm) && some_pair(k, am, dm, m)
 }

@@ -1,16 +1,10 @@
--- `detectors::edges::edge_at` meets its contract. Assumes nothing.
+-- `detectors::edge::edge_at` meets its contract. Assumes nothing.
 use mathlib.Core.Path.{refl}
 use Rattle.ground.proofs.Laws.Bools.{and-taken, and-left}
 use Rattle.detectors.specs.Edge.{edgeAt}
 use borrow.Author.Needs.{needs}
 use Rattle.detectors.proofs.edge.edge_at.Statement.{statement}
 use Rattle.detectors.proofs.edge.edge_at.Tie as tie
-
-interpolated-median-linear-requires : tie.Need-interpolated-median-linear-requires
-interpolated-median-linear-requires c κs = search needs
-
-mixed-channel-requires : tie.Need-mixed-channel-requires
-mixed-channel-requires c κs = search needs
 
 returns : tie.Need-returns
 unfolding edgeAt
@@ -28,11 +22,4 @@ unfolding edgeAt
 returns-3 c = and-left _ refl (c .if1 .left)
 
 pub edge-at-spec : {M : Type 1} → statement M
-edge-at-spec =
-    tie.close
-    (tie.spec
-    interpolated-median-linear-requires
-    mixed-channel-requires
-    returns
-    returns-2
-    returns-3)
+edge-at-spec = tie.close (tie.spec (λ c κs. search needs) (λ c κs. search needs) returns returns-2 returns-3)

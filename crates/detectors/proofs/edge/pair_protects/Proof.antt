@@ -1,4 +1,4 @@
--- `detectors::edges::protect_extreme` meets its contract. Assumes nothing.
+-- `detectors::edge::pair_protects` meets its contract. Assumes nothing.
 use mathlib.Core.Path.{sym, _∙_}
 use Rattle.ground.proofs.Laws.Bools.{and-taken, and-left, or-taken, or-left}
 use Rattle.detectors.specs.Edge.{pairProtects}
@@ -6,18 +6,6 @@ use Rattle.ground.proofs.Laws.Search.{any-three}
 use borrow.Author.Needs.{needs}
 use Rattle.detectors.proofs.edge.pair_protects.Statement.{statement}
 use Rattle.detectors.proofs.edge.pair_protects.Tie as tie
-
-near-requires : tie.Need-near-requires
-near-requires c κs = search needs
-
-extreme-requires : tie.Need-extreme-requires
-extreme-requires c κs = search needs
-
-extreme-requires-2 : tie.Need-extreme-requires-2
-extreme-requires-2 c κs = search needs
-
-extreme-requires-3 : tie.Need-extreme-requires-3
-extreme-requires-3 c κs = search needs
 
 returns : tie.Need-returns
 unfolding pairProtects
@@ -41,14 +29,4 @@ unfolding pairProtects
 returns-4 c = and-left _ (c .before .near .ensures) (c .if1 .left)
 
 pub pair-protects-spec : {M : Type 1} → statement M
-pair-protects-spec =
-    tie.close
-    (tie.spec
-    near-requires
-    extreme-requires
-    extreme-requires-2
-    extreme-requires-3
-    returns
-    returns-2
-    returns-3
-    returns-4)
+pair-protects-spec = tie.close (tie.spec (λ c κs. search needs) (λ c κs. search needs) (λ c κs. search needs) (λ c κs. search needs) returns returns-2 returns-3 returns-4)

@@ -1,4 +1,4 @@
--- `detectors::linear::inside` meets its contract. Assumes nothing.
+-- `detectors::pairs::inside` meets its contract. Assumes nothing.
 use Rattle.detectors.specs.Linear.{inside}
 use Rattle.detectors.proofs.pairs.inside.Statement.{statement}
 use Rattle.detectors.proofs.pairs.inside.Tie as tie
