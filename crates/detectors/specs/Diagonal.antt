@@ -12,7 +12,7 @@ use Rattle.numbers.specs.EquationSolver.{rootsOf}
 use Rattle.ground.specs.Lists.{any, some}
 use Rattle.detectors.specs.Texel.{channel, texelMedian}
 use Rattle.detectors.specs.Classifier.{rangeTest}
-use Rattle.detectors.specs.Linear.{guard, inside, next, difference}
+use Rattle.detectors.specs.Pairs.{guard, inside, next, difference}
 
 -- channel i of a, b, c and d
 abbrev pub ofA : List (List Float) → ℕ → Float

@@ -2,6 +2,7 @@ pub mod Constants
 pub mod Config
 pub mod Texel
 pub mod Classifier
+pub mod Pairs
 pub mod Linear
 pub mod Diagonal
 pub mod Edge

@@ -17,7 +17,7 @@ use Rattle.numbers.proofs.Laws.Bounds.{Within, within-more, within-finite, with
 use Rattle.ground.proofs.Laws.Bools.{both-hold, holds}
 use Rattle.detectors.specs.Texel.{channel, texelMedian}
 use Rattle.detectors.specs.Classifier.{compared}
-use Rattle.detectors.specs.Linear.{inside, mixedChannel, mixedMedian}
+use Rattle.detectors.specs.Pairs.{inside, mixedChannel, mixedMedian}
 use Rattle.detectors.specs.Diagonal.{ofA, ofB, ofC, ofD, abc, linearTerm, squareTerm, curve, curveChannel, curveMedian}
 
 -- ---- texels

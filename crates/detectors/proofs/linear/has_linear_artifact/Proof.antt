@@ -1,7 +1,8 @@
 -- `detectors::linear::has_linear_artifact` meets its contract: each call is a pair's verdict, and the pairs are tried in order. Assumes nothing.
 use mathlib.Core.Path.{sym, _∙_}
 use borrow.Author.Needs.{needs}
-use Rattle.detectors.specs.Linear.{next, difference, linearPair, linearPairs, hasLinearArtifact}
+use Rattle.detectors.specs.Pairs.{next, difference}
+use Rattle.detectors.specs.Linear.{linearPair, linearPairs, hasLinearArtifact}
 use Rattle.ground.proofs.Laws.Bools.{and-taken, and-left, or-taken, or-left}
 use Rattle.ground.proofs.Laws.Search.{any-three}
 use Rattle.detectors.proofs.linear.has_linear_artifact.Statement.{statement}

@@ -1,5 +1,5 @@
 -- `detectors::pairs::difference` meets its contract. Assumes nothing.
-use Rattle.detectors.specs.Linear.{difference}
+use Rattle.detectors.specs.Pairs.{difference}
 use borrow.Author.Needs.{needs}
 use Rattle.detectors.proofs.pairs.difference.Statement.{statement}
 use Rattle.detectors.proofs.pairs.difference.Tie as tie

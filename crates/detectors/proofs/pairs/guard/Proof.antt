@@ -1,5 +1,5 @@
 -- `detectors::pairs::guard` meets its contract. Assumes nothing.
-use Rattle.detectors.specs.Linear.{guard}
+use Rattle.detectors.specs.Pairs.{guard}
 use borrow.Author.Needs.{needs}
 use Rattle.detectors.proofs.pairs.guard.Statement.{statement}
 use Rattle.detectors.proofs.pairs.guard.Tie as tie

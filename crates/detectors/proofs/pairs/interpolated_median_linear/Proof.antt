@@ -1,5 +1,5 @@
 -- `detectors::pairs::interpolated_median_linear` meets its contract. Assumes nothing.
-use Rattle.detectors.specs.Linear.{mixedMedian}
+use Rattle.detectors.specs.Pairs.{mixedMedian}
 use borrow.Author.Needs.{needs}
 use Rattle.detectors.proofs.pairs.interpolated_median_linear.Statement.{statement}
 use Rattle.detectors.proofs.pairs.interpolated_median_linear.Tie as tie

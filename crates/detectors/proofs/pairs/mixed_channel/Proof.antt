@@ -1,5 +1,5 @@
 -- `detectors::pairs::mixed_channel` meets its contract. Assumes nothing.
-use Rattle.detectors.specs.Linear.{mixedChannel}
+use Rattle.detectors.specs.Pairs.{mixedChannel}
 use borrow.Author.Needs.{needs}
 use Rattle.detectors.proofs.pairs.mixed_channel.Statement.{statement}
 use Rattle.detectors.proofs.pairs.mixed_channel.Tie as tie

@@ -1,7 +1,7 @@
 -- `detectors::pairs::next` meets its contract. Assumes nothing.
 use native.Mathlib.Omega.{arith}
 use borrow.Author.Tests.{lt-ltb, le-ltb}
-use Rattle.detectors.specs.Linear.{next}
+use Rattle.detectors.specs.Pairs.{next}
 use borrow.Author.Needs.{needs}
 use Rattle.detectors.proofs.pairs.next.Statement.{statement}
 use Rattle.detectors.proofs.pairs.next.Tie as tie
