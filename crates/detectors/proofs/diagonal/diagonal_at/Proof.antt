@@ -7,7 +7,9 @@ use Rattle.detectors.proofs.diagonal.diagonal_at.Tie as tie
 
 returns : tie.Need-returns
 unfolding diagonalAt
-returns c = and-taken (c .before .before .before .inside .ensures) (c .before .before .if1 .taken) (rw (c .before .interpolated-median-quad .ensures) at (c .root-tests .ensures))
+returns c =
+    let m = c .before in
+    and-taken (m .before .before .inside .ensures) (m .before .if1 .taken) (rw (m .interpolated-median-quad .ensures) at (c .root-tests .ensures))
 
 returns-2 : tie.Need-returns-2
 unfolding diagonalAt

@@ -6,7 +6,10 @@ use Rattle.detectors.proofs.diagonal.interpolated_median_quad.Tie as ti
 
 returns : tie.Need-returns
 unfolding curveMedian
-returns c = rw (c .median .ensures, c .before .curve-channel3 .ensures, c .before .before .curve-channel2 .ensures, c .before .before .before .curve-channel .ensures)
+returns c =
+    let z = c .before in
+    let y = z .before in
+    rw (c .median .ensures, z .curve-channel3 .ensures, y .curve-channel2 .ensures, y .before .curve-channel .ensures)
 
 pub interpolated-median-quad-spec : {M : Type 1} → statement M
 interpolated-median-quad-spec = tie.close (tie.spec (λ c κs. search needs) (λ c κs. search needs) (λ c κs. search needs) (λ c κs. search needs) returns)

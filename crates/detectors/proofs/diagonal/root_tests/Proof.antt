@@ -12,14 +12,18 @@ returns c = or-taken _ (c .before .range-test .ensures) (c .if1 .taken)
 returns-2 : tie.Need-returns-2
 unfolding rootTests
 returns-2 c =
-    or-left (c .before .before .before .before .range-test .ensures) (c .before .before .before .if1 .left)
-    (or-taken _ (rw (c .before .before .turning-point .ensures) at (c .before .turning-test .ensures)) (c .if2 .taken))
+    let e = c .before .before in
+    let whole = e .before .before in
+    or-left (whole .range-test .ensures) (e .before .if1 .left) (or-taken _ (rw (e .turning-point .ensures) at (c .before .turning-test .ensures)) (c .if2 .taken))
 
 returns-3 : tie.Need-returns-3
 unfolding rootTests
 returns-3 c =
-    or-left (c .before .before .before .before .before .before .before .range-test .ensures) (c .before .before .before .before .before .before .if1 .left)
-    (or-left (rw (c .before .before .before .before .before .turning-point .ensures) at (c .before .before .before .before .turning-test .ensures)) (c .before .before .before .if2 .left)
+    let first = c .before .before .before .before in
+    let e = first .before in
+    let whole = e .before .before in
+    or-left (whole .range-test .ensures) (e .before .if1 .left)
+    (or-left (rw (e .turning-point .ensures) at (first .turning-test .ensures)) (c .before .before .before .if2 .left)
     (rw (c .before .turning-point2 .ensures, c .before .before .next .ensures .0) at (c .turning-test2 .ensures)))
 
 pub root-tests-spec : {M : Type 1} → statement M

@@ -8,7 +8,9 @@ use Rattle.detectors.proofs.diagonal.turning_test.Tie as tie
 
 returns : tie.Need-returns
 unfolding turningTest
-returns c = and-taken refl (c .before .before .before .if1 .taken) (and-taken refl (c .before .before .if2 .taken) (rw (c .before .interpolated-median-quad .ensures) at (c .moved-end .ensures)))
+returns c =
+    let m = c .before in
+    and-taken refl (m .before .before .if1 .taken) (and-taken refl (m .before .if2 .taken) (rw (m .interpolated-median-quad .ensures) at (c .moved-end .ensures)))
 
 returns-2 : tie.Need-returns-2
 unfolding turningTest

@@ -10,19 +10,23 @@ use Rattle.detectors.proofs.edge.pair_protects.Tie as tie
 returns : tie.Need-returns
 unfolding pairProtects
 returns c =
-    and-taken (c .before .before .before .near .ensures) (c .before .before .if1 .taken) (or-taken _ (c .before .extreme .ensures) (c .if2 .taken) ∙ sym (any-three _))
+    let n = c .before .before .before in
+    and-taken (n .near .ensures) (c .before .before .if1 .taken) (or-taken _ (c .before .extreme .ensures) (c .if2 .taken) ∙ sym (any-three _))
 
 returns-2 : tie.Need-returns-2
 unfolding pairProtects
 returns-2 c =
-    and-taken (c .before .before .before .before .before .near .ensures) (c .before .before .before .before .if1 .taken)
-    (or-left (c .before .before .before .extreme .ensures) (c .before .before .if2 .left) (or-taken _ (c .before .extreme2 .ensures) (c .if3 .taken)) ∙ sym (any-three _))
+    let first = c .before .before .before in
+    and-taken (first .before .before .near .ensures) (first .before .if1 .taken)
+    (or-left (first .extreme .ensures) (c .before .before .if2 .left) (or-taken _ (c .before .extreme2 .ensures) (c .if3 .taken)) ∙ sym (any-three _))
 
 returns-3 : tie.Need-returns-3
 unfolding pairProtects
 returns-3 c =
-    and-taken (c .before .before .before .before .before .before .near .ensures) (c .before .before .before .before .before .if1 .taken)
-    (or-left (c .before .before .before .before .extreme .ensures) (c .before .before .before .if2 .left) (or-left (c .before .before .extreme2 .ensures) (c .before .if3 .left) (c .extreme3 .ensures)) ∙ sym (any-three _))
+    let second = c .before .before in
+    let first = second .before .before in
+    and-taken (first .before .before .near .ensures) (first .before .if1 .taken)
+    (or-left (first .extreme .ensures) (second .before .if2 .left) (or-left (second .extreme2 .ensures) (c .before .if3 .left) (c .extreme3 .ensures)) ∙ sym (any-three _))
 
 returns-4 : tie.Need-returns-4
 unfolding pairProtects

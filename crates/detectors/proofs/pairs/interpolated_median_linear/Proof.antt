@@ -6,7 +6,10 @@ use Rattle.detectors.proofs.pairs.interpolated_median_linear.Tie as tie
 
 returns : tie.Need-returns
 unfolding mixedMedian
-returns c = rw (c .median .ensures, c .before .mixed-channel3 .ensures, c .before .before .mixed-channel2 .ensures, c .before .before .before .mixed-channel .ensures)
+returns c =
+    let z = c .before in
+    let y = z .before in
+    rw (c .median .ensures, z .mixed-channel3 .ensures, y .mixed-channel2 .ensures, y .before .mixed-channel .ensures)
 
 pub interpolated-median-linear-spec : {M : Type 1} → statement M
 interpolated-median-linear-spec = tie.close (tie.spec (λ c κs. search needs) (λ c κs. search needs) (λ c κs. search needs) (λ c κs. search needs) returns)
