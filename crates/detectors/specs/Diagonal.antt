@@ -1,5 +1,5 @@
 -- The diagonal detector, over four texels of three channels each: a; its two side neighbours b (in the row) and c (in the column); the far one d. Definitions only.
-use Prim.Native.Nat.{ℕ, _+_}
+use Prim.Native.Nat.{ℕ}
 use mathlib.Core.Bool.{Bool, cond, _&&_, _||_}
 use mathlib.Core.List.{List, []}
 use lib.ListN.{getD}

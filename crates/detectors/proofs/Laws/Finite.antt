@@ -1,6 +1,6 @@
 -- Of texels whose samples are at most 2 ^ 20 in size, every value that a range test compares is finite: no rule on NaN is ever leaned on there. Assumes nothing.
-use mathlib.Core.Path.{_≡_, refl, sym, subst}
-use mathlib.Core.Bool.{Bool, true, not}
+use mathlib.Core.Path.{_≡_, refl}
+use mathlib.Core.Bool.{true, not}
 use mathlib.Core.List.{List, [], _∷_}
 use Prim.Native.Nat.{ℕ, zero-le}
 use native.Mathlib.Nat.{le-of-eq}
