@@ -10,12 +10,14 @@ pub struct Classifier {
     pub protected: bool,
 }
 
+// Both ends lie above the outline, and xm does not.
 fn falls_below(am: f32, bm: f32, xm: f32) -> bool
     ensures { λ r. ⌜ r ≡ fallsBelow am bm xm ⌝ }
 {
     am > constants::HALF && (bm > constants::HALF && xm <= constants::HALF)
 }
 
+// Both ends lie below the outline, and xm does not.
 fn rises_above(am: f32, bm: f32, xm: f32) -> bool
     ensures { λ r. ⌜ r ≡ risesAbove am bm xm ⌝ }
 {
@@ -29,6 +31,7 @@ fn lies_outside(protected: bool, am: f32, bm: f32, xm: f32) -> bool
     !protected && scalar::median(am, bm, xm) != xm
 }
 
+// Any of the three makes a candidate.
 fn candidate(protected: bool, am: f32, bm: f32, xm: f32) -> bool
     ensures { λ r. ⌜ r ≡ candidate protected am bm xm ⌝ }
 {
@@ -42,6 +45,7 @@ fn within(x: f64, m: f64, d: f64) -> bool
     x >= m - d && x <= m + d
 }
 
+// xm lies within the span of both ends, each by its share of the way.
 fn in_range(span: f64, at: f64, bt: f64, xt: f64, am: f32, bm: f32, xm: f32) -> bool
     ensures { λ r. ⌜ r ≡ inRange span at bt xt am bm xm ⌝ }
 {

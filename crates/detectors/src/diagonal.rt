@@ -17,6 +17,7 @@ use numbers::equation_solver::Roots;
 use numbers::rounding;
 use numbers::scalar;
 
+// What both coefficients of channel i share: a less b less c.
 fn abc(m: [[f32; 3]; 4], i: usize) -> f32
     requires { ⌜ i < 3 ⌝ }
     ensures { λ r. ⌜ r ≡ Diagonal.abc m i ⌝ }
@@ -50,6 +51,7 @@ fn turning_point(m: [[f32; 3]; 4], i: usize) -> f64
     -constants::HALF_WIDE * l / q
 }
 
+// A channel at t, by its value a at 0 and its two coefficients.
 fn curve(a: f32, l: f32, q: f32, t: f64) -> f32
     ensures { λ r. ⌜ r ≡ Diagonal.curve a l q t ⌝ }
 {
@@ -59,6 +61,7 @@ fn curve(a: f32, l: f32, q: f32, t: f64) -> f32
     rounding::narrow(t * (t * qw + lw) + aw)
 }
 
+// Channel i at t.
 fn curve_channel(m: [[f32; 3]; 4], t: f64, i: usize) -> f32
     requires { ⌜ i < 3 ⌝ }
     ensures { λ r. ⌜ r ≡ Diagonal.curveChannel m t i ⌝ }
@@ -76,6 +79,7 @@ fn interpolated_median_quad(m: [[f32; 3]; 4], t: f64) -> f32
     scalar::median(x, y, z)
 }
 
+// The difference of pair p in the two side neighbours together.
 fn middle_difference(m: [[f32; 3]; 4], p: usize) -> f32
     requires { ⌜ p < 3 ⌝ }
     ensures { λ r. ⌜ r ≡ Diagonal.middleDifference m p ⌝ }
@@ -84,25 +88,18 @@ fn middle_difference(m: [[f32; 3]; 4], p: usize) -> f32
     m[1][j] - m[1][p] + m[2][j] - m[2][p]
 }
 
-fn quadratic_roots(da: f32, dbc: f32, dd: f32) -> Roots
-    ensures { λ r. ⌜ Listed (Diagonal.quadraticRoots da dbc dd) (r .count) (r .first) (r .second) ⌝ }
-{
-    let a = std::num::f32_to_f64_with_nan(dd - dbc + da);
-    let b = std::num::f32_to_f64_with_nan(dbc - da - da);
-    let c = std::num::f32_to_f64_with_nan(da);
-    equation_solver::solve_quadratic(a, b, c)
-}
-
-// The roots of pair p's difference.
+// The roots of pair p's difference, a quadratic in t.
 fn pair_roots(m: [[f32; 3]; 4], p: usize) -> Roots
     requires { ⌜ p < 3 ⌝ }
     ensures { λ r. ⌜ Listed (Diagonal.pairRoots m p) (r .count) (r .first) (r .second) ⌝ }
 {
-    quadratic_roots(
-        pairs::difference(m[0], p),
-        middle_difference(m, p),
-        pairs::difference(m[3], p),
-    )
+    let da = pairs::difference(m[0], p);
+    let dbc = middle_difference(m, p);
+    let dd = pairs::difference(m[3], p);
+    let a = std::num::f32_to_f64_with_nan(dd - dbc + da);
+    let b = std::num::f32_to_f64_with_nan(dbc - da - da);
+    let c = std::num::f32_to_f64_with_nan(da);
+    equation_solver::solve_quadratic(a, b, c)
 }
 
 // One end moved to the turning point e.

@@ -1,14 +1,19 @@
--- `detectors::diagonal::pair_roots` meets its contract. Assumes nothing.
+-- `detectors::diagonal::pair_roots` meets its contract: a widened number is the number. Assumes nothing.
 use borrow.Author.Needs.{needs}
-use Rattle.detectors.specs.Diagonal.{pairRoots}
+use Rattle.detectors.specs.Diagonal.{quadraticRoots, pairRoots}
 use Rattle.detectors.proofs.diagonal.pair_roots.Statement.{statement}
 use Rattle.detectors.proofs.diagonal.pair_roots.Tie as tie
 
 returns : tie.Need-returns
-unfolding pairRoots
+unfolding pairRoots quadraticRoots
 returns c =
-    let m = c .before .before .before in
-    rw (c .before .difference2 .ensures, m .middle-difference .ensures, m .before .difference .ensures) at (c .quadratic-roots .ensures)
+    let a = c .before .before .before in
+    let dd = a .before in
+    let dbc = dd .before .before in
+    rw (c .before .f32-to-f64-with-nan3 .ensures, c .before .before .f32-to-f64-with-nan2 .ensures, a .f32-to-f64-with-nan .ensures, dd .difference2 .ensures, dbc .middle-difference .ensures, dbc .before .difference .ensures) at (c .solve-quadratic .ensures)
 
 pub pair-roots-spec : {M : Type 1} → statement M
-pair-roots-spec = tie.close (tie.spec (λ c. search needs) (λ c κs. search needs) (λ c κs. search needs) (λ c. search needs) (λ c κs. search needs) (λ c κs. search needs) returns)
+pair-roots-spec =
+    tie.close
+    (tie.spec (λ c. search needs) (λ c κs. search needs) (λ c κs. search needs) (λ c. search needs) (λ c κs. search needs)
+    (λ c κs. search needs) (λ c κs. search needs) (λ c κs. search needs) (λ c κs. search needs) returns)
