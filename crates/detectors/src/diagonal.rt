@@ -172,10 +172,15 @@ fn some_pair(k: Classifier, am: f32, dm: f32, m: [[f32; 3]; 4]) -> bool
 pub fn has_diagonal_artifact(s: Settings, protected: bool, am: f32, m: [[f32; 3]; 4]) -> bool
     ensures { λ r. ⌜ r ≡ Diagonal.hasDiagonalArtifact (Config.diagonalSpan s) protected am m ⌝ }
 {
-    let k = Classifier {
-        span: s.ratio * s.diagonal,
-        protected,
-    };
     let dm = texel::median(m[3]);
-    pairs::guard(am, dm) && some_pair(k, am, dm, m)
+    pairs::guard(am, dm)
+        && some_pair(
+            Classifier {
+                span: s.ratio * s.diagonal,
+                protected,
+            },
+            am,
+            dm,
+            m,
+        )
 }

@@ -1,11 +1,13 @@
 // The linear detector: a texel against a side neighbour.
 ghost use mathlib.Core.Path.{_≡_};
+ghost use Rattle.ground.specs.Lists.{any};
 ghost use Rattle.detectors.specs.Config as Config;
 ghost use Rattle.detectors.specs.Linear as Linear;
 use crate::classifier;
 use crate::classifier::Classifier;
 use crate::config::Settings;
 use crate::pairs;
+use crate::pairs::difference;
 use crate::texel;
 
 // Where a difference that is da at a and db at b is zero between them.
@@ -40,6 +42,15 @@ fn has_linear_artifact_inner(
         )
 }
 
+// The pairs in order; the search stops at the first artifact.
+fn some_pair(k: Classifier, am: f32, bm: f32, a: [f32; 3], b: [f32; 3]) -> bool
+    ensures { λ r. ⌜ r ≡ any 3 (Linear.linearPair (k .span) (k .protected) am bm a b) ⌝ }
+{
+    has_linear_artifact_inner(k, am, bm, a, b, difference(a, 0), difference(b, 0))
+        || (has_linear_artifact_inner(k, am, bm, a, b, difference(a, 1), difference(b, 1))
+            || has_linear_artifact_inner(k, am, bm, a, b, difference(a, 2), difference(b, 2)))
+}
+
 // The span of a side neighbour.
 fn side_span(s: Settings, upright: bool) -> f64
     ensures { λ r. ⌜ r ≡ Config.sideSpan s upright ⌝ }
@@ -62,13 +73,16 @@ pub fn has_linear_artifact(
 ) -> bool
     ensures { λ r. ⌜ r ≡ Linear.hasLinearArtifact (Config.sideSpan s upright) protected am a b ⌝ }
 {
-    let k = Classifier {
-        span: side_span(s, upright),
-        protected,
-    };
     let bm = texel::median(b);
     pairs::guard(am, bm)
-        && (has_linear_artifact_inner(k, am, bm, a, b, a[1] - a[0], b[1] - b[0])
-            || (has_linear_artifact_inner(k, am, bm, a, b, a[2] - a[1], b[2] - b[1])
-                || has_linear_artifact_inner(k, am, bm, a, b, a[0] - a[2], b[0] - b[2])))
+        && some_pair(
+            Classifier {
+                span: side_span(s, upright),
+                protected,
+            },
+            am,
+            bm,
+            a,
+            b,
+        )
 }

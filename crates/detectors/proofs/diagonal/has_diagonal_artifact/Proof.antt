@@ -9,8 +9,8 @@ use Rattle.detectors.proofs.diagonal.has_diagonal_artifact.Tie as tie
 returns : tie.Need-returns
 unfolding hasDiagonalArtifact diagonalSpan diagonalPairs
 returns c =
-    let g = c .before .before in
-    rw (← g .before .median .ensures) (and-taken (g .guard .ensures) (c .before .if1 .taken) (c .some-pair .ensures))
+    let g = c .before .before .before in
+    rw (← g .before .median .ensures) (and-taken (g .guard .ensures) (c .before .before .if1 .taken) (c .some-pair .ensures))
 
 returns-2 : tie.Need-returns-2
 unfolding hasDiagonalArtifact diagonalSpan diagonalPairs
