@@ -2,3 +2,4 @@
 pub mod Constants
 pub mod Finite
 pub mod Falls
+pub mod Alike

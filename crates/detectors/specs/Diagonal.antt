@@ -1,5 +1,5 @@
 -- The diagonal detector, over four texels of three channels each: a; its two side neighbours b (in the row) and c (in the column); the far one d. Definitions only.
-use Prim.Native.Nat.{ℕ, _+_}
+use Prim.Native.Nat.{ℕ}
 use mathlib.Core.Bool.{Bool, cond, _&&_, _||_}
 use mathlib.Core.List.{List, []}
 use lib.ListN.{getD}
@@ -12,7 +12,7 @@ use Rattle.numbers.specs.EquationSolver.{rootsOf}
 use Rattle.ground.specs.Lists.{any, some}
 use Rattle.detectors.specs.Texel.{channel, texelMedian}
 use Rattle.detectors.specs.Classifier.{rangeTest}
-use Rattle.detectors.specs.Linear.{guard, inside, next, difference}
+use Rattle.detectors.specs.Pairs.{guard, inside, next, difference}
 
 -- channel i of a, b, c and d
 abbrev pub ofA : List (List Float) → ℕ → Float

@@ -8,7 +8,7 @@ use Rattle.detectors.specs.Constants.{halfOf}
 use Rattle.numbers.specs.Scalar.{absOf}
 use Rattle.ground.specs.Lists.{any}
 use Rattle.detectors.specs.Texel.{channel, texelMedian}
-use Rattle.detectors.specs.Linear.{mixedChannel, mixedMedian}
+use Rattle.detectors.specs.Pairs.{mixedChannel, mixedMedian}
 
 -- |m1−0.5| + |m2−0.5| < radius in f32
 unfoldable pub near : Float → Float → Float → Bool

@@ -7,6 +7,7 @@ ghost use Rattle.ground.specs.Lists.{any};
 ghost use Rattle.detectors.specs.Config as Config;
 ghost use Rattle.detectors.specs.Inner.{rootAt};
 use crate::classifier;
+use crate::classifier::Classifier;
 use crate::config::Settings;
 use crate::constants;
 use crate::pairs;
@@ -16,6 +17,7 @@ use numbers::equation_solver::Roots;
 use numbers::rounding;
 use numbers::scalar;
 
+// What both coefficients of channel i share: a less b less c.
 fn abc(m: [[f32; 3]; 4], i: usize) -> f32
     requires { ⌜ i < 3 ⌝ }
     ensures { λ r. ⌜ r ≡ Diagonal.abc m i ⌝ }
@@ -49,6 +51,7 @@ fn turning_point(m: [[f32; 3]; 4], i: usize) -> f64
     -constants::HALF_WIDE * l / q
 }
 
+// A channel at t, by its value a at 0 and its two coefficients.
 fn curve(a: f32, l: f32, q: f32, t: f64) -> f32
     ensures { λ r. ⌜ r ≡ Diagonal.curve a l q t ⌝ }
 {
@@ -58,6 +61,7 @@ fn curve(a: f32, l: f32, q: f32, t: f64) -> f32
     rounding::narrow(t * (t * qw + lw) + aw)
 }
 
+// Channel i at t.
 fn curve_channel(m: [[f32; 3]; 4], t: f64, i: usize) -> f32
     requires { ⌜ i < 3 ⌝ }
     ensures { λ r. ⌜ r ≡ Diagonal.curveChannel m t i ⌝ }
@@ -75,6 +79,7 @@ fn interpolated_median_quad(m: [[f32; 3]; 4], t: f64) -> f32
     scalar::median(x, y, z)
 }
 
+// The difference of pair p in the two side neighbours together.
 fn middle_difference(m: [[f32; 3]; 4], p: usize) -> f32
     requires { ⌜ p < 3 ⌝ }
     ensures { λ r. ⌜ r ≡ Diagonal.middleDifference m p ⌝ }
@@ -83,132 +88,66 @@ fn middle_difference(m: [[f32; 3]; 4], p: usize) -> f32
     m[1][j] - m[1][p] + m[2][j] - m[2][p]
 }
 
-fn quadratic_roots(da: f32, dbc: f32, dd: f32) -> Roots
-    ensures { λ r. ⌜ Listed (Diagonal.quadraticRoots da dbc dd) (r .count) (r .first) (r .second) ⌝ }
+// The roots of pair p's difference, a quadratic in t.
+fn pair_roots(m: [[f32; 3]; 4], p: usize) -> Roots
+    requires { ⌜ p < 3 ⌝ }
+    ensures { λ r. ⌜ Listed (Diagonal.pairRoots m p) (r .count) (r .first) (r .second) ⌝ }
 {
+    let da = pairs::difference(m[0], p);
+    let dbc = middle_difference(m, p);
+    let dd = pairs::difference(m[3], p);
     let a = std::num::f32_to_f64_with_nan(dd - dbc + da);
     let b = std::num::f32_to_f64_with_nan(dbc - da - da);
     let c = std::num::f32_to_f64_with_nan(da);
     equation_solver::solve_quadratic(a, b, c)
 }
 
-// The roots of pair p's difference.
-fn pair_roots(m: [[f32; 3]; 4], p: usize) -> Roots
-    requires { ⌜ p < 3 ⌝ }
-    ensures { λ r. ⌜ Listed (Diagonal.pairRoots m p) (r .count) (r .first) (r .second) ⌝ }
-{
-    quadratic_roots(
-        pairs::difference(m[0], p),
-        middle_difference(m, p),
-        pairs::difference(m[3], p),
-    )
-}
-
 // One end moved to the turning point e.
-fn moved_end(span: f64, protected: bool, am: f32, dm: f32, em: f32, e: f64, t: f64, xm: f32) -> bool
-    ensures { λ r. ⌜ r ≡ Diagonal.movedEnd span protected am dm em e t xm ⌝ }
+fn moved_end(k: Classifier, am: f32, dm: f32, em: f32, e: f64, t: f64, xm: f32) -> bool
+    ensures { λ r. ⌜ r ≡ Diagonal.movedEnd (k .span) (k .protected) am dm em e t xm ⌝ }
 {
     if e > t {
-        classifier::range_test(span, protected, 0.0, e, t, am, em, xm)
+        classifier::range_test(k, 0.0, e, t, am, em, xm)
     } else {
-        classifier::range_test(span, protected, e, 1.0, t, em, dm, xm)
+        classifier::range_test(k, e, 1.0, t, em, dm, xm)
     }
 }
 
-// The range test that a turning point adds.
-fn turning_test(
-    span: f64,
-    protected: bool,
-    am: f32,
-    dm: f32,
-    m: [[f32; 3]; 4],
-    t: f64,
-    xm: f32,
-    e: f64,
-) -> bool
-    ensures { λ r. ⌜ r ≡ Diagonal.turningTest span protected am dm m t xm e ⌝ }
+// The range test that a turning point e adds.
+fn turning_test(k: Classifier, am: f32, dm: f32, m: [[f32; 3]; 4], t: f64, xm: f32, e: f64) -> bool
+    ensures { λ r. ⌜ r ≡ Diagonal.turningTest (k .span) (k .protected) am dm m t xm e ⌝ }
 {
-    e > 0.0
-        && (e < 1.0
-            && moved_end(
-                span,
-                protected,
-                am,
-                dm,
-                interpolated_median_quad(m, e),
-                e,
-                t,
-                xm,
-            ))
+    e > 0.0 && (e < 1.0 && moved_end(k, am, dm, interpolated_median_quad(m, e), e, t, xm))
 }
 
-fn root_tests(
-    span: f64,
-    protected: bool,
-    am: f32,
-    dm: f32,
-    m: [[f32; 3]; 4],
-    p: usize,
-    t: f64,
-    xm: f32,
-) -> bool
+// The range tests of a root t of pair p, whose median is xm.
+fn root_tests(k: Classifier, am: f32, dm: f32, m: [[f32; 3]; 4], p: usize, t: f64, xm: f32) -> bool
     requires { ⌜ p < 3 ⌝ }
-    ensures { λ r. ⌜ r ≡ Diagonal.rootTests span protected am dm m p t xm ⌝ }
+    ensures { λ r. ⌜ r ≡ Diagonal.rootTests (k .span) (k .protected) am dm m p t xm ⌝ }
 {
-    classifier::range_test(span, protected, 0.0, 1.0, t, am, dm, xm)
-        || (turning_test(span, protected, am, dm, m, t, xm, turning_point(m, p))
-            || turning_test(
-                span,
-                protected,
-                am,
-                dm,
-                m,
-                t,
-                xm,
-                turning_point(m, pairs::next(p)),
-            ))
+    classifier::range_test(k, 0.0, 1.0, t, am, dm, xm)
+        || (turning_test(k, am, dm, m, t, xm, turning_point(m, p))
+            || turning_test(k, am, dm, m, t, xm, turning_point(m, pairs::next(p))))
 }
 
-fn diagonal_at(
-    span: f64,
-    protected: bool,
-    am: f32,
-    dm: f32,
-    m: [[f32; 3]; 4],
-    p: usize,
-    t: f64,
-) -> bool
+// A root t of pair p is an artifact.
+fn diagonal_at(k: Classifier, am: f32, dm: f32, m: [[f32; 3]; 4], p: usize, t: f64) -> bool
     requires { ⌜ p < 3 ⌝ }
-    ensures { λ r. ⌜ r ≡ Diagonal.diagonalAt span protected am dm m p t ⌝ }
+    ensures { λ r. ⌜ r ≡ Diagonal.diagonalAt (k .span) (k .protected) am dm m p t ⌝ }
 {
-    pairs::inside(t)
-        && root_tests(
-            span,
-            protected,
-            am,
-            dm,
-            m,
-            p,
-            t,
-            interpolated_median_quad(m, t),
-        )
+    pairs::inside(t) && root_tests(k, am, dm, m, p, t, interpolated_median_quad(m, t))
 }
 
-fn root_at(r: Roots, k: usize) -> f64
-    ensures { λ t. ⌜ t ≡ rootAt (r .first) (r .second) k ⌝ }
+// Root i of up to two.
+fn root_at(r: Roots, i: usize) -> f64
+    ensures { λ t. ⌜ t ≡ rootAt (r .first) (r .second) i ⌝ }
 {
-    if k == 0 { r.first } else { r.second }
+    if i == 0 { r.first } else { r.second }
 }
 
 // The pairs in order, and of each the roots in order; the search stops at the first artifact.
-fn has_diagonal_artifact_inner(
-    span: f64,
-    protected: bool,
-    am: f32,
-    dm: f32,
-    m: [[f32; 3]; 4],
-) -> bool
-    ensures { λ r. ⌜ r ≡ any 3 (Diagonal.diagonalPair span protected am dm m) ⌝ }
+fn some_pair(k: Classifier, am: f32, dm: f32, m: [[f32; 3]; 4]) -> bool
+    ensures { λ r. ⌜ r ≡ any 3 (Diagonal.diagonalPair (k .span) (k .protected) am dm m) ⌝ }
 {
     let mut p = 0usize;
     let verdict = 'pairs: loop {
@@ -217,28 +156,31 @@ fn has_diagonal_artifact_inner(
         }
         let r = pair_roots(m, p);
         let n = r.count;
-        let mut k = 0usize;
-        while k < n {
-            if diagonal_at(span, protected, am, dm, m, p, root_at(r, k)) {
+        let mut i = 0usize;
+        while i < n {
+            if diagonal_at(k, am, dm, m, p, root_at(r, i)) {
                 break 'pairs true;
             }
-            k += 1;
+            i += 1;
         }
         p += 1;
     };
     verdict
 }
 
-fn diagonal_pairs(span: f64, protected: bool, am: f32, dm: f32, m: [[f32; 3]; 4]) -> bool
-    ensures { λ r. ⌜ r ≡ Diagonal.diagonalPairs span protected am dm m ⌝ }
-{
-    pairs::guard(am, dm) && has_diagonal_artifact_inner(span, protected, am, dm, m)
-}
-
 // Texel m[0], whose median is am, against the one across, m[3].
 pub fn has_diagonal_artifact(s: Settings, protected: bool, am: f32, m: [[f32; 3]; 4]) -> bool
     ensures { λ r. ⌜ r ≡ Diagonal.hasDiagonalArtifact (Config.diagonalSpan s) protected am m ⌝ }
 {
-    let span = s.ratio * s.diagonal;
-    diagonal_pairs(span, protected, am, texel::median(m[3]), m)
+    let dm = texel::median(m[3]);
+    pairs::guard(am, dm)
+        && some_pair(
+            Classifier {
+                span: s.ratio * s.diagonal,
+                protected,
+            },
+            am,
+            dm,
+            m,
+        )
 }

@@ -25,12 +25,14 @@ pub fn away(m: f32) -> f32
     scalar::abs32(m - constants::HALF)
 }
 
+// The two medians together are near enough to the outline.
 fn near(r: f32, am: f32, bm: f32) -> bool
     ensures { λ v. ⌜ v ≡ Edge.near r am bm ⌝ }
 {
     away(am) + away(bm) < r
 }
 
+// Where a channel crosses the outline between ai and bi.
 fn edge_point(ai: f32, bi: f32) -> f64
     ensures { λ r. ⌜ r ≡ Edge.edgePoint ai bi ⌝ }
 {
@@ -38,21 +40,15 @@ fn edge_point(ai: f32, bi: f32) -> f64
         / std::num::f32_to_f64_with_nan(ai - bi)
 }
 
-fn edge_at(a: [f32; 3], b: [f32; 3], i: usize, t: f64) -> bool
-    requires { ⌜ i < 3 ⌝ }
-    ensures { λ r. ⌜ r ≡ Edge.edgeAt a b i t ⌝ }
-{
-    t > 0.0
-        && (t < 1.0
-            && pairs::interpolated_median_linear(a, b, t) == pairs::mixed_channel(a, b, t, i))
-}
-
 // Channel i makes an edge between the two.
 fn edge_between_texels_channel(a: [f32; 3], b: [f32; 3], i: usize) -> bool
     requires { ⌜ i < 3 ⌝ }
     ensures { λ r. ⌜ r ≡ Edge.masked a b i ⌝ }
 {
-    edge_at(a, b, i, edge_point(a[i], b[i]))
+    let t = edge_point(a[i], b[i]);
+    t > 0.0
+        && (t < 1.0
+            && pairs::interpolated_median_linear(a, b, t) == pairs::mixed_channel(a, b, t, i))
 }
 
 // Channel i makes an edge and is not the median of texel c.

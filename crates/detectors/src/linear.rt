@@ -1,13 +1,13 @@
 // The linear detector: a texel against a side neighbour.
 ghost use mathlib.Core.Path.{_≡_};
-ghost use lib.Ieee.{binary64};
-ghost use Rattle.numbers.specs.Constants.{zeroOf, oneOf};
-ghost use Rattle.detectors.specs.Classifier.{rangeTest};
+ghost use Rattle.ground.specs.Lists.{any};
 ghost use Rattle.detectors.specs.Config as Config;
 ghost use Rattle.detectors.specs.Linear as Linear;
 use crate::classifier;
+use crate::classifier::Classifier;
 use crate::config::Settings;
 use crate::pairs;
+use crate::pairs::difference;
 use crate::texel;
 
 // Where a difference that is da at a and db at b is zero between them.
@@ -17,34 +17,9 @@ fn crossing(da: f32, db: f32) -> f64
     std::num::f32_to_f64_with_nan(da) / std::num::f32_to_f64_with_nan(da - db)
 }
 
-// The range test at t.
-fn linear_test(
-    span: f64,
-    protected: bool,
-    am: f32,
-    bm: f32,
-    a: [f32; 3],
-    b: [f32; 3],
-    t: f64,
-) -> bool
-    ensures { λ r. ⌜ r ≡ rangeTest span protected (zeroOf binary64) (oneOf binary64) t am bm (Linear.mixedMedian a b t) ⌝ }
-{
-    classifier::range_test(
-        span,
-        protected,
-        0.0,
-        1.0,
-        t,
-        am,
-        bm,
-        pairs::interpolated_median_linear(a, b, t),
-    )
-}
-
 // The pair whose difference is da at a and db at b.
 fn has_linear_artifact_inner(
-    span: f64,
-    protected: bool,
+    k: Classifier,
     am: f32,
     bm: f32,
     a: [f32; 3],
@@ -52,50 +27,32 @@ fn has_linear_artifact_inner(
     da: f32,
     db: f32,
 ) -> bool
-    ensures { λ r. ⌜ r ≡ Linear.linearAt span protected am bm a b (Linear.crossing da db) ⌝ }
+    ensures { λ r. ⌜ r ≡ Linear.linearAt (k .span) (k .protected) am bm a b (Linear.crossing da db) ⌝ }
 {
     let t = crossing(da, db);
-    pairs::inside(t) && linear_test(span, protected, am, bm, a, b, t)
-}
-
-fn linear_pairs(span: f64, protected: bool, am: f32, bm: f32, a: [f32; 3], b: [f32; 3]) -> bool
-    ensures { λ r. ⌜ r ≡ Linear.linearPairs span protected am bm a b ⌝ }
-{
-    pairs::guard(am, bm)
-        && (has_linear_artifact_inner(
-            span,
-            protected,
+    pairs::inside(t)
+        && classifier::range_test(
+            k,
+            0.0,
+            1.0,
+            t,
             am,
             bm,
-            a,
-            b,
-            pairs::difference(a, 0),
-            pairs::difference(b, 0),
+            pairs::interpolated_median_linear(a, b, t),
         )
-            || (has_linear_artifact_inner(
-                span,
-                protected,
-                am,
-                bm,
-                a,
-                b,
-                pairs::difference(a, 1),
-                pairs::difference(b, 1),
-            )
-                || has_linear_artifact_inner(
-                    span,
-                    protected,
-                    am,
-                    bm,
-                    a,
-                    b,
-                    pairs::difference(a, 2),
-                    pairs::difference(b, 2),
-                )))
+}
+
+// The pairs in order; the search stops at the first artifact.
+fn some_pair(k: Classifier, am: f32, bm: f32, a: [f32; 3], b: [f32; 3]) -> bool
+    ensures { λ r. ⌜ r ≡ any 3 (Linear.linearPair (k .span) (k .protected) am bm a b) ⌝ }
+{
+    has_linear_artifact_inner(k, am, bm, a, b, difference(a, 0), difference(b, 0))
+        || (has_linear_artifact_inner(k, am, bm, a, b, difference(a, 1), difference(b, 1))
+            || has_linear_artifact_inner(k, am, bm, a, b, difference(a, 2), difference(b, 2)))
 }
 
 // The span of a side neighbour.
-pub fn side_span(s: Settings, upright: bool) -> f64
+fn side_span(s: Settings, upright: bool) -> f64
     ensures { λ r. ⌜ r ≡ Config.sideSpan s upright ⌝ }
 {
     if upright {
@@ -116,5 +73,16 @@ pub fn has_linear_artifact(
 ) -> bool
     ensures { λ r. ⌜ r ≡ Linear.hasLinearArtifact (Config.sideSpan s upright) protected am a b ⌝ }
 {
-    linear_pairs(side_span(s, upright), protected, am, texel::median(b), a, b)
+    let bm = texel::median(b);
+    pairs::guard(am, bm)
+        && some_pair(
+            Classifier {
+                span: side_span(s, upright),
+                protected,
+            },
+            am,
+            bm,
+            a,
+            b,
+        )
 }

@@ -1,7 +1,7 @@
 -- Where a span grows and protection grows, a detector finds no more. Assumes nothing.
 use mathlib.Core.Path.{_≡_, sym, subst}
 use mathlib.Core.Bool.{Bool, true, false, not}
-use mathlib.Core.List.{List, [], _∷_}
+use mathlib.Core.List.{List, []}
 use Prim.Native.Nat.{ℕ}
 use native.Mathlib.Omega.{arith}
 use lib.ListN.{getD}
@@ -17,7 +17,8 @@ use Rattle.ground.proofs.Laws.Bools.{holds, held, and-implies, or-implies, not-
 use Rattle.ground.proofs.Laws.Search.{any-implies, some-implies}
 use Rattle.detectors.specs.Texel.{texelMedian}
 use Rattle.detectors.specs.Classifier.{fallsBelow, risesAbove, liesOutside, candidate, within, inRange, rangeTest}
-use Rattle.detectors.specs.Linear.{guard, inside, next, difference, crossing, linearAt, linearPair, linearPairs, hasLinearArtifact}
+use Rattle.detectors.specs.Pairs.{guard, inside, next, difference}
+use Rattle.detectors.specs.Linear.{crossing, linearAt, linearPair, linearPairs, hasLinearArtifact}
 use Rattle.detectors.specs.Diagonal.{turningPoint, curveMedian, pairRoots, movedEnd, turningTest, rootTests, diagonalAt, diagonalPair, diagonalPairs, hasDiagonalArtifact}
 use Rattle.detectors.proofs.Laws.Finite.{Weight, zero-weight, one-weight, strict-weight, inside-weight, Span, Gap, gap}
 

@@ -1,6 +1,6 @@
 -- Of texels whose samples are at most 2 ^ 20 in size, every value that a range test compares is finite: no rule on NaN is ever leaned on there. Assumes nothing.
-use mathlib.Core.Path.{_≡_, refl, sym, subst}
-use mathlib.Core.Bool.{Bool, true, not}
+use mathlib.Core.Path.{_≡_, refl}
+use mathlib.Core.Bool.{true, not}
 use mathlib.Core.List.{List, [], _∷_}
 use Prim.Native.Nat.{ℕ, zero-le}
 use native.Mathlib.Nat.{le-of-eq}
@@ -17,7 +17,7 @@ use Rattle.numbers.proofs.Laws.Bounds.{Within, within-more, within-finite, with
 use Rattle.ground.proofs.Laws.Bools.{both-hold, holds}
 use Rattle.detectors.specs.Texel.{channel, texelMedian}
 use Rattle.detectors.specs.Classifier.{compared}
-use Rattle.detectors.specs.Linear.{inside, mixedChannel, mixedMedian}
+use Rattle.detectors.specs.Pairs.{inside, mixedChannel, mixedMedian}
 use Rattle.detectors.specs.Diagonal.{ofA, ofB, ofC, ofD, abc, linearTerm, squareTerm, curve, curveChannel, curveMedian}
 
 -- ---- texels

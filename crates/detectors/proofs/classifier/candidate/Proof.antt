@@ -5,34 +5,21 @@ use borrow.Author.Needs.{needs}
 use Rattle.detectors.proofs.classifier.candidate.Statement.{statement}
 use Rattle.detectors.proofs.classifier.candidate.Tie as tie
 
-falls-below-requires : tie.Need-falls-below-requires
-falls-below-requires c κs = search needs
-
-rises-above-requires : tie.Need-rises-above-requires
-rises-above-requires c κs = search needs
-
-lies-outside-requires : tie.Need-lies-outside-requires
-lies-outside-requires c κs = search needs
-
 returns : tie.Need-returns
 unfolding candidate
 returns c = or-taken _ (c .before .falls-below .ensures) (c .if1 .taken)
 
 returns-2 : tie.Need-returns-2
 unfolding candidate
-returns-2 c = or-left (c .before .before .before .falls-below .ensures) (c .before .before .if1 .left) (or-taken _ (c .before .rises-above .ensures) (c .if2 .taken))
+returns-2 c =
+    let first = c .before .before .before in
+    or-left (first .falls-below .ensures) (c .before .before .if1 .left) (or-taken _ (c .before .rises-above .ensures) (c .if2 .taken))
 
 returns-3 : tie.Need-returns-3
 unfolding candidate
-returns-3 c = or-left (c .before .before .before .before .falls-below .ensures) (c .before .before .before .if1 .left) (or-left (c .before .before .rises-above .ensures) (c .before .if2 .left) (c .lies-outside .ensures))
+returns-3 c =
+    let second = c .before .before in
+    or-left (second .before .before .falls-below .ensures) (second .before .if1 .left) (or-left (second .rises-above .ensures) (c .before .if2 .left) (c .lies-outside .ensures))
 
 pub candidate-spec : {M : Type 1} → statement M
-candidate-spec =
-    tie.close
-    (tie.spec
-    falls-below-requires
-    rises-above-requires
-    lies-outside-requires
-    returns
-    returns-2
-    returns-3)
+candidate-spec = tie.close (tie.spec (λ c κs. search needs) (λ c κs. search needs) (λ c κs. search needs) returns returns-2 returns-3)

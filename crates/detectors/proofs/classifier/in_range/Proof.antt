@@ -5,37 +5,21 @@ use borrow.Author.Needs.{needs}
 use Rattle.detectors.proofs.classifier.in_range.Statement.{statement}
 use Rattle.detectors.proofs.classifier.in_range.Tie as tie
 
-f32-to-f64-with-nan-requires : tie.Need-f32-to-f64-with-nan-requires
-f32-to-f64-with-nan-requires c κs = search needs
-
-f32-to-f64-with-nan-requires-2 : tie.Need-f32-to-f64-with-nan-requires-2
-f32-to-f64-with-nan-requires-2 c κs = search needs
-
-f32-to-f64-with-nan-requires-3 : tie.Need-f32-to-f64-with-nan-requires-3
-f32-to-f64-with-nan-requires-3 c κs = search needs
-
-within-requires : tie.Need-within-requires
-within-requires c κs = search needs
-
-within-requires-2 : tie.Need-within-requires-2
-within-requires-2 c κs = search needs
-
 returns : tie.Need-returns
 unfolding inRange
-returns c = let w = c .before .before in and-taken (rw (w .before .before .f32-to-f64-with-nan2 .ensures, w .before .before .before .f32-to-f64-with-nan .ensures) at (w .within .ensures)) (c .before .if1 .taken) (rw (w .before .f32-to-f64-with-nan3 .ensures, w .before .before .before .f32-to-f64-with-nan .ensures) at (c .within2 .ensures))
+returns c =
+    let w = c .before .before in
+    let a = w .before .before in
+    let x = a .before in
+    and-taken (rw (a .f32-to-f64-with-nan2 .ensures, x .f32-to-f64-with-nan .ensures) at (w .within .ensures)) (c .before .if1 .taken)
+    (rw (w .before .f32-to-f64-with-nan3 .ensures, x .f32-to-f64-with-nan .ensures) at (c .within2 .ensures))
 
 returns-2 : tie.Need-returns-2
 unfolding inRange
-returns-2 c = let w = c .before in and-left _ (rw (w .before .before .f32-to-f64-with-nan2 .ensures, w .before .before .before .f32-to-f64-with-nan .ensures) at (w .within .ensures)) (c .if1 .left)
+returns-2 c =
+    let w = c .before in
+    let a = w .before .before in
+    and-left _ (rw (a .f32-to-f64-with-nan2 .ensures, a .before .f32-to-f64-with-nan .ensures) at (w .within .ensures)) (c .if1 .left)
 
 pub in-range-spec : {M : Type 1} → statement M
-in-range-spec =
-    tie.close
-    (tie.spec
-    f32-to-f64-with-nan-requires
-    f32-to-f64-with-nan-requires-2
-    f32-to-f64-with-nan-requires-3
-    within-requires
-    within-requires-2
-    returns
-    returns-2)
+in-range-spec = tie.close (tie.spec (λ c κs. search needs) (λ c κs. search needs) (λ c κs. search needs) (λ c κs. search needs) (λ c κs. search needs) returns returns-2)

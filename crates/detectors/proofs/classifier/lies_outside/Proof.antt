@@ -4,9 +4,6 @@ use borrow.Author.Needs.{needs}
 use Rattle.detectors.proofs.classifier.lies_outside.Statement.{statement}
 use Rattle.detectors.proofs.classifier.lies_outside.Tie as tie
 
-median-requires : tie.Need-median-requires
-median-requires c κs = search needs
-
 returns : tie.Need-returns
 unfolding liesOutside
 returns c = simp (c .before .if1 .taken, c .median .ensures)
@@ -16,4 +13,4 @@ unfolding liesOutside
 returns-2 c = simp (c .if1 .left)
 
 pub lies-outside-spec : {M : Type 1} → statement M
-lies-outside-spec = tie.close (tie.spec median-requires returns returns-2)
+lies-outside-spec = tie.close (tie.spec (λ c κs. search needs) returns returns-2)

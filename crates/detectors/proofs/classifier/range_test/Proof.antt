@@ -7,12 +7,6 @@ use borrow.Author.Needs.{needs}
 use Rattle.detectors.proofs.classifier.range_test.Statement.{statement}
 use Rattle.detectors.proofs.classifier.range_test.Tie as tie
 
-candidate-requires : tie.Need-candidate-requires
-candidate-requires c κs = search needs
-
-in-range-requires : tie.Need-in-range-requires
-in-range-requires c κs = search needs
-
 returns : tie.Need-returns
 unfolding rangeTest
 returns c = and-taken (c .before .before .candidate .ensures) (c .before .if1 .taken) (ap not (c .in-range .ensures))
@@ -22,4 +16,4 @@ unfolding rangeTest
 returns-2 c = and-left _ (c .before .candidate .ensures) (c .if1 .left)
 
 pub range-test-spec : {M : Type 1} → statement M
-range-test-spec = tie.close (tie.spec candidate-requires in-range-requires returns returns-2)
+range-test-spec = tie.close (tie.spec (λ c κs. search needs) (λ c κs. search needs) returns returns-2)

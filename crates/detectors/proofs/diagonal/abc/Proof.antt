@@ -5,48 +5,9 @@ use Rattle.detectors.specs.Diagonal.{abc}
 use Rattle.detectors.proofs.diagonal.abc.Statement.{statement}
 use Rattle.detectors.proofs.diagonal.abc.Tie as tie
 
-mul-result : tie.Need-mul-result
-mul-result c = search needs
-
-index-1-result : tie.Need-index-1-result
-index-1-result c = search needs
-
-index-2-result : tie.Need-index-2-result
-index-2-result c = search needs
-
-mul-result-2 : tie.Need-mul-result-2
-mul-result-2 c = search needs
-
-index-1-result-2 : tie.Need-index-1-result-2
-index-1-result-2 c = search needs
-
-index-2-result-2 : tie.Need-index-2-result-2
-index-2-result-2 c = search needs
-
-mul-result-3 : tie.Need-mul-result-3
-mul-result-3 c = search needs
-
-index-1-result-3 : tie.Need-index-1-result-3
-index-1-result-3 c = search needs
-
-index-2-result-3 : tie.Need-index-2-result-3
-index-2-result-3 c = search needs
-
 returns : tie.Need-returns
 unfolding abc
 returns c = refl
 
 pub abc-spec : {M : Type 1} → statement M
-abc-spec =
-    tie.close
-    (tie.spec
-    mul-result
-    index-1-result
-    index-2-result
-    mul-result-2
-    index-1-result-2
-    index-2-result-2
-    mul-result-3
-    index-1-result-3
-    index-2-result-3
-    returns)
+abc-spec = tie.close (tie.spec (λ c. search needs) (λ c. search needs) (λ c. search needs) (λ c. search needs) (λ c. search needs) (λ c. search needs) (λ c. search needs) (λ c. search needs) (λ c. search needs) returns)

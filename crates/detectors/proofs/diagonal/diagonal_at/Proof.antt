@@ -5,29 +5,15 @@ use Rattle.ground.proofs.Laws.Bools.{and-taken, and-left}
 use Rattle.detectors.proofs.diagonal.diagonal_at.Statement.{statement}
 use Rattle.detectors.proofs.diagonal.diagonal_at.Tie as tie
 
-inside-requires : tie.Need-inside-requires
-inside-requires c κs = search needs
-
-interpolated-median-quad-requires : tie.Need-interpolated-median-quad-requires
-interpolated-median-quad-requires c κs = search needs
-
-root-tests-requires : tie.Need-root-tests-requires
-root-tests-requires c κs = search needs
-
 returns : tie.Need-returns
 unfolding diagonalAt
-returns c = and-taken (c .before .before .before .inside .ensures) (c .before .before .if1 .taken) (rw (c .before .interpolated-median-quad .ensures) at (c .root-tests .ensures))
+returns c =
+    let m = c .before in
+    and-taken (m .before .before .inside .ensures) (m .before .if1 .taken) (rw (m .interpolated-median-quad .ensures) at (c .root-tests .ensures))
 
 returns-2 : tie.Need-returns-2
 unfolding diagonalAt
 returns-2 c = and-left _ (c .before .inside .ensures) (c .if1 .left)
 
 pub diagonal-at-spec : {M : Type 1} → statement M
-diagonal-at-spec =
-    tie.close
-    (tie.spec
-    inside-requires
-    interpolated-median-quad-requires
-    root-tests-requires
-    returns
-    returns-2)
+diagonal-at-spec = tie.close (tie.spec (λ c κs. search needs) (λ c κs. search needs) (λ c κs. search needs) returns returns-2)

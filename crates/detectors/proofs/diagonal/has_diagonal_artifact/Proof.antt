@@ -1,23 +1,20 @@
 -- `detectors::diagonal::has_diagonal_artifact` meets its contract. Assumes nothing.
 use borrow.Author.Needs.{needs}
 use Rattle.detectors.specs.Config.{diagonalSpan}
-use Rattle.detectors.specs.Diagonal.{hasDiagonalArtifact}
+use Rattle.detectors.specs.Diagonal.{diagonalPairs, hasDiagonalArtifact}
+use Rattle.ground.proofs.Laws.Bools.{and-taken, and-left}
 use Rattle.detectors.proofs.diagonal.has_diagonal_artifact.Statement.{statement}
 use Rattle.detectors.proofs.diagonal.has_diagonal_artifact.Tie as tie
 
-array-copy-out-median : tie.Need-array-copy-out-median
-array-copy-out-median c = search needs
-
-median-requires : tie.Need-median-requires
-median-requires c κs = search needs
-
-diagonal-pairs-requires : tie.Need-diagonal-pairs-requires
-diagonal-pairs-requires c κs = search needs
-
 returns : tie.Need-returns
-unfolding hasDiagonalArtifact diagonalSpan
-returns c = rw (c .diagonal-pairs .ensures, c .before .median .ensures)
+unfolding hasDiagonalArtifact diagonalSpan diagonalPairs
+returns c =
+    let g = c .before .before .before in
+    rw (← g .before .median .ensures) (and-taken (g .guard .ensures) (c .before .before .if1 .taken) (c .some-pair .ensures))
+
+returns-2 : tie.Need-returns-2
+unfolding hasDiagonalArtifact diagonalSpan diagonalPairs
+returns-2 c = rw (← c .before .before .median .ensures) (and-left _ (c .before .guard .ensures) (c .if1 .left))
 
 pub has-diagonal-artifact-spec : {M : Type 1} → statement M
-has-diagonal-artifact-spec =
-    tie.close (tie.spec array-copy-out-median median-requires diagonal-pairs-requires returns)
+has-diagonal-artifact-spec = tie.close (tie.spec (λ c. search needs) (λ c κs. search needs) (λ c κs. search needs) (λ c κs. search needs) returns returns-2)

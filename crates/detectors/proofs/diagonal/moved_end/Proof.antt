@@ -4,12 +4,6 @@ use Rattle.detectors.specs.Diagonal.{movedEnd}
 use Rattle.detectors.proofs.diagonal.moved_end.Statement.{statement}
 use Rattle.detectors.proofs.diagonal.moved_end.Tie as tie
 
-range-test-requires : tie.Need-range-test-requires
-range-test-requires c κs = search needs
-
-range-test-requires-2 : tie.Need-range-test-requires-2
-range-test-requires-2 c κs = search needs
-
 returns : tie.Need-returns
 unfolding movedEnd
 returns c = rw (c .before .if1 .taken, c .range-test .ensures)
@@ -19,4 +13,4 @@ unfolding movedEnd
 returns-2 c = rw (c .before .if1 .left, c .range-test2 .ensures)
 
 pub moved-end-spec : {M : Type 1} → statement M
-moved-end-spec = tie.close (tie.spec range-test-requires range-test-requires-2 returns returns-2)
+moved-end-spec = tie.close (tie.spec (λ c κs. search needs) (λ c κs. search needs) returns returns-2)

@@ -6,15 +6,11 @@ use Rattle.ground.proofs.Laws.Bools.{and-taken, and-left}
 use Rattle.detectors.proofs.diagonal.turning_test.Statement.{statement}
 use Rattle.detectors.proofs.diagonal.turning_test.Tie as tie
 
-interpolated-median-quad-requires : tie.Need-interpolated-median-quad-requires
-interpolated-median-quad-requires c κs = search needs
-
-moved-end-requires : tie.Need-moved-end-requires
-moved-end-requires c κs = search needs
-
 returns : tie.Need-returns
 unfolding turningTest
-returns c = and-taken refl (c .before .before .before .if1 .taken) (and-taken refl (c .before .before .if2 .taken) (rw (c .before .interpolated-median-quad .ensures) at (c .moved-end .ensures)))
+returns c =
+    let m = c .before in
+    and-taken refl (m .before .before .if1 .taken) (and-taken refl (m .before .if2 .taken) (rw (m .interpolated-median-quad .ensures) at (c .moved-end .ensures)))
 
 returns-2 : tie.Need-returns-2
 unfolding turningTest
@@ -25,6 +21,4 @@ unfolding turningTest
 returns-3 c = and-left _ refl (c .if1 .left)
 
 pub turning-test-spec : {M : Type 1} → statement M
-turning-test-spec =
-    tie.close
-    (tie.spec interpolated-median-quad-requires moved-end-requires returns returns-2 returns-3)
+turning-test-spec = tie.close (tie.spec (λ c κs. search needs) (λ c κs. search needs) returns returns-2 returns-3)

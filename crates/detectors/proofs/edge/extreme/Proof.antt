@@ -1,18 +1,9 @@
--- `detectors::edges::extreme` meets its contract: its tests are the definition's in the other order. Assumes nothing.
+-- `detectors::edge::extreme` meets its contract: its tests are the definition's in the other order. Assumes nothing.
 use mathlib.Core.Bool.{and-true, and-false}
 use Rattle.detectors.specs.Edge.{extreme}
 use borrow.Author.Needs.{needs}
 use Rattle.detectors.proofs.edge.extreme.Statement.{statement}
 use Rattle.detectors.proofs.edge.extreme.Tie as tie
-
-mul-if1 : tie.Need-mul-if1
-mul-if1 c = search needs
-
-array-read-if1 : tie.Need-array-read-if1
-array-read-if1 c = search needs
-
-edge-between-texels-channel-requires : tie.Need-edge-between-texels-channel-requires
-edge-between-texels-channel-requires c κs = search needs
 
 returns : tie.Need-returns
 unfolding extreme
@@ -23,5 +14,4 @@ unfolding extreme
 returns-2 c = rw (c .if1 .left, and-false)
 
 pub extreme-spec : {M : Type 1} → statement M
-extreme-spec =
-    tie.close (tie.spec mul-if1 array-read-if1 edge-between-texels-channel-requires returns returns-2)
+extreme-spec = tie.close (tie.spec (λ c. search needs) (λ c. search needs) (λ c κs. search needs) returns returns-2)

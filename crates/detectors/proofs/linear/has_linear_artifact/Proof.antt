@@ -1,22 +1,19 @@
 -- `detectors::linear::has_linear_artifact` meets its contract. Assumes nothing.
-use Rattle.detectors.specs.Linear.{hasLinearArtifact}
 use borrow.Author.Needs.{needs}
+use Rattle.detectors.specs.Linear.{linearPairs, hasLinearArtifact}
+use Rattle.ground.proofs.Laws.Bools.{and-taken, and-left}
 use Rattle.detectors.proofs.linear.has_linear_artifact.Statement.{statement}
 use Rattle.detectors.proofs.linear.has_linear_artifact.Tie as tie
 
-side-span-requires : tie.Need-side-span-requires
-side-span-requires c κs = search needs
-
-median-requires : tie.Need-median-requires
-median-requires c κs = search needs
-
-linear-pairs-requires : tie.Need-linear-pairs-requires
-linear-pairs-requires c κs = search needs
-
 returns : tie.Need-returns
-unfolding hasLinearArtifact
-returns c = rw (c .linear-pairs .ensures, c .before .median .ensures, c .before .before .side-span .ensures)
+unfolding hasLinearArtifact linearPairs
+returns c =
+    let g = c .before .before .before in
+    rw (← g .before .median .ensures, ← c .before .side-span .ensures) (and-taken (g .guard .ensures) (c .before .before .if1 .taken) (c .some-pair .ensures))
+
+returns-2 : tie.Need-returns-2
+unfolding hasLinearArtifact linearPairs
+returns-2 c = rw (← c .before .before .median .ensures) (and-left _ (c .before .guard .ensures) (c .if1 .left))
 
 pub has-linear-artifact-spec : {M : Type 1} → statement M
-has-linear-artifact-spec =
-    tie.close (tie.spec side-span-requires median-requires linear-pairs-requires returns)
+has-linear-artifact-spec = tie.close (tie.spec (λ c κs. search needs) (λ c κs. search needs) (λ c κs. search needs) (λ c κs. search needs) returns returns-2)

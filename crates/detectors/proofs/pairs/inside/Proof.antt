@@ -1,5 +1,5 @@
--- `detectors::linear::inside` meets its contract. Assumes nothing.
-use Rattle.detectors.specs.Linear.{inside}
+-- `detectors::pairs::inside` meets its contract. Assumes nothing.
+use Rattle.detectors.specs.Pairs.{inside}
 use Rattle.detectors.proofs.pairs.inside.Statement.{statement}
 use Rattle.detectors.proofs.pairs.inside.Tie as tie
 

@@ -1,13 +1,10 @@
--- `detectors::linear::next` meets its contract. Assumes nothing.
+-- `detectors::pairs::next` meets its contract. Assumes nothing.
 use native.Mathlib.Omega.{arith}
 use borrow.Author.Tests.{lt-ltb, le-ltb}
-use Rattle.detectors.specs.Linear.{next}
+use Rattle.detectors.specs.Pairs.{next}
 use borrow.Author.Needs.{needs}
 use Rattle.detectors.proofs.pairs.next.Statement.{statement}
 use Rattle.detectors.proofs.pairs.next.Tie as tie
-
-add-result : tie.Need-add-result
-add-result c = search needs
 
 returns : tie.Need-returns
 unfolding next
@@ -18,4 +15,4 @@ unfolding next
 returns-2 c = (simp (le-ltb _ _ (c .if1 .left)), omega arith)
 
 pub next-spec : {M : Type 1} → statement M
-next-spec = tie.close (tie.spec add-result returns returns-2)
+next-spec = tie.close (tie.spec (λ c. search needs) returns returns-2)
