@@ -10,7 +10,8 @@ use lib.Ieee.{Float, nan}
 use Rattle.numbers.specs.Scalar.{medianOf}
 use Rattle.detectors.specs.declared.config.Settings.{Settings}
 use Rattle.ground.specs.Lists.{tab, any}
-use Rattle.correction.specs.Bitmap.{cell, texel, inBounds, isProtected}
+use Rattle.correction.specs.Bitmap.{cell, texel, inBounds}
+use Rattle.correction.specs.Stencil.{isProtected, setProtected, setError}
 use Rattle.correction.specs.Corners.{shared, lower, beside}
 use Rattle.correction.specs.Errors.{hasArtifact}
 
@@ -30,9 +31,9 @@ pub record Outlined (colours : List ℕ) (coords : List Float) (ends : List ℕ)
   pub rising : (i : ℕ) → suc i < length ends → getD ends i 0 ≤ getD ends (suc i) 0
   pub within : (i : ℕ) → i < length ends → getD ends i 0 ≤ length colours
 
--- a stencil with 2 in each cell for which a test holds
+-- a stencil with the protected bit set in each cell for which a test holds, and all other bits as they were
 unfoldable pub painted : (ℕ → Bool) → List ℕ → List ℕ
-painted p st = tab (length st) (λ k. cond (p k) 2 (getD st k 0))
+painted p st = tab (length st) (λ k. cond (p k) (setProtected (getD st k 0)) (getD st k 0))
 
 -- cell k is that of column nx and row ny, counted from 1, which are inside
 unfoldable pub spot : ℕ → ℕ → ℕ → ℕ → ℕ → Bool
@@ -58,9 +59,9 @@ contourHits w colours coords from end k = any (end - from) (λ j. cornerHits w c
 abbrev pub collapsedAt : List Float → ℕ → List Float
 collapsedAt xs at = let m = medianOf (getD xs at nan) (getD xs (at + 1) nan) (getD xs (at + 2) nan) in set (set (set xs at m) (at + 1) m) (at + 2) m
 
--- the byte of a cell with its error bit added where the texel is flagged
+-- the byte of a cell with its error bit set where the texel is flagged
 unfoldable pub marked : List Float → ℕ → ℕ → ℕ → Settings → ℕ → ℕ → ℕ → ℕ
-marked xs w h ch s v x y = cond (hasArtifact (texel xs w ch) w h s (isProtected v) x y) (v + 1) v
+marked xs w h ch s v x y = cond (hasArtifact (texel xs w ch) w h s (isProtected v) x y) (setError v) v
 
 -- the stencil after finding
 unfoldable pub found : List Float → ℕ → ℕ → ℕ → Settings → List ℕ → List ℕ

@@ -2,9 +2,10 @@
 ghost use mathlib.Core.Path.{_≡_};
 ghost use Prim.Native.Nat.{_+_, _*_, _≤_, _<_};
 ghost use lib.ListN.{length, getD};
-ghost use Rattle.correction.specs.Bitmap.{isError};
+ghost use Rattle.correction.specs.Stencil.{isError};
 ghost use Rattle.correction.specs.Collapse as Collapse;
 ghost use Rattle.correction.specs.Inner.{collapsedAt};
+use crate::stencil;
 use numbers::scalar;
 
 // The three samples from a place on become their median.
@@ -28,7 +29,7 @@ pub fn apply(stencil: &[u8], xs: &mut [f32], ch: usize)
     let mut k = 0usize;
     let mut at = 0usize;
     while k < n {
-        if stencil[k] % 2 == 1 {
+        if stencil::is_error(stencil[k]) {
             collapse(xs, at);
         }
         k += 1;

@@ -7,6 +7,7 @@ ghost use lib.ListN.{length, getD};
 ghost use Rattle.correction.specs.Corners as Corners;
 ghost use Rattle.correction.specs.Inner.{Outlined, painted, spot, clip, cornerHits, contourHits};
 use crate::bitmap;
+use crate::stencil;
 use detectors::constants;
 use numbers::rounding;
 
@@ -39,7 +40,8 @@ fn mark(stencil: &mut [u8], w: usize, h: usize, nx: usize, ny: usize)
     ensures { λ _. ⌜ now (stencil .exit) ≡ painted (spot w h nx ny) (now (stencil .entry)) ⌝ }
 {
     if bitmap::in_bounds(w, h, nx, ny) {
-        stencil[(ny - 1) * w + (nx - 1)] = 2;
+        let k = (ny - 1) * w + (nx - 1);
+        stencil[k] = stencil::set_protected(stencil[k]);
     }
 }
 

@@ -12,7 +12,9 @@ ghost use Rattle.detectors.specs.Edge as Edge;
 ghost use Rattle.correction.specs.Edges as Edges;
 ghost use Rattle.detectors.specs.Config as Rules;
 ghost use Rattle.correction.specs.Inner.{Sized, painted};
+ghost use Rattle.correction.specs.Stencil.{setProtected};
 use crate::bitmap;
+use crate::stencil;
 use detectors::config::Settings;
 use detectors::edge;
 use detectors::texel;
@@ -158,7 +160,7 @@ fn some_edge(
             || some_upper(xs, w, h, ch, rh, rv, rd, c, m, x, y))
 }
 
-// The byte of a cell, 2 where a pair protects its texel.
+// The byte of a cell, with its protected bit set where a pair protects its texel.
 fn protected_byte(
     xs: &[f32],
     w: usize,
@@ -173,10 +175,10 @@ fn protected_byte(
 ) -> u8
     requires { ⌜ Sized w h ch (now xs) ⌝ }
     requires { ⌜ (x < w) × (y < h) ⌝ }
-    ensures { λ r. ⌜ r ≡ cond (Edges.someEdge (texel (now (xs .entry)) w ch) w h rh rv rd x y) 2 v ⌝ }
+    ensures { λ r. ⌜ r ≡ cond (Edges.someEdge (texel (now (xs .entry)) w ch) w h rh rv rd x y) (setProtected v) v ⌝ }
 {
     if some_edge(xs, w, h, ch, rh, rv, rd, x, y) {
-        2
+        stencil::set_protected(v)
     } else {
         v
     }

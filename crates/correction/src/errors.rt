@@ -1,13 +1,14 @@
 // Finding the texels with an artifact towards a neighbour.
 ghost use mathlib.Core.Path.{_≡_};
-ghost use Prim.Native.Nat.{ℕ, _*_, _<_};
+ghost use Prim.Native.Nat.{_*_, _<_};
 ghost use mathlib.Core.Bool.{true, false};
-ghost use lib.ListN.{length, getD};
+ghost use lib.ListN.{length};
 ghost use Rattle.correction.specs.Bitmap.{texel};
 ghost use Rattle.correction.specs.Errors as Errors;
 ghost use Rattle.detectors.specs.Config.{sideSpan, diagonalSpan};
 ghost use Rattle.correction.specs.Inner.{Sized, marked, found};
 use crate::bitmap;
+use crate::stencil;
 use detectors::config::Settings;
 use detectors::diagonal;
 use detectors::linear;
@@ -165,12 +166,10 @@ fn marked_byte(
 ) -> u8
     requires { ⌜ Sized w h ch (now xs) ⌝ }
     requires { ⌜ (x < w) × (y < h) ⌝ }
-    requires { ⌜ v < 255 ⌝ }
     ensures { λ r. ⌜ r ≡ marked (now (xs .entry)) w h ch s v x y ⌝ }
 {
-    let protected = v / 2 % 2 == 1;
-    if has_artifact(xs, w, h, ch, s, protected, x, y) {
-        v + 1
+    if has_artifact(xs, w, h, ch, s, stencil::is_protected(v), x, y) {
+        stencil::set_error(v)
     } else {
         v
     }
@@ -180,7 +179,6 @@ fn marked_byte(
 pub fn find_errors(stencil: &mut [u8], xs: &[f32], w: usize, h: usize, ch: usize, s: Settings)
     requires { ⌜ Sized w h ch (now xs) ⌝ }
     requires { ⌜ length (now stencil) ≡ h * w ⌝ }
-    requires { ⌜ ((k : ℕ) → getD (now stencil) k 0 < 255) ⌝ }
     ensures { λ _. ⌜ now (stencil .exit) ≡ found (now (xs .entry)) w h ch s (now (stencil .entry)) ⌝ }
 {
     let n = stencil.len();

@@ -12,6 +12,7 @@ use crate::collapse;
 use crate::corners;
 use crate::edges;
 use crate::errors;
+use crate::stencil;
 use detectors::config;
 use detectors::config::Settings;
 
@@ -25,33 +26,6 @@ pub struct Counts {
 pub enum Answer {
     Accepted(Counts),
     Refused(u8, usize),
-}
-
-fn fill(stencil: &mut [u8], v: u8)
-    ensures { λ _. ⌜ now (stencil .exit) ≡ tab (length (now (stencil .entry))) (λ k. v) ⌝ }
-{
-    let mut i = 0usize;
-    while i < stencil.len() {
-        stencil[i] = v;
-        i += 1;
-    }
-}
-
-fn count_cells(stencil: &[u8]) -> Counts
-    ensures { λ r. ⌜ r ≡ Pass.countsOf (now (stencil .entry)) ⌝ }
-{
-    let mut p = 0usize;
-    let mut e = 0usize;
-    let mut i = 0usize;
-    while i < stencil.len() {
-        p += (stencil[i] / 2 % 2) as usize;
-        e += (stencil[i] % 2) as usize;
-        i += 1;
-    }
-    Counts {
-        protected: p,
-        error: e,
-    }
 }
 
 // Sets the protected bit as the mode wants it, and clears the rest.
@@ -73,10 +47,10 @@ fn protect(
     ensures { λ _. ⌜ now (stencil .exit) ≡ tab (length (now (stencil .entry))) (λ k. cond (Pass.protects (input w h ch (now (xs .entry)) (now (stencil .entry)) mode s (now (colours .entry)) (now (coords .entry)) (now (ends .entry))) (k % w) (k / w)) 2 0) ⌝ }
 {
     if mode == config::EDGE_ONLY {
-        fill(stencil, 2);
+        stencil::fill(stencil, stencil::PROTECTED);
         return;
     }
-    fill(stencil, 0);
+    stencil::fill(stencil, 0);
     if mode == config::EDGE_PRIORITY {
         corners::protect_corners(stencil, w, h, colours, coords, ends);
         edges::protect_edges(stencil, xs, w, h, ch, s);
@@ -103,7 +77,7 @@ fn correct(
     ensures writes { λ _. ⌜ now (xs .exit) ≡ Pass.passSamples (input w h ch (now (xs .entry)) (now (stencil .entry)) mode s (now (colours .entry)) (now (coords .entry)) (now (ends .entry))) ⌝ }
 {
     if mode == config::DISABLED {
-        fill(stencil, 0);
+        stencil::fill(stencil, 0);
         return;
     }
     protect(stencil, xs, w, h, ch, mode, s, colours, coords, ends);
@@ -155,5 +129,5 @@ pub fn msdf_error_correction(
         coords,
         ends,
     );
-    Answer::Accepted(count_cells(stencil))
+    Answer::Accepted(stencil::count_cells(stencil))
 }

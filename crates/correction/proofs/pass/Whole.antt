@@ -16,7 +16,8 @@ use borrow.Author.Tests.{eq-eqb, ne-eqb}
 use Rattle.correction.specs.declared.pass.Answer.the-variants.{Accepted, Refused}
 use Rattle.correction.specs.declared.pass.Counts.{Counts}
 use Rattle.ground.specs.Lists.{tab}
-use Rattle.correction.specs.Bitmap.{texel, stencilByte, isError}
+use Rattle.correction.specs.Bitmap.{texel}
+use Rattle.correction.specs.Stencil.{stencilByte, isProtected, isError, setProtected}
 use Rattle.correction.specs.Checks.{Input, accepted, refusalNumber, refusalPlace}
 use Rattle.correction.specs.Corners.{contours, cornersProtect}
 use Rattle.correction.specs.Edges.{edgesProtect}
@@ -31,23 +32,12 @@ use Rattle.correction.proofs.checks.Measures.{sizes, sized, cells}
 use Rattle.correction.proofs.checks.Passed.{passed}
 use Rattle.correction.proofs.Laws.Answer.{as-answered}
 
--- every entry of a list of 2 and 0 is below 255
-tab-small : (n : ℕ) (p : ℕ → Bool) (k : ℕ) → getD (tab n (λ j. cond (p j) 2 0)) k 0 < 255
-unfolding tab
-tab-small zero p k = omega arith
-tab-small (suc n) p zero = small (p zero)
-  where
-    small : (b : Bool) → cond b 2 0 < 255
-    small true = omega arith
-    small false = omega arith
-tab-small (suc n) p (suc k) = tab-small n (λ j. p (suc j)) k
-
 -- painting zeros
 painted-zeros : (n : ℕ) (p : ℕ → Bool) → painted p (tab n (λ k. 0)) ≡ tab n (λ k. cond (p k) 2 0)
-unfolding painted
+unfolding painted setProtected isProtected
 painted-zeros n p =
-    ap (λ (m : ℕ). tab m (λ k. cond (p k) 2 (getD (tab n (λ j. 0)) k 0))) (tab-length n (λ k. 0))
-    ∙ tab-same n _ _ (λ k l. ap (λ (v : ℕ). cond (p k) 2 v) (tab-at n (λ j. 0) k 0 l))
+    ap (λ (m : ℕ). tab m (λ k. cond (p k) (setProtected (getD (tab n (λ j. 0)) k 0)) (getD (tab n (λ j. 0)) k 0))) (tab-length n (λ k. 0))
+    ∙ tab-same n _ _ (λ k l. ap (λ (v : ℕ). cond (p k) (setProtected v) v) (tab-at n (λ j. 0) k 0 l))
 
 module _ (i : Input) where
   -- the cells that the mode protects, and the flagged ones
@@ -96,10 +86,8 @@ module _ (i : Input) where
         )
 
     module _ (st₁ : List ℕ) (p : st₁ ≡ tab (length (i .stencil)) (λ k. cond (protects i (k % i .width) (k / i .width)) 2 0)) where
-      pub find-ready : Sized (i .width) (i .height) (i .channels) (i .samples) × ((length st₁ ≡ i .height * i .width) × ((k : ℕ) → getD st₁ k 0 < 255))
-      unfolding covers
-      find-ready =
-          (s, (ap length p ∙ tab-length (length (i .stencil)) _ ∙ m, (λ k. subst (λ (l : List ℕ). getD l k 0 < 255) (sym p) (tab-small (length (i .stencil)) covers k))))
+      pub find-ready : Sized (i .width) (i .height) (i .channels) (i .samples) × (length st₁ ≡ i .height * i .width)
+      find-ready = (s, ap length p ∙ tab-length (length (i .stencil)) _ ∙ m)
 
       module _ (st₂ : List ℕ) (q : st₂ ≡ found (i .samples) (i .width) (i .height) (i .channels) (i .settings) st₁) where
         found-as : st₂ ≡ tab (length (i .stencil)) (λ k. stencilByte (covers k) (hasArtifact (texel (i .samples) (i .width) (i .channels)) (i .width) (i .height) (i .settings) (covers k) (k % i .width) (k / i .width)))

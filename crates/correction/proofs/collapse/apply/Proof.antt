@@ -12,9 +12,9 @@ use lib.Dec.{ltb}
 use lib.Arith.{digits-div, digits-mod}
 use lib.Ieee.{Float, nan}
 use denote.Ref.{now}
-use borrow.Author.Tests.{eq-eqb, ne-eqb, lt-ltb, le-ltb}
+use borrow.Author.Tests.{lt-ltb, le-ltb}
 use Rattle.numbers.specs.Scalar.{medianOf}
-use Rattle.correction.specs.Bitmap.{isError}
+use Rattle.correction.specs.Stencil.{isError}
 use Rattle.correction.specs.Collapse.{cellMedian, collapsedSample, collapsed}
 use Rattle.correction.specs.Inner.{collapsedAt}
 use Rattle.correction.proofs.bitmap.Places.{place-lt, next-row}
@@ -23,7 +23,7 @@ use Rattle.correction.proofs.collapse.apply.Statement.{statement}
 use Rattle.correction.proofs.collapse.apply.Tie as tie
 
 -- the cells with the error bit
-flags : List ℕ → ℕ → Bool
+abbrev flags : List ℕ → ℕ → Bool
 flags st k = isError (getD st k 0)
 
 record Inv (flag : ℕ → Bool) (xs₀ : List Float) (ch : ℕ) (xs : List Float) (k at : ℕ) : Type 0 where
@@ -83,14 +83,6 @@ last {flag} {xs₀} {ch} {xs} {k} {at} n i t e l =
       next = omega (arith, i .here, i .filled .len, next-row ch k, mul-le-mul-right ch (add-one-le l));
     }
 
-flagged : (st : List ℕ) (k : ℕ) → getD st k 0 % 2 ≡ 1 → flags st k ≡ true
-unfolding flags isError
-flagged st k e = eq-eqb _ _ e
-
-unflagged : (st : List ℕ) (k : ℕ) → (getD st k 0 % 2 ≡ 1 → ⊥) → flags st k ≡ false
-unfolding flags isError
-unflagged st k n = ne-eqb _ _ n
-
 abbrev Inv-loop : tie.InvT-loop
 Inv-loop stencil xs₀ ch n k₀ at₀ xs k at = Inv (flags stencil) xs₀ ch xs k at
 
@@ -100,30 +92,34 @@ abbrev μ-loop : tie.MeasureT-loop
 loop-holds : tie.Need-loop-holds Inv-loop μ-loop
 loop-holds c = record { here = rw zero-mul; filled = filled-none nan _ _ }
 
-shared-slice-read-if1 : tie.Need-shared-slice-read-if1 Inv-loop μ-loop
-shared-slice-read-if1 c = omega arith
+shared-slice-read-is-error : tie.Need-shared-slice-read-is-error Inv-loop μ-loop
+shared-slice-read-is-error c = omega arith
+
+is-error-requires : tie.Need-is-error-requires Inv-loop μ-loop
+is-error-requires c κs = tt
 
 collapse-requires : tie.Need-collapse-requires Inv-loop μ-loop
 collapse-requires c κs =
-    let l = c .before .before .before .before in
+    let t = c .before .before .before .before in
+    let l = t .before in
     let d = l .before .before .before in
-    last _ (l .loop .inv) (d .pre .0 .0) (d .pre .1) (c .before .before .before .loop-test .taken) .third
+    last _ (l .loop .inv) (d .pre .0 .0) (d .pre .1) (t .loop-test .taken) .third
 
 add-k : tie.Need-add-k Inv-loop μ-loop
 add-k c = omega arith
 
 add-at : tie.Need-add-at Inv-loop μ-loop
 add-at c =
-    let l = c .before .before .before in
+    let l = c .before .before .before .before in
     let d = l .before .before .before in
-    omega (arith, d .good, l .loop .inv .filled .len, last _ (l .loop .inv) (d .pre .0 .0) (d .pre .1) (c .before .before .loop-test .taken) .next)
+    omega (arith, d .good, l .loop .inv .filled .len, last _ (l .loop .inv) (d .pre .0 .0) (d .pre .1) (c .before .before .before .loop-test .taken) .next)
 
 loop-less : tie.Need-loop-less Inv-loop μ-loop
 loop-less c = omega arith
 
 loop-again : tie.Need-loop-again Inv-loop μ-loop
 loop-again c =
-    let l = c .before .before .before in
+    let l = c .before .before .before .before in
     let d = l .before .before .before in
     let st = now (d .args .stencil) in
     let P : List Float → Type 0 = λ z. Filled nan (collapsedSample (now (d .args .xs)) (d .args .ch) (flags st)) (now (d .args .xs)) (l .loop .at + d .args .ch) z in
@@ -131,8 +127,8 @@ loop-again c =
       here = omega (arith, l .loop .inv .here, next-row (d .args .ch) (l .loop .k));
       filled =
           ⊎-elim
-          (λ w. subst P (sym (w .5 ∙ w .2 .ensures)) (flat _ _ _ _ _ _ (l .loop .inv) (flagged st _ (w .0 .taken)) (d .pre .0 .0) (last _ (l .loop .inv) (d .pre .0 .0) (d .pre .1) (c .before .before .loop-test .taken) .third)))
-          (λ w. subst P (sym (w .1)) (kept _ _ _ _ _ _ (l .loop .inv) (unflagged st _ (w .0 .left))))
+          (λ w. subst P (sym (w .5 ∙ w .2 .ensures)) (flat _ _ _ _ _ _ (l .loop .inv) (sym (c .before .is-error .ensures) ∙ w .0 .taken) (d .pre .0 .0) (last _ (l .loop .inv) (d .pre .0 .0) (d .pre .1) (c .before .before .before .loop-test .taken) .third)))
+          (λ w. subst P (sym (w .1)) (kept _ _ _ _ _ _ (l .loop .inv) (sym (c .before .is-error .ensures) ∙ w .0 .left)))
           (c .if1 .came);
     }
 
@@ -140,7 +136,7 @@ same-length : tie.Need-same-length Inv-loop μ-loop
 same-length c = c .before .loop .inv .filled .len
 
 returns : tie.Need-returns Inv-loop μ-loop
-unfolding collapsed flags
+unfolding collapsed
 returns c =
     let l = c .before in
     let d = l .before .before .before in
@@ -153,7 +149,8 @@ apply-spec =
     Inv-loop
     μ-loop
     loop-holds
-    shared-slice-read-if1
+    shared-slice-read-is-error
+    is-error-requires
     collapse-requires
     add-k
     add-at

@@ -20,45 +20,33 @@ held c =
     let l = cell-lt (a .args .w) (a .args .h) (a .args .nx - 1) (a .args .ny - 1) (omega (arith, i)) (omega (arith, i)) in
     (i .0, i .2, omega (arith, l, a .pre .2))
 
-in-bounds-requires : tie.Need-in-bounds-requires
-in-bounds-requires c κs = search needs
+sub-k : tie.Need-sub-k
+sub-k c = held c .1
 
-sub-stencil : tie.Need-sub-stencil
-sub-stencil c = held c .1
+mul-k : tie.Need-mul-k
+mul-k c = omega (arith, c .before .before .before .good, held c .2)
 
-mul-stencil : tie.Need-mul-stencil
-mul-stencil c = omega (arith, c .before .before .before .good, held c .2)
+sub-k-2 : tie.Need-sub-k-2
+sub-k-2 c = held c .0
 
-sub-stencil-2 : tie.Need-sub-stencil-2
-sub-stencil-2 c = held c .0
+add-k : tie.Need-add-k
+add-k c = omega (arith, c .before .before .before .good, held c .2)
 
-add-stencil : tie.Need-add-stencil
-add-stencil c = omega (arith, c .before .before .before .good, held c .2)
+slice-read-set-protected : tie.Need-slice-read-set-protected
+slice-read-set-protected c = held (c .before) .2
 
 slice-write-stencil : tie.Need-slice-write-stencil
-slice-write-stencil c = held c .2
-
-same-length : tie.Need-same-length
-same-length c = search needs
+slice-write-stencil c = held (c .before .before) .2
 
 returns : tie.Need-returns
 unfolding spot
-returns c = painted-set _ _ _ (held c .2) (λ k. simp (sym (c .before .in-bounds .ensures) ∙ c .if1 .taken))
+returns c =
+    let t = c .before .before in
+    painted-set _ _ _ _ (held t .2) (c .set-protected .ensures) (λ k. simp (sym (t .before .in-bounds .ensures) ∙ t .if1 .taken))
 
 returns-2 : tie.Need-returns-2
 unfolding spot
 returns-2 c = painted-none _ _ (λ k. simp (sym (c .before .in-bounds .ensures) ∙ c .if1 .left))
 
 pub mark-spec : {M : Type 1} → statement M
-mark-spec =
-    tie.close
-    (tie.spec
-    in-bounds-requires
-    sub-stencil
-    mul-stencil
-    sub-stencil-2
-    add-stencil
-    slice-write-stencil
-    same-length
-    returns
-    returns-2)
+mark-spec = tie.close (tie.spec (λ c κs. search needs) sub-k mul-k sub-k-2 add-k slice-read-set-protected (λ c κs. search needs) slice-write-stencil (λ c. search needs) returns returns-2)

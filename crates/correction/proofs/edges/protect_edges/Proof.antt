@@ -12,13 +12,14 @@ use Rattle.correction.specs.Bitmap.{texel}
 use Rattle.detectors.specs.Config.{radius}
 use Rattle.correction.specs.Edges.{someEdge, edgesProtect}
 use Rattle.correction.specs.Inner.{painted}
+use Rattle.correction.specs.Stencil.{setProtected}
 use Rattle.correction.proofs.bitmap.Sweep.{Swept, swept, swept-none, swept-row, swept-on, swept-wrap, swept-all}
 use Rattle.correction.proofs.edges.protect_edges.Statement.{statement}
 use Rattle.correction.proofs.edges.protect_edges.Tie as tie
 
 -- what a turn leaves in the cell of column x and row y that has the byte v
 abbrev byte : List Float → ℕ → ℕ → ℕ → Float → Float → Float → ℕ → ℕ → ℕ → ℕ
-byte xs w h ch rh rv rd v x y = cond (someEdge (texel xs w ch) w h rh rv rd x y) 2 v
+byte xs w h ch rh rv rd v x y = cond (someEdge (texel xs w ch) w h rh rv rd x y) (setProtected v) v
 
 -- what the loop leaves is the stencil painted where an edge protects, rh, rv and rd being the radii of the three lengths
 ends : (xs : List Float) (w h ch : ℕ) (s : Settings) (st₀ st : List ℕ) (rh rv rd : Float) → rh ≡ radius (s .horizontal) → rv ≡ radius (s .vertical) → rd ≡ radius (s .diagonal) → st ≡ tab (length st₀) (swept (byte xs w h ch rh rv rd) w st₀) → st ≡ painted (λ k. edgesProtect (texel xs w ch) w h s (k % w) (k / w)) st₀

@@ -1,10 +1,9 @@
 -- `correction::errors::find_errors` meets its contract, by the laws of a sweep. Assumes nothing.
-use mathlib.Core.Path.{sym, subst}
-use Prim.Native.Nat.{ℕ, _-_, _<_}
+use Prim.Native.Nat.{_-_}
 use native.Mathlib.Omega.{arith}
 use lib.ListN.{length}
 use Rattle.correction.specs.Inner.{marked, found}
-use Rattle.correction.proofs.bitmap.Sweep.{Swept, swept-none, swept-on, swept-wrap, swept-all, swept-same, swept-row}
+use Rattle.correction.proofs.bitmap.Sweep.{Swept, swept-none, swept-on, swept-wrap, swept-all, swept-row}
 use Rattle.correction.proofs.errors.find_errors.Statement.{statement}
 use Rattle.correction.proofs.errors.find_errors.Tie as tie
 
@@ -24,8 +23,7 @@ marked-byte-requires : tie.Need-marked-byte-requires Inv-loop μ-loop
 marked-byte-requires c κs =
     let d = c .before .before .before .before .before in
     let i = c .before .before .loop .inv in
-    let b = swept-row _ _ _ i _ (d .pre .1 .0) (c .before .loop-test .taken) in
-    (d .pre .0, ((i .column, b), subst (λ (n : ℕ). n < 255) (sym (swept-same _ _ _ i)) (d .pre .1 .1 (c .before .before .loop .k))))
+    (d .pre .0, (i .column, swept-row _ _ _ i _ (d .pre .1) (c .before .loop-test .taken)))
 
 slice-write-stencil : tie.Need-slice-write-stencil Inv-loop μ-loop
 slice-write-stencil c = omega (arith, c .before .before .before .loop .inv .filled .len)
@@ -40,7 +38,7 @@ add-y : tie.Need-add-y Inv-loop μ-loop
 add-y c =
     let l = c .before .before .before .before in
     let d = l .before .before .before in
-    omega (arith, d .pre .0 .high, swept-row _ _ _ (l .loop .inv) _ (d .pre .1 .0) (c .before .before .before .loop-test .taken))
+    omega (arith, d .pre .0 .high, swept-row _ _ _ (l .loop .inv) _ (d .pre .1) (c .before .before .before .loop-test .taken))
 
 loop-less : tie.Need-loop-less Inv-loop μ-loop
 loop-less c = omega arith

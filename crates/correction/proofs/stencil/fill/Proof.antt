@@ -1,11 +1,11 @@
--- `correction::pass::fill` meets its contract, by the laws of a loop that fills. Assumes nothing.
+-- `correction::stencil::fill` meets its contract, by the laws of a loop that fills. Assumes nothing.
 use mathlib.Core.Path.{refl}
 use Prim.Native.Nat.{_-_}
 use native.Mathlib.Omega.{arith}
 use lib.ListN.{length}
 use Rattle.ground.proofs.Laws.Fill.{Filled, filled-none, filled-more, filled-all}
-use Rattle.correction.proofs.pass.fill.Statement.{statement}
-use Rattle.correction.proofs.pass.fill.Tie as tie
+use Rattle.correction.proofs.stencil.fill.Statement.{statement}
+use Rattle.correction.proofs.stencil.fill.Tie as tie
 
 abbrev Inv-loop : tie.InvT-loop
 Inv-loop stencil₀ v i₀ stencil i = Filled 0 (λ k. v) stencil₀ i stencil
