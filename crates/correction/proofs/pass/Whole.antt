@@ -1,6 +1,5 @@
 -- The stages of the pass put together, over plain lists. Assumes nothing.
 --     protects-all, protects-none, protects-some   the protected cells of each mode, as protection leaves them
---     find-ready, apply-ready                      what finding and collapsing ask for holds after the stage before
 --     switched-off, done                           what all stages leave, in mode Disabled and in the others
 --     refused, answered                            the answer and what is left, of a refusal and of an accepted input
 use mathlib.Core.Path.{_≡_, refl, sym, _∙_, ap, subst}
@@ -86,19 +85,10 @@ module _ (i : Input) where
         )
 
     module _ (st₁ : List ℕ) (p : st₁ ≡ tab (length (i .stencil)) (λ k. cond (protects i (k % i .width) (k / i .width)) 2 0)) where
-      pub find-ready : Sized (i .width) (i .height) (i .channels) (i .samples) × (length st₁ ≡ i .height * i .width)
-      find-ready = (s, ap length p ∙ tab-length (length (i .stencil)) _ ∙ m)
-
       module _ (st₂ : List ℕ) (q : st₂ ≡ found (i .samples) (i .width) (i .height) (i .channels) (i .settings) st₁) where
         found-as : st₂ ≡ tab (length (i .stencil)) (λ k. stencilByte (covers k) (hasArtifact (texel (i .samples) (i .width) (i .channels)) (i .width) (i .height) (i .settings) (covers k) (k % i .width) (k / i .width)))
         unfolding covers
         found-as = q ∙ found-staged (i .samples) (i .width) (i .height) (i .channels) (i .settings) (length (i .stencil)) covers st₁ p
-
-        found-long : length st₂ ≡ length (i .stencil)
-        found-long = ap length found-as ∙ tab-length (length (i .stencil)) _
-
-        pub apply-ready : ((3 ≤ i .channels) × (i .channels ≤ 4)) × (length (i .samples) ≡ length st₂ * i .channels)
-        apply-ready = ((s .some, s .few), s .long ∙ ap (λ (n : ℕ). n * i .channels) (sym (found-long ∙ m)))
 
         module _ (e : i .mode ≡ 0 → ⊥) where
           staged : st₂ ≡ tab (length (i .stencil)) (byteAt i)
