@@ -57,22 +57,13 @@ fn protects(r: f32, lower: bool, t: Centre, n: [f32; 3]) -> bool
 
 // The same with the neighbour at column nx and row ny, counted from 1.
 // Where the texel is too far by itself the neighbour is not looked at.
-fn as_either(
-    xs: &[f32],
-    b: Bitmap,
-    r: f32,
-    lower: bool,
-    t: Centre,
-    nx: usize,
-    ny: usize,
-) -> bool
+fn as_either(xs: &[f32], b: Bitmap, r: f32, lower: bool, t: Centre, nx: usize, ny: usize) -> bool
     requires { ⌜ Sized (b .width) (b .height) (b .channels) (now xs) ⌝ }
     requires { ⌜ Centred (now xs) (b .width) (b .height) (b .channels) t ⌝ }
     ensures { λ v. ⌜ v ≡ asEither lower (texel (now (xs .entry)) (b .width) (b .channels)) (b .width) (b .height) r (t .x) (t .y) nx ny ⌝ }
 {
     edge::away(t.median) < r
-        && (bitmap::in_bounds(b, nx, ny)
-            && protects(r, lower, t, bitmap::neighbour(xs, b, nx, ny)))
+        && (bitmap::in_bounds(b, nx, ny) && protects(r, lower, t, bitmap::neighbour(xs, b, nx, ny)))
 }
 
 // Some pair with one half of the neighbours protects the texel of t.
@@ -106,8 +97,7 @@ fn some_edge(xs: &[f32], b: Bitmap, r: Radii, x: usize, y: usize) -> bool
         behind: x + 2,
         level: y,
     };
-    reaches(edge::away(t.median), r)
-        && (some_of(xs, b, r, t, above) || some_of(xs, b, r, t, below))
+    reaches(edge::away(t.median), r) && (some_of(xs, b, r, t, above) || some_of(xs, b, r, t, below))
 }
 
 // The byte of a cell, with its protected bit set where a pair protects its texel.

@@ -95,14 +95,7 @@ fn some_diagonal(xs: &[f32], b: Bitmap, s: Settings, protected: bool, t: Centre)
 }
 
 // Texel x, y has an artifact towards some neighbour.
-fn has_artifact(
-    xs: &[f32],
-    b: Bitmap,
-    s: Settings,
-    protected: bool,
-    x: usize,
-    y: usize,
-) -> bool
+fn has_artifact(xs: &[f32], b: Bitmap, s: Settings, protected: bool, x: usize, y: usize) -> bool
     requires { ⌜ Sized (b .width) (b .height) (b .channels) (now xs) ⌝ }
     requires { ⌜ (x < b .width) × (y < b .height) ⌝ }
     ensures { λ r. ⌜ r ≡ Errors.hasArtifact (texel (now (xs .entry)) (b .width) (b .channels)) (b .width) (b .height) s protected x y ⌝ }

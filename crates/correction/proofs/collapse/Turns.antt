@@ -90,10 +90,13 @@ module _ (flag : ℕ → Bool) (xs₀ : List Float) (w h ch : ℕ) where
       where
         f : ℕ → Float
         f = collapsedSample xs₀ ch flag
+
         there : place w ch (at .x) (at .y) 0 ≡ at .number * ch
         there = rw (i .on .here, add-zero)
+
         third : at .number * ch + 2 < length xs
         third = omega (arith, i .filled .len, s .long, place-lt ch (at .number) (h * w) (s .some) (turning-cell l))
+
         go : (b : Bool) → flag (at .number) ≡ b → Filled nan f xs₀ (at .number * ch + ch) (cond b (collapsedAt xs (at .number * ch)) xs)
         go true p = flat flag xs₀ ch xs (at .number) (at .number * ch) refl (i .filled) p (s .some) third
         go false p = kept flag xs₀ ch xs (at .number) (at .number * ch) refl (i .filled) p

@@ -100,10 +100,13 @@ far-edge tex w h rh rv rd x y d e p = rw (sym (lower-half tex w h rh rv rd x y),
   where
     first : (lt d rh ≡ false) × ((lt d rv || lt d rd) ≡ false)
     first = both-fail (lt d rh) (lt d rv || lt d rd) p
+
     second : (lt d rv ≡ false) × (lt d rd ≡ false)
     second = both-fail (lt d rv) (lt d rd) (first .1)
+
     not-below : (r : Float) → lt d r ≡ false → lt (distance (texelMedian (tex x y))) r ≡ false
     not-below r f = ap (λ (z : Float). lt z r) (sym e) ∙ f
+
     none : (lower : Bool) (ahead behind level : ℕ) → someOf lower tex w h rh rv rd x y ahead behind level ≡ false
     none lower ahead behind level =
         unfold someOf in
