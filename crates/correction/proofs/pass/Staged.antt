@@ -7,8 +7,8 @@
 use mathlib.Core.Path.{_≡_, refl, _∙_, ap, subst}
 use mathlib.Core.Bool.{Bool, true, false, cond, _&&_}
 use mathlib.Core.List.{List}
-use Prim.Native.Nat.{ℕ, zero, suc, _+_, _*_, _/_, _%_, _<_}
-use native.Mathlib.Nat.{zero-lt-suc, not-suc-le-zero, suc-le-suc-iff, mul-zero, div-lt-iff-lt-mul}
+use Prim.Native.Nat.{ℕ, zero, suc, _*_, _/_, _%_, _<_}
+use native.Mathlib.Nat.{zero-lt-suc, not-suc-le-zero, mul-zero, div-lt-iff-lt-mul}
 use lib.ListN.{length, getD}
 use lib.Dec.{ltb}
 use lib.Seq.{ext-getD}

@@ -2,12 +2,11 @@
 --     protects-all, protects-none, protects-some   the protected cells of each mode, as protection leaves them
 --     switched-off, done                           what all stages leave, in mode Disabled and in the others
 --     refused, answered                            the answer and what is left, of a refusal and of an accepted input
-use mathlib.Core.Path.{_≡_, refl, sym, _∙_, ap, subst}
+use mathlib.Core.Path.{_≡_, refl, sym, _∙_, ap}
 use mathlib.Core.Bool.{Bool, true, false, cond, _||_}
 use mathlib.Core.List.{List}
-use Prim.Native.Nat.{ℕ, zero, suc, _*_, _/_, _%_, _<_, _≤_}
+use Prim.Native.Nat.{ℕ, _*_, _/_, _%_, _<_}
 use native.Mathlib.Nat.{mul-comm}
-use native.Mathlib.Omega.{arith}
 use lib.Dec.{eqb}
 use lib.ListN.{length, getD}
 use lib.Ieee.{Float}

@@ -1,6 +1,6 @@
 -- Setting one bit of a byte: the bit is set, all others are as they were, and setting it again changes nothing. Assumes nothing.
 use mathlib.Core.Path.{_≡_}
-use mathlib.Core.Bool.{Bool, true, false, cond}
+use mathlib.Core.Bool.{true, false}
 use mathlib.Core.Logic.{dite}
 use Prim.Native.Nat.{ℕ, _+_, _/_, _%_}
 use native.Mathlib.Decide.{ℕ-discrete}

@@ -1,6 +1,5 @@
 -- `correction::collapse::apply` meets its contract, by the laws of a sweep that collapses. Assumes nothing.
-use mathlib.Core.Path.{sym, subst}
-use Prim.Native.Nat.{ℕ, _-_, _<_}
+use Prim.Native.Nat.{_-_}
 use native.Mathlib.Omega.{arith}
 use lib.ListN.{length}
 use Rattle.correction.proofs.collapse.Turns.{flags, Turning, turning-none, turning-sized, turning-cell, turning-next, turning-all}

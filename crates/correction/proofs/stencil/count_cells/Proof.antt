@@ -44,32 +44,11 @@ Inv-loop stencil p₀ e₀ i₀ p e i = Inv stencil p e i
 abbrev μ-loop : tie.MeasureT-loop
 μ-loop stencil p₀ e₀ i₀ p e i = length stencil - i
 
-loop-holds : tie.Need-loop-holds Inv-loop μ-loop
-loop-holds c = begins _
-
-shared-slice-read-p : tie.Need-shared-slice-read-p Inv-loop μ-loop
-shared-slice-read-p c = omega arith
-
-cast-p : tie.Need-cast-p Inv-loop μ-loop
-cast-p c = omega arith
-
 add-p : tie.Need-add-p Inv-loop μ-loop
 add-p c = omega (arith, few _ _ _ _ (c .before .before .loop .inv) .0)
 
-shared-slice-read-e : tie.Need-shared-slice-read-e Inv-loop μ-loop
-shared-slice-read-e c = omega arith
-
-cast-e : tie.Need-cast-e Inv-loop μ-loop
-cast-e c = omega arith
-
 add-e : tie.Need-add-e Inv-loop μ-loop
 add-e c = omega (arith, few _ _ _ _ (c .before .before .before .loop .inv) .1)
-
-add-i : tie.Need-add-i Inv-loop μ-loop
-add-i c = omega arith
-
-loop-less : tie.Need-loop-less Inv-loop μ-loop
-loop-less c = omega arith
 
 loop-again : tie.Need-loop-again Inv-loop μ-loop
 loop-again c = turns _ _ _ _ (c .before .before .before .loop .inv) (omega arith)
@@ -78,19 +57,4 @@ returns : tie.Need-returns Inv-loop μ-loop
 returns c = let r = ends _ _ _ _ (c .before .loop .inv) (c .loop-test .left) in rw (r .0, r .1)
 
 pub count-cells-spec : {M : Type 1} → statement M
-count-cells-spec =
-    tie.close
-    (tie.spec
-    Inv-loop
-    μ-loop
-    loop-holds
-    shared-slice-read-p
-    cast-p
-    add-p
-    shared-slice-read-e
-    cast-e
-    add-e
-    add-i
-    loop-less
-    loop-again
-    returns)
+count-cells-spec = tie.close (tie.spec Inv-loop μ-loop (λ c. begins _) (λ c. omega arith) (λ c. omega arith) add-p (λ c. omega arith) (λ c. omega arith) add-e (λ c. omega arith) (λ c. omega arith) loop-again returns)
