@@ -1,4 +1,5 @@
--- Where texels and cells lie, and the loops over them.
+-- Where texels and cells lie, and the sweeps over them.
+pub mod Centres
 pub mod Painted
 pub mod Places
 pub mod Sweep

@@ -1,9 +1,9 @@
--- Bitmap and index rules: row 0 at the bottom, channels interleaved, and what a stencil cell's byte says. Definitions only.
-use Prim.Native.Nat.{ℕ, _+_, _*_, _/_, _%_}
-use mathlib.Core.Bool.{Bool, cond, _&&_}
+-- Bitmap and index rules: row 0 at the bottom, channels interleaved. Definitions only.
+use Prim.Native.Nat.{ℕ, _+_, _*_}
+use mathlib.Core.Bool.{Bool, _&&_}
 use mathlib.Core.List.{List, [], _∷_}
 use lib.ListN.{getD}
-use lib.Dec.{eqb, leb, ltb}
+use lib.Dec.{leb, ltb}
 use lib.Ieee.{Float, nan}
 
 -- the number of texel x, y in a bitmap of width w, which is its stencil cell
@@ -21,14 +21,3 @@ texel xs w ch x y = getD xs (place w ch x y 0) nan ∷ getD xs (place w ch x y 1
 -- Column nx and row ny, counted from 1, are inside: so 0 and the size plus 1 are the outside's nearest.
 unfoldable pub inBounds : ℕ → ℕ → ℕ → ℕ → Bool
 inBounds w h nx ny = ltb 0 nx && (leb nx w && (ltb 0 ny && leb ny h))
-
--- the byte of a stencil cell: value 2 where it is protected, and value 1 where it has an error
-unfoldable pub stencilByte : Bool → Bool → ℕ
-stencilByte protected error = cond protected 2 0 + cond error 1 0
-
--- what the byte says
-unfoldable pub isProtected : ℕ → Bool
-isProtected v = eqb (v / 2 % 2) 1
-
-unfoldable pub isError : ℕ → Bool
-isError v = eqb (v % 2) 1

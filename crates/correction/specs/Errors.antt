@@ -1,4 +1,4 @@
--- Finding: which texels get bit 1. Definitions only.
+-- Finding: which texels get bit 1. Of four texels a is the one that is judged, b lies in its row, c in its column and d across. Definitions only.
 use Prim.Native.Nat.{ℕ, _+_, _-_}
 use mathlib.Core.Bool.{Bool, true, false, _&&_, _||_}
 use mathlib.Core.List.{List, [], _∷_}
@@ -10,33 +10,33 @@ use Rattle.detectors.specs.Config.{sideSpan, diagonalSpan}
 use Rattle.detectors.specs.Linear.{hasLinearArtifact}
 use Rattle.detectors.specs.Diagonal.{hasDiagonalArtifact}
 
--- texel c, whose median is m, against the side neighbour at column nx and row ny, counted from 1
+-- texel a, whose median is m, against the side neighbour at column nx and row ny, counted from 1
 unfoldable pub sideArtifact : (ℕ → ℕ → List Float) → ℕ → ℕ → Float → Bool → Float → List Float → ℕ → ℕ → Bool
-sideArtifact tex w h span protected m c nx ny = inBounds w h nx ny && hasLinearArtifact span protected m c (tex (nx - 1) (ny - 1))
+sideArtifact tex w h span protected m a nx ny = inBounds w h nx ny && hasLinearArtifact span protected m a (tex (nx - 1) (ny - 1))
 
 -- the four side neighbours: left, below, right, above
 unfoldable pub someSide : (ℕ → ℕ → List Float) → ℕ → ℕ → Float → Float → Bool → Float → List Float → ℕ → ℕ → Bool
-someSide tex w h hs vs protected m c x y =
-    sideArtifact tex w h hs protected m c x (y + 1)
-    || (sideArtifact tex w h vs protected m c (x + 1) y
-    || (sideArtifact tex w h hs protected m c (x + 2) (y + 1) || sideArtifact tex w h vs protected m c (x + 1) (y + 2)))
+someSide tex w h hs vs protected m a x y =
+    sideArtifact tex w h hs protected m a x (y + 1)
+    || (sideArtifact tex w h vs protected m a (x + 1) y
+    || (sideArtifact tex w h hs protected m a (x + 2) (y + 1) || sideArtifact tex w h vs protected m a (x + 1) (y + 2)))
 
--- texel c at x, y against the diagonal neighbour at column nx and row ny, counted from 1: with it the neighbours in the row and in the column
+-- texel a at x, y against the diagonal neighbour at column nx and row ny, counted from 1: with it the neighbours in the row and in the column
 unfoldable pub diagonalArtifact : (ℕ → ℕ → List Float) → ℕ → ℕ → Float → Bool → Float → List Float → ℕ → ℕ → ℕ → ℕ → Bool
-diagonalArtifact tex w h span protected m c x y nx ny =
-    inBounds w h nx ny && hasDiagonalArtifact span protected m (c ∷ tex (nx - 1) y ∷ tex x (ny - 1) ∷ tex (nx - 1) (ny - 1) ∷ [])
+diagonalArtifact tex w h span protected m a x y nx ny =
+    inBounds w h nx ny && hasDiagonalArtifact span protected m (a ∷ tex (nx - 1) y ∷ tex x (ny - 1) ∷ tex (nx - 1) (ny - 1) ∷ [])
 
 -- the four diagonal neighbours: lower left, lower right, upper left, upper right
 unfoldable pub someDiagonal : (ℕ → ℕ → List Float) → ℕ → ℕ → Float → Bool → Float → List Float → ℕ → ℕ → Bool
-someDiagonal tex w h ds protected m c x y =
-    diagonalArtifact tex w h ds protected m c x y x y
-    || (diagonalArtifact tex w h ds protected m c x y (x + 2) y
-    || (diagonalArtifact tex w h ds protected m c x y x (y + 2) || diagonalArtifact tex w h ds protected m c x y (x + 2) (y + 2)))
+someDiagonal tex w h ds protected m a x y =
+    diagonalArtifact tex w h ds protected m a x y x y
+    || (diagonalArtifact tex w h ds protected m a x y (x + 2) y
+    || (diagonalArtifact tex w h ds protected m a x y x (y + 2) || diagonalArtifact tex w h ds protected m a x y (x + 2) (y + 2)))
 
--- some in-bounds neighbour of texel c at x, y, whose median is m
+-- some in-bounds neighbour of texel a at x, y, whose median is m
 unfoldable pub someArtifact : (ℕ → ℕ → List Float) → ℕ → ℕ → Settings → Bool → Float → List Float → ℕ → ℕ → Bool
-someArtifact tex w h s protected m c x y =
-    someSide tex w h (sideSpan s false) (sideSpan s true) protected m c x y || someDiagonal tex w h (diagonalSpan s) protected m c x y
+someArtifact tex w h s protected m a x y =
+    someSide tex w h (sideSpan s false) (sideSpan s true) protected m a x y || someDiagonal tex w h (diagonalSpan s) protected m a x y
 
 -- Texel x, y gets bit 1 exactly when some in-bounds neighbour, pair and root gives an artifact.
 unfoldable pub hasArtifact : (ℕ → ℕ → List Float) → ℕ → ℕ → Settings → Bool → ℕ → ℕ → Bool

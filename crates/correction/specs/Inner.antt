@@ -4,13 +4,18 @@ use Prim.Native.Nat.{ℕ, zero, suc, _+_, _-_, _*_, _/_, _%_, _≤_, _<_}
 use mathlib.Core.Bool.{Bool, cond, _&&_, _||_}
 use mathlib.Core.List.{List}
 use lib.ListN.{getD, length, set}
-use lib.Dec.{eqb, ltb, leb}
+use lib.Dec.{eqb, ltb}
 use lib.IntN.{ℤ, pos, negsuc}
 use lib.Ieee.{Float, nan}
 use Rattle.numbers.specs.Scalar.{medianOf}
 use Rattle.detectors.specs.declared.config.Settings.{Settings}
+use Rattle.detectors.specs.Texel.{texelMedian}
+use Rattle.detectors.specs.Edge.{protectsLower, protectsUpper}
+use Rattle.correction.specs.declared.bitmap.Visit.{Visit}
+use Rattle.correction.specs.declared.bitmap.Centre.{Centre}
 use Rattle.ground.specs.Lists.{tab, any}
-use Rattle.correction.specs.Bitmap.{cell, texel, inBounds, isProtected}
+use Rattle.correction.specs.Bitmap.{cell, texel, inBounds}
+use Rattle.correction.specs.Stencil.{isProtected, setProtected, setError}
 use Rattle.correction.specs.Corners.{shared, lower, beside}
 use Rattle.correction.specs.Errors.{hasArtifact}
 
@@ -30,9 +35,26 @@ pub record Outlined (colours : List ℕ) (coords : List Float) (ends : List ℕ)
   pub rising : (i : ℕ) → suc i < length ends → getD ends i 0 ≤ getD ends (suc i) 0
   pub within : (i : ℕ) → i < length ends → getD ends i 0 ≤ length colours
 
--- a stencil with 2 in each cell for which a test holds
+-- A sweep over the cells of a bitmap, row by row, has come to this one, or past the last row.
+pub record Reached (w h : ℕ) (at : Visit) : Type 0 where
+  pub here : at .number ≡ cell w (at .x) (at .y)
+  pub column : at .x < w
+  pub row : at .y ≤ h
+
+-- texel x, y as the centre of its neighbours
+abbrev pub centreOf : List Float → ℕ → ℕ → ℕ → ℕ → Centre
+centreOf xs w ch x y = record { texel = texel xs w ch x y; median = texelMedian (texel xs w ch x y); x = x; y = y }
+
+-- t is such a centre
+pub record Centred (xs : List Float) (w h ch : ℕ) (t : Centre) : Type 0 where
+  pub column : t .x < w
+  pub row : t .y < h
+  pub samples : t .texel ≡ texel xs w ch (t .x) (t .y)
+  pub median : t .median ≡ texelMedian (t .texel)
+
+-- a stencil with the protected bit set in each cell for which a test holds, and all other bits as they were
 unfoldable pub painted : (ℕ → Bool) → List ℕ → List ℕ
-painted p st = tab (length st) (λ k. cond (p k) 2 (getD st k 0))
+painted p st = tab (length st) (λ k. cond (p k) (setProtected (getD st k 0)) (getD st k 0))
 
 -- cell k is that of column nx and row ny, counted from 1, which are inside
 unfoldable pub spot : ℕ → ℕ → ℕ → ℕ → ℕ → Bool
@@ -54,13 +76,28 @@ cornerHits w colours coords from end i k =
 unfoldable pub contourHits : ℕ → List ℕ → List Float → ℕ → ℕ → ℕ → Bool
 contourHits w colours coords from end k = any (end - from) (λ j. cornerHits w colours coords from end (from + j) k)
 
+-- the pair of texel a with n protects it, as the lower one or as the other one
+unfoldable pub protectsAs : Bool → Float → List Float → List Float → Bool
+protectsAs lower r a n = cond lower (protectsLower r a n) (protectsUpper r n a)
+
+-- the same of texel x, y and the neighbour at column nx and row ny, counted from 1
+unfoldable pub asEither : Bool → (ℕ → ℕ → List Float) → ℕ → ℕ → Float → ℕ → ℕ → ℕ → ℕ → Bool
+asEither lower tex w h r x y nx ny = inBounds w h nx ny && protectsAs lower r (tex x y) (tex (nx - 1) (ny - 1))
+
+-- some pair of texel x, y with one half of its neighbours: that in its row, that in its column and the two across
+unfoldable pub someOf : Bool → (ℕ → ℕ → List Float) → ℕ → ℕ → Float → Float → Float → ℕ → ℕ → ℕ → ℕ → ℕ → Bool
+someOf lower tex w h rh rv rd x y ahead behind level =
+    asEither lower tex w h rh x y ahead (y + 1)
+    || (asEither lower tex w h rv x y (x + 1) level
+    || (asEither lower tex w h rd x y ahead level || asEither lower tex w h rd x y behind level))
+
 -- the three samples from a place on set to their median
 abbrev pub collapsedAt : List Float → ℕ → List Float
 collapsedAt xs at = let m = medianOf (getD xs at nan) (getD xs (at + 1) nan) (getD xs (at + 2) nan) in set (set (set xs at m) (at + 1) m) (at + 2) m
 
--- the byte of a cell with its error bit added where the texel is flagged
+-- the byte of a cell with its error bit set where the texel is flagged
 unfoldable pub marked : List Float → ℕ → ℕ → ℕ → Settings → ℕ → ℕ → ℕ → ℕ
-marked xs w h ch s v x y = cond (hasArtifact (texel xs w ch) w h s (isProtected v) x y) (v + 1) v
+marked xs w h ch s v x y = cond (hasArtifact (texel xs w ch) w h s (isProtected v) x y) (setError v) v
 
 -- the stencil after finding
 unfoldable pub found : List Float → ℕ → ℕ → ℕ → Settings → List ℕ → List ℕ

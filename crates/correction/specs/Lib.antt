@@ -1,4 +1,5 @@
 pub mod Bitmap
+pub mod Stencil
 pub mod Checks
 pub mod Corners
 pub mod Edges

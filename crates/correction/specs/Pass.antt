@@ -1,6 +1,6 @@
 -- The pass: what it answers, and what it leaves in the stencil and in the samples, for every input. Definitions only.
 use mathlib.Core.Path.{_≡_}
-use Prim.Native.Nat.{ℕ, _+_, _*_, _/_, _%_}
+use Prim.Native.Nat.{ℕ, _*_, _/_, _%_}
 use mathlib.Core.Bool.{Bool, true, false, cond, not, _&&_, _||_}
 use mathlib.Core.List.{List}
 use lib.ListN.{getD, length}
@@ -10,7 +10,8 @@ use Rattle.correction.specs.declared.pass.Answer.{Answer}
 use Rattle.correction.specs.declared.pass.Answer.the-variants.{Accepted, Refused}
 use Rattle.correction.specs.declared.pass.Counts.{Counts}
 use Rattle.ground.specs.Lists.{tab, count}
-use Rattle.correction.specs.Bitmap.{texel, stencilByte, isProtected, isError}
+use Rattle.correction.specs.Bitmap.{texel}
+use Rattle.correction.specs.Stencil.{stencilByte, isProtected, isError}
 use Rattle.detectors.specs.Config.{disabled, edgePriority, edgeOnly}
 use Rattle.correction.specs.Checks.{Input, input, accepted, refusalNumber, refusalPlace}
 use Rattle.correction.specs.Corners.{contours, cornersProtect}

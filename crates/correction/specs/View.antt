@@ -6,7 +6,8 @@ use lib.ListN.{getD, length, take, drop}
 use lib.Dec.{eqb, ltb}
 use lib.Ieee.{Float}
 use denote.Ref.{RefT, ptr, now}
-use Rattle.correction.specs.Bitmap.{cell, isError}
+use Rattle.correction.specs.Bitmap.{cell}
+use Rattle.correction.specs.Stencil.{isError}
 use Rattle.correction.specs.Checks.{sizeRefusal}
 
 -- checks 1 to 4 pass for both bitmaps, and x, y is inside

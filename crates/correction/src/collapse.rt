@@ -1,10 +1,15 @@
 // Collapsing the flagged texels to a single channel's value.
 ghost use mathlib.Core.Path.{_≡_};
-ghost use Prim.Native.Nat.{_+_, _*_, _≤_, _<_};
+ghost use Prim.Native.Nat.{_+_, _*_, _<_};
+ghost use mathlib.Core.Bool.{cond};
 ghost use lib.ListN.{length, getD};
-ghost use Rattle.correction.specs.Bitmap.{isError};
+ghost use Rattle.correction.specs.Bitmap.{place};
 ghost use Rattle.correction.specs.Collapse as Collapse;
-ghost use Rattle.correction.specs.Inner.{collapsedAt};
+ghost use Rattle.correction.specs.Inner.{Sized, collapsedAt};
+ghost use Rattle.correction.specs.Stencil.{isError};
+use crate::bitmap;
+use crate::bitmap::Bitmap;
+use crate::stencil;
 use numbers::scalar;
 
 // The three samples from a place on become their median.
@@ -18,20 +23,27 @@ fn collapse(xs: &mut [f32], at: usize)
     xs[at + 2] = m;
 }
 
-// Collapses each texel whose cell has the error bit.
-pub fn apply(stencil: &[u8], xs: &mut [f32], ch: usize)
-    requires { ⌜ (3 ≤ ch) × (ch ≤ 4) ⌝ }
-    requires { ⌜ length (now xs) ≡ length (now stencil) * ch ⌝ }
-    ensures { λ _. ⌜ now (xs .exit) ≡ Collapse.collapsed (now (xs .entry)) ch (λ k. isError (getD (now (stencil .entry)) k 0)) ⌝ }
+// Those of texel x, y where the byte v of its cell has the error bit.
+fn collapse_flagged(xs: &mut [f32], b: Bitmap, v: u8, x: usize, y: usize)
+    requires { ⌜ Sized (b .width) (b .height) (b .channels) (now xs) ⌝ }
+    requires { ⌜ (x < b .width) × (y < b .height) ⌝ }
+    ensures { λ _. ⌜ now (xs .exit) ≡ cond (isError v) (collapsedAt (now (xs .entry)) (place (b .width) (b .channels) x y 0)) (now (xs .entry)) ⌝ }
 {
-    let n = stencil.len();
-    let mut k = 0usize;
-    let mut at = 0usize;
-    while k < n {
-        if stencil[k] % 2 == 1 {
-            collapse(xs, at);
-        }
-        k += 1;
-        at += ch;
+    if stencil::is_error(v) {
+        collapse(xs, bitmap::place(b, x, y));
+    }
+}
+
+// Collapses each texel whose cell has the error bit.
+pub fn apply(stencil: &[u8], xs: &mut [f32], b: Bitmap)
+    requires { ⌜ Sized (b .width) (b .height) (b .channels) (now xs) ⌝ }
+    requires { ⌜ length (now stencil) ≡ b .height * b .width ⌝ }
+    ensures { λ _. ⌜ now (xs .exit) ≡ Collapse.collapsed (now (xs .entry)) (b .channels) (λ k. isError (getD (now (stencil .entry)) k 0)) ⌝ }
+{
+    let mut at = bitmap::first(b);
+    while at.y < b.height {
+        let k = at.number;
+        collapse_flagged(xs, b, stencil[k], at.x, at.y);
+        at = bitmap::next(b, at);
     }
 }

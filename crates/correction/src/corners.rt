@@ -7,6 +7,8 @@ ghost use lib.ListN.{length, getD};
 ghost use Rattle.correction.specs.Corners as Corners;
 ghost use Rattle.correction.specs.Inner.{Outlined, painted, spot, clip, cornerHits, contourHits};
 use crate::bitmap;
+use crate::bitmap::Bitmap;
+use crate::stencil;
 use detectors::constants;
 use numbers::rounding;
 
@@ -33,13 +35,19 @@ fn lower(x: f64, n: usize) -> usize
     clipped(rounding::floor_to_i64(x - constants::HALF_WIDE), n)
 }
 
-// The cell at column nx and row ny, counted from 1, where they are inside.
+// The cell at column nx and row ny, counted from 1, where they are inside. A stencil is a bitmap of one channel.
 fn mark(stencil: &mut [u8], w: usize, h: usize, nx: usize, ny: usize)
     requires { ⌜ (w ≤ 4096) × (h ≤ 4096) × (length (now stencil) ≡ h * w) ⌝ }
     ensures { λ _. ⌜ now (stencil .exit) ≡ painted (spot w h nx ny) (now (stencil .entry)) ⌝ }
 {
-    if bitmap::in_bounds(w, h, nx, ny) {
-        stencil[(ny - 1) * w + (nx - 1)] = 2;
+    let b = Bitmap {
+        width: w,
+        height: h,
+        channels: 1,
+    };
+    if bitmap::in_bounds(b, nx, ny) {
+        let k = bitmap::cell(b, nx - 1, ny - 1);
+        stencil[k] = stencil::set_protected(stencil[k]);
     }
 }
 

@@ -1,200 +1,133 @@
-// Finding the texels with an artifact towards a neighbour.
+// Finding the texels with an artifact towards a neighbour. Of four texels a is the one that is judged, b lies in its row, c in its column and d across.
 ghost use mathlib.Core.Path.{_≡_};
-ghost use Prim.Native.Nat.{ℕ, _*_, _<_};
+ghost use Prim.Native.Nat.{_*_, _<_};
 ghost use mathlib.Core.Bool.{true, false};
-ghost use lib.ListN.{length, getD};
+ghost use lib.ListN.{length};
+ghost use Rattle.detectors.specs.Config.{sideSpan, diagonalSpan};
 ghost use Rattle.correction.specs.Bitmap.{texel};
 ghost use Rattle.correction.specs.Errors as Errors;
-ghost use Rattle.detectors.specs.Config.{sideSpan, diagonalSpan};
 ghost use Rattle.correction.specs.Inner.{Sized, marked, found};
 use crate::bitmap;
+use crate::bitmap::Bitmap;
+use crate::bitmap::Centre;
+use crate::stencil;
 use detectors::config::Settings;
 use detectors::diagonal;
 use detectors::linear;
-use detectors::texel;
 
-// Texel c, whose median is m, against the side neighbour at column nx and row ny, counted from 1.
+// Texel a of t against the side neighbour at column nx and row ny, counted from 1.
 fn side_artifact(
     xs: &[f32],
-    w: usize,
-    h: usize,
-    ch: usize,
+    b: Bitmap,
     s: Settings,
     upright: bool,
     protected: bool,
-    m: f32,
-    c: [f32; 3],
+    t: Centre,
     nx: usize,
     ny: usize,
 ) -> bool
-    requires { ⌜ Sized w h ch (now xs) ⌝ }
-    ensures { λ r. ⌜ r ≡ Errors.sideArtifact (texel (now (xs .entry)) w ch) w h (sideSpan s upright) protected m c nx ny ⌝ }
+    requires { ⌜ Sized (b .width) (b .height) (b .channels) (now xs) ⌝ }
+    ensures { λ r. ⌜ r ≡ Errors.sideArtifact (texel (now (xs .entry)) (b .width) (b .channels)) (b .width) (b .height) (sideSpan s upright) protected (t .median) (t .texel) nx ny ⌝ }
 {
-    bitmap::in_bounds(w, h, nx, ny)
+    let a = t.texel;
+    bitmap::in_bounds(b, nx, ny)
         && linear::has_linear_artifact(
             s,
             upright,
             protected,
-            m,
-            c,
-            bitmap::texel(xs, w, h, ch, nx - 1, ny - 1),
+            t.median,
+            a,
+            bitmap::neighbour(xs, b, nx, ny),
         )
 }
 
 // Left, below, right, above.
-fn some_side(
-    xs: &[f32],
-    w: usize,
-    h: usize,
-    ch: usize,
-    s: Settings,
-    protected: bool,
-    m: f32,
-    c: [f32; 3],
-    x: usize,
-    y: usize,
-) -> bool
-    requires { ⌜ Sized w h ch (now xs) ⌝ }
-    requires { ⌜ (x < w) × (y < h) ⌝ }
-    ensures { λ r. ⌜ r ≡ Errors.someSide (texel (now (xs .entry)) w ch) w h (sideSpan s false) (sideSpan s true) protected m c x y ⌝ }
+fn some_side(xs: &[f32], b: Bitmap, s: Settings, protected: bool, t: Centre) -> bool
+    requires { ⌜ Sized (b .width) (b .height) (b .channels) (now xs) ⌝ }
+    requires { ⌜ (t .x < b .width) × (t .y < b .height) ⌝ }
+    ensures { λ r. ⌜ r ≡ Errors.someSide (texel (now (xs .entry)) (b .width) (b .channels)) (b .width) (b .height) (sideSpan s false) (sideSpan s true) protected (t .median) (t .texel) (t .x) (t .y) ⌝ }
 {
-    side_artifact(xs, w, h, ch, s, false, protected, m, c, x, y + 1)
-        || (side_artifact(xs, w, h, ch, s, true, protected, m, c, x + 1, y)
-            || (side_artifact(xs, w, h, ch, s, false, protected, m, c, x + 2, y + 1)
-                || side_artifact(xs, w, h, ch, s, true, protected, m, c, x + 1, y + 2)))
+    side_artifact(xs, b, s, false, protected, t, t.x, t.y + 1)
+        || (side_artifact(xs, b, s, true, protected, t, t.x + 1, t.y)
+            || (side_artifact(xs, b, s, false, protected, t, t.x + 2, t.y + 1)
+                || side_artifact(xs, b, s, true, protected, t, t.x + 1, t.y + 2)))
 }
 
-// Texel c at x, y against the diagonal neighbour at column nx and row ny, counted from 1.
+// Texel a of t against the diagonal neighbour at column nx and row ny, counted from 1.
 fn diagonal_artifact(
     xs: &[f32],
-    w: usize,
-    h: usize,
-    ch: usize,
+    b: Bitmap,
     s: Settings,
     protected: bool,
-    m: f32,
-    c: [f32; 3],
-    x: usize,
-    y: usize,
+    t: Centre,
     nx: usize,
     ny: usize,
 ) -> bool
-    requires { ⌜ Sized w h ch (now xs) ⌝ }
-    requires { ⌜ (x < w) × (y < h) ⌝ }
-    ensures { λ r. ⌜ r ≡ Errors.diagonalArtifact (texel (now (xs .entry)) w ch) w h (diagonalSpan s) protected m c x y nx ny ⌝ }
+    requires { ⌜ Sized (b .width) (b .height) (b .channels) (now xs) ⌝ }
+    requires { ⌜ (t .x < b .width) × (t .y < b .height) ⌝ }
+    ensures { λ r. ⌜ r ≡ Errors.diagonalArtifact (texel (now (xs .entry)) (b .width) (b .channels)) (b .width) (b .height) (diagonalSpan s) protected (t .median) (t .texel) (t .x) (t .y) nx ny ⌝ }
 {
-    if !bitmap::in_bounds(w, h, nx, ny) {
-        return false;
-    }
-    let b = bitmap::texel(xs, w, h, ch, nx - 1, y);
-    let d = bitmap::texel(xs, w, h, ch, x, ny - 1);
-    let e = bitmap::texel(xs, w, h, ch, nx - 1, ny - 1);
-    diagonal::has_diagonal_artifact(s, protected, m, [c, b, d, e])
+    let a = t.texel;
+    bitmap::in_bounds(b, nx, ny)
+        && diagonal::has_diagonal_artifact(
+            s,
+            protected,
+            t.median,
+            [
+                a,
+                bitmap::texel(xs, b, nx - 1, t.y),
+                bitmap::texel(xs, b, t.x, ny - 1),
+                bitmap::neighbour(xs, b, nx, ny),
+            ],
+        )
 }
 
 // Lower left, lower right, upper left, upper right.
-fn some_diagonal(
-    xs: &[f32],
-    w: usize,
-    h: usize,
-    ch: usize,
-    s: Settings,
-    protected: bool,
-    m: f32,
-    c: [f32; 3],
-    x: usize,
-    y: usize,
-) -> bool
-    requires { ⌜ Sized w h ch (now xs) ⌝ }
-    requires { ⌜ (x < w) × (y < h) ⌝ }
-    ensures { λ r. ⌜ r ≡ Errors.someDiagonal (texel (now (xs .entry)) w ch) w h (diagonalSpan s) protected m c x y ⌝ }
+fn some_diagonal(xs: &[f32], b: Bitmap, s: Settings, protected: bool, t: Centre) -> bool
+    requires { ⌜ Sized (b .width) (b .height) (b .channels) (now xs) ⌝ }
+    requires { ⌜ (t .x < b .width) × (t .y < b .height) ⌝ }
+    ensures { λ r. ⌜ r ≡ Errors.someDiagonal (texel (now (xs .entry)) (b .width) (b .channels)) (b .width) (b .height) (diagonalSpan s) protected (t .median) (t .texel) (t .x) (t .y) ⌝ }
 {
-    diagonal_artifact(xs, w, h, ch, s, protected, m, c, x, y, x, y)
-        || (diagonal_artifact(xs, w, h, ch, s, protected, m, c, x, y, x + 2, y)
-            || (diagonal_artifact(xs, w, h, ch, s, protected, m, c, x, y, x, y + 2)
-                || diagonal_artifact(xs, w, h, ch, s, protected, m, c, x, y, x + 2, y + 2)))
+    diagonal_artifact(xs, b, s, protected, t, t.x, t.y)
+        || (diagonal_artifact(xs, b, s, protected, t, t.x + 2, t.y)
+            || (diagonal_artifact(xs, b, s, protected, t, t.x, t.y + 2)
+                || diagonal_artifact(xs, b, s, protected, t, t.x + 2, t.y + 2)))
 }
 
-fn some_artifact(
-    xs: &[f32],
-    w: usize,
-    h: usize,
-    ch: usize,
-    s: Settings,
-    protected: bool,
-    m: f32,
-    c: [f32; 3],
-    x: usize,
-    y: usize,
-) -> bool
-    requires { ⌜ Sized w h ch (now xs) ⌝ }
-    requires { ⌜ (x < w) × (y < h) ⌝ }
-    ensures { λ r. ⌜ r ≡ Errors.someArtifact (texel (now (xs .entry)) w ch) w h s protected m c x y ⌝ }
+// Texel x, y has an artifact towards some neighbour.
+fn has_artifact(xs: &[f32], b: Bitmap, s: Settings, protected: bool, x: usize, y: usize) -> bool
+    requires { ⌜ Sized (b .width) (b .height) (b .channels) (now xs) ⌝ }
+    requires { ⌜ (x < b .width) × (y < b .height) ⌝ }
+    ensures { λ r. ⌜ r ≡ Errors.hasArtifact (texel (now (xs .entry)) (b .width) (b .channels)) (b .width) (b .height) s protected x y ⌝ }
 {
-    some_side(xs, w, h, ch, s, protected, m, c, x, y)
-        || some_diagonal(xs, w, h, ch, s, protected, m, c, x, y)
+    let t = bitmap::centre_at(xs, b, x, y);
+    some_side(xs, b, s, protected, t) || some_diagonal(xs, b, s, protected, t)
 }
 
-fn has_artifact(
-    xs: &[f32],
-    w: usize,
-    h: usize,
-    ch: usize,
-    s: Settings,
-    protected: bool,
-    x: usize,
-    y: usize,
-) -> bool
-    requires { ⌜ Sized w h ch (now xs) ⌝ }
-    requires { ⌜ (x < w) × (y < h) ⌝ }
-    ensures { λ r. ⌜ r ≡ Errors.hasArtifact (texel (now (xs .entry)) w ch) w h s protected x y ⌝ }
+// The byte of a cell, with its error bit set where its texel is flagged.
+fn marked_byte(xs: &[f32], b: Bitmap, s: Settings, v: u8, x: usize, y: usize) -> u8
+    requires { ⌜ Sized (b .width) (b .height) (b .channels) (now xs) ⌝ }
+    requires { ⌜ (x < b .width) × (y < b .height) ⌝ }
+    ensures { λ r. ⌜ r ≡ marked (now (xs .entry)) (b .width) (b .height) (b .channels) s v x y ⌝ }
 {
-    let c = bitmap::texel(xs, w, h, ch, x, y);
-    some_artifact(xs, w, h, ch, s, protected, texel::median(c), c, x, y)
-}
-
-fn marked_byte(
-    xs: &[f32],
-    w: usize,
-    h: usize,
-    ch: usize,
-    s: Settings,
-    v: u8,
-    x: usize,
-    y: usize,
-) -> u8
-    requires { ⌜ Sized w h ch (now xs) ⌝ }
-    requires { ⌜ (x < w) × (y < h) ⌝ }
-    requires { ⌜ v < 255 ⌝ }
-    ensures { λ r. ⌜ r ≡ marked (now (xs .entry)) w h ch s v x y ⌝ }
-{
-    let protected = v / 2 % 2 == 1;
-    if has_artifact(xs, w, h, ch, s, protected, x, y) {
-        v + 1
+    if has_artifact(xs, b, s, stencil::is_protected(v), x, y) {
+        stencil::set_error(v)
     } else {
         v
     }
 }
 
 // Sets the error bit of each flagged texel's cell.
-pub fn find_errors(stencil: &mut [u8], xs: &[f32], w: usize, h: usize, ch: usize, s: Settings)
-    requires { ⌜ Sized w h ch (now xs) ⌝ }
-    requires { ⌜ length (now stencil) ≡ h * w ⌝ }
-    requires { ⌜ ((k : ℕ) → getD (now stencil) k 0 < 255) ⌝ }
-    ensures { λ _. ⌜ now (stencil .exit) ≡ found (now (xs .entry)) w h ch s (now (stencil .entry)) ⌝ }
+pub fn find_errors(stencil: &mut [u8], xs: &[f32], b: Bitmap, s: Settings)
+    requires { ⌜ Sized (b .width) (b .height) (b .channels) (now xs) ⌝ }
+    requires { ⌜ length (now stencil) ≡ b .height * b .width ⌝ }
+    ensures { λ _. ⌜ now (stencil .exit) ≡ found (now (xs .entry)) (b .width) (b .height) (b .channels) s (now (stencil .entry)) ⌝ }
 {
-    let n = stencil.len();
-    let mut x = 0usize;
-    let mut y = 0usize;
-    let mut k = 0usize;
-    while k < n {
+    let mut at = bitmap::first(b);
+    while at.y < b.height {
+        let k = at.number;
         let v = stencil[k];
-        stencil[k] = marked_byte(xs, w, h, ch, s, v, x, y);
-        k += 1;
-        x += 1;
-        if x == w {
-            x = 0;
-            y += 1;
-        }
+        stencil[k] = marked_byte(xs, b, s, v, at.x, at.y);
+        at = bitmap::next(b, at);
     }
 }

@@ -6,4 +6,5 @@ mod corners;
 mod edges;
 mod errors;
 pub mod pass;
+mod stencil;
 pub mod view;

@@ -7,11 +7,13 @@ ghost use Rattle.correction.specs.Checks.{input};
 ghost use Rattle.ground.specs.Lists.{tab};
 ghost use Rattle.correction.specs.Pass as Pass;
 ghost use Rattle.correction.specs.Inner.{Sized, Outlined};
+use crate::bitmap::Bitmap;
 use crate::checks;
 use crate::collapse;
 use crate::corners;
 use crate::edges;
 use crate::errors;
+use crate::stencil;
 use detectors::config;
 use detectors::config::Settings;
 
@@ -27,59 +29,30 @@ pub enum Answer {
     Refused(u8, usize),
 }
 
-fn fill(stencil: &mut [u8], v: u8)
-    ensures { λ _. ⌜ now (stencil .exit) ≡ tab (length (now (stencil .entry))) (λ k. v) ⌝ }
-{
-    let mut i = 0usize;
-    while i < stencil.len() {
-        stencil[i] = v;
-        i += 1;
-    }
-}
-
-fn count_cells(stencil: &[u8]) -> Counts
-    ensures { λ r. ⌜ r ≡ Pass.countsOf (now (stencil .entry)) ⌝ }
-{
-    let mut p = 0usize;
-    let mut e = 0usize;
-    let mut i = 0usize;
-    while i < stencil.len() {
-        p += (stencil[i] / 2 % 2) as usize;
-        e += (stencil[i] % 2) as usize;
-        i += 1;
-    }
-    Counts {
-        protected: p,
-        error: e,
-    }
-}
-
 // Sets the protected bit as the mode wants it, and clears the rest.
 fn protect(
     stencil: &mut [u8],
     xs: &[f32],
-    w: usize,
-    h: usize,
-    ch: usize,
+    b: Bitmap,
     mode: u8,
     s: Settings,
     colours: &[u8],
     coords: &[f64],
     ends: &[usize],
 )
-    requires { ⌜ Sized w h ch (now xs) ⌝ }
-    requires { ⌜ length (now stencil) ≡ h * w ⌝ }
+    requires { ⌜ Sized (b .width) (b .height) (b .channels) (now xs) ⌝ }
+    requires { ⌜ length (now stencil) ≡ b .height * b .width ⌝ }
     requires { ⌜ Outlined (now colours) (now coords) (now ends) ⌝ }
-    ensures { λ _. ⌜ now (stencil .exit) ≡ tab (length (now (stencil .entry))) (λ k. cond (Pass.protects (input w h ch (now (xs .entry)) (now (stencil .entry)) mode s (now (colours .entry)) (now (coords .entry)) (now (ends .entry))) (k % w) (k / w)) 2 0) ⌝ }
+    ensures { λ _. ⌜ now (stencil .exit) ≡ tab (length (now (stencil .entry))) (λ k. cond (Pass.protects (input (b .width) (b .height) (b .channels) (now (xs .entry)) (now (stencil .entry)) mode s (now (colours .entry)) (now (coords .entry)) (now (ends .entry))) (k % b .width) (k / b .width)) 2 0) ⌝ }
 {
     if mode == config::EDGE_ONLY {
-        fill(stencil, 2);
+        stencil::fill(stencil, stencil::PROTECTED);
         return;
     }
-    fill(stencil, 0);
+    stencil::fill(stencil, 0);
     if mode == config::EDGE_PRIORITY {
-        corners::protect_corners(stencil, w, h, colours, coords, ends);
-        edges::protect_edges(stencil, xs, w, h, ch, s);
+        corners::protect_corners(stencil, b.width, b.height, colours, coords, ends);
+        edges::protect_edges(stencil, xs, b, s);
     }
 }
 
@@ -87,28 +60,26 @@ fn protect(
 fn correct(
     stencil: &mut [u8],
     xs: &mut [f32],
-    w: usize,
-    h: usize,
-    ch: usize,
+    b: Bitmap,
     mode: u8,
     s: Settings,
     colours: &[u8],
     coords: &[f64],
     ends: &[usize],
 )
-    requires { ⌜ Sized w h ch (now xs) ⌝ }
-    requires { ⌜ length (now stencil) ≡ h * w ⌝ }
+    requires { ⌜ Sized (b .width) (b .height) (b .channels) (now xs) ⌝ }
+    requires { ⌜ length (now stencil) ≡ b .height * b .width ⌝ }
     requires { ⌜ Outlined (now colours) (now coords) (now ends) ⌝ }
-    ensures leaves { λ _. ⌜ now (stencil .exit) ≡ Pass.passStencil (input w h ch (now (xs .entry)) (now (stencil .entry)) mode s (now (colours .entry)) (now (coords .entry)) (now (ends .entry))) ⌝ }
-    ensures writes { λ _. ⌜ now (xs .exit) ≡ Pass.passSamples (input w h ch (now (xs .entry)) (now (stencil .entry)) mode s (now (colours .entry)) (now (coords .entry)) (now (ends .entry))) ⌝ }
+    ensures leaves { λ _. ⌜ now (stencil .exit) ≡ Pass.passStencil (input (b .width) (b .height) (b .channels) (now (xs .entry)) (now (stencil .entry)) mode s (now (colours .entry)) (now (coords .entry)) (now (ends .entry))) ⌝ }
+    ensures writes { λ _. ⌜ now (xs .exit) ≡ Pass.passSamples (input (b .width) (b .height) (b .channels) (now (xs .entry)) (now (stencil .entry)) mode s (now (colours .entry)) (now (coords .entry)) (now (ends .entry))) ⌝ }
 {
     if mode == config::DISABLED {
-        fill(stencil, 0);
+        stencil::fill(stencil, 0);
         return;
     }
-    protect(stencil, xs, w, h, ch, mode, s, colours, coords, ends);
-    errors::find_errors(stencil, xs, w, h, ch, s);
-    collapse::apply(stencil, xs, ch);
+    protect(stencil, xs, b, mode, s, colours, coords, ends);
+    errors::find_errors(stencil, xs, b, s);
+    collapse::apply(stencil, xs, b);
 }
 
 // The error correction of a bitmap, in place.
@@ -143,17 +114,11 @@ pub fn msdf_error_correction(
     if f.number != 0 {
         return Answer::Refused(f.number, f.place);
     }
-    correct(
-        stencil,
-        samples,
-        width,
-        height,
-        channels,
-        mode,
-        settings,
-        colours,
-        coords,
-        ends,
-    );
-    Answer::Accepted(count_cells(stencil))
+    let b = Bitmap {
+        width: width,
+        height: height,
+        channels: channels,
+    };
+    correct(stencil, samples, b, mode, settings, colours, coords, ends);
+    Answer::Accepted(stencil::count_cells(stencil))
 }

@@ -11,7 +11,7 @@ use lib.Dec.{eqb, leb}
 use lib.Ieee.{Float, nan, binary32, toBits}
 use lib.ListN.{length, getD}
 use borrow.Author.Tests.{eqb-true, leb-true, not-false}
-use Rattle.correction.specs.Bitmap.{stencilByte, isError}
+use Rattle.correction.specs.Stencil.{stencilByte, isError}
 use Rattle.correction.specs.Checks.{Input, badChannels, badSide, sizeRefusal, refusalNumber, accepted}
 use Rattle.correction.specs.Collapse.{cellMedian, collapsedSample, collapsed}
 use Rattle.ground.specs.Lists.{tab}

@@ -7,7 +7,7 @@ use native.Mathlib.Nat.{add-mul, mul-suc, lt-of-le-of-lt, mod-le, div-le-self}
 use native.Mathlib.Omega.{arith}
 use lib.Ieee.{Float, binary32, toBits}
 use lib.ListN.{length, getD, length-append}
-use Rattle.correction.specs.Bitmap.{isError}
+use Rattle.correction.specs.Stencil.{isError}
 use Rattle.reading.specs.Lists.{joined}
 use Rattle.reading.specs.Text.{hexPair, hex, numbered, badText, refusedText, sizeText, countsText, marksText, rowText, rowsText, texelText, flaggedText, acceptedText}
 use Rattle.reading.proofs.Laws.Decimal.{decimal-length, decimal-length-u64}

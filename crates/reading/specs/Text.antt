@@ -5,7 +5,7 @@ use mathlib.Core.List.{List, [], _∷_, _++_}
 use lib.ListN.{getD}
 use lib.Dec.{ltb}
 use lib.Ieee.{Float, binary32, toBits}
-use Rattle.correction.specs.Bitmap.{isProtected, isError}
+use Rattle.correction.specs.Stencil.{isProtected, isError}
 use Rattle.reading.specs.Decimal.{decimal}
 use Rattle.reading.specs.Lists.{joined, listed}
 

@@ -7,7 +7,8 @@ use Rattle.numbers.specs.Rounding.{narrowOf}
 use Rattle.numbers.specs.SquareRoot.{rootBy, root, rootOf, sqrtOf}
 use Rattle.numbers.specs.EquationSolver.{isLinear, linearRoots, discriminant, upperRoot, lowerRoot, squareRoots, rootsOf}
 use Rattle.ground.specs.Lists.{tab, any, some, count, first}
-use Rattle.correction.specs.Bitmap.{texel, inBounds, stencilByte, isProtected, isError}
+use Rattle.correction.specs.Bitmap.{texel, inBounds}
+use Rattle.correction.specs.Stencil.{stencilByte, isProtected, isError}
 use Rattle.detectors.specs.Texel.{texelMedian}
 use Rattle.detectors.specs.Config.{sideSpan, diagonalSpan, radius}
 use Rattle.correction.specs.Checks.{badChannels, badSide, sizeRefusal, badLength, settingsPlace, oversize, samplesPlace, badOutlines, endBefore, badEnd, endsPlace, badEnds, badSegment, segmentsPlace, outlineRefusal, refusalNumber, accepted}

@@ -27,7 +27,7 @@ use Rattle.numbers.proofs.Laws.Order.{nought}
 use Rattle.detectors.specs.declared.config.Settings.{Settings}
 use Rattle.correction.specs.declared.pass.Answer.{Answer}
 use Rattle.ground.specs.Lists.{count}
-use Rattle.correction.specs.Bitmap.{isError}
+use Rattle.correction.specs.Stencil.{isError}
 use Rattle.detectors.specs.Config.{disabled}
 use Rattle.correction.specs.Checks.{Input, badLength, accepted}
 use Rattle.correction.specs.Corners.{Segment, contours}

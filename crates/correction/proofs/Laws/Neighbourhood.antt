@@ -19,7 +19,8 @@ use borrow.Fn.Kinds.{Dens}
 use borrow.Author.Tests.{lt-ltb, le-leb}
 use Rattle.ground.proofs.Laws.Bools.{guarded}
 use Rattle.detectors.specs.declared.config.Settings.{Settings}
-use Rattle.correction.specs.Bitmap.{cell, inBounds, isProtected, isError}
+use Rattle.correction.specs.Bitmap.{cell, inBounds}
+use Rattle.correction.specs.Stencil.{isProtected, isError}
 use Rattle.detectors.specs.Config.{disabled, sideSpan, diagonalSpan}
 use Rattle.correction.specs.Checks.{Input, accepted}
 use Rattle.detectors.specs.Linear.{hasLinearArtifact}

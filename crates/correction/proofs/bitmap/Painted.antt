@@ -1,29 +1,31 @@
 -- The laws of `painted`. Assumes nothing.
 use mathlib.Core.Path.{_≡_, refl, sym, _∙_, ap, subst}
-use mathlib.Core.Bool.{Bool, true, false, cond, _&&_, _||_}
+use mathlib.Core.Bool.{Bool, true, false, cond, _||_}
 use mathlib.Core.List.{List}
 use mathlib.Core.Logic.{dite}
-use Prim.Native.Nat.{ℕ, suc, _+_, _<_}
+use Prim.Native.Nat.{ℕ, _+_, _<_}
 use native.Mathlib.Decide.{ℕ-discrete}
 use native.Mathlib.Numerals.{add-one}
 use lib.Dec.{eqb}
 use lib.ListN.{length, getD, set, length-set}
 use lib.Seq.{getD-set-same, getD-set-other, ext-getD}
 use borrow.Author.Tests.{eq-eqb, ne-eqb}
-use Rattle.ground.specs.Lists.{tab, any}
+use Rattle.ground.specs.Lists.{any}
 use Rattle.ground.proofs.Laws.Fill.{tab-length, tab-at}
 use Rattle.correction.specs.Inner.{painted}
+use Rattle.correction.specs.Stencil.{setProtected}
+use Rattle.correction.proofs.stencil.Bits.{protected-again}
 
 pub painted-length : (p : ℕ → Bool) (st : List ℕ) → length (painted p st) ≡ length st
 unfolding painted
-painted-length p st = tab-length (length st) (λ k. cond (p k) 2 (getD st k 0))
+painted-length p st = tab-length (length st) (λ k. cond (p k) (setProtected (getD st k 0)) (getD st k 0))
 
-pub painted-at : (p : ℕ → Bool) (st : List ℕ) (k : ℕ) → k < length st → getD (painted p st) k 0 ≡ cond (p k) 2 (getD st k 0)
+pub painted-at : (p : ℕ → Bool) (st : List ℕ) (k : ℕ) → k < length st → getD (painted p st) k 0 ≡ cond (p k) (setProtected (getD st k 0)) (getD st k 0)
 unfolding painted
-painted-at p st k l = tab-at (length st) (λ j. cond (p j) 2 (getD st j 0)) k 0 l
+painted-at p st k l = tab-at (length st) (λ j. cond (p j) (setProtected (getD st j 0)) (getD st j 0)) k 0 l
 
 -- a list that has at each index what `painted p st` has
-pub is-painted : (p : ℕ → Bool) (st xs : List ℕ) → length xs ≡ length st → ((k : ℕ) → k < length st → getD xs k 0 ≡ cond (p k) 2 (getD st k 0)) → xs ≡ painted p st
+pub is-painted : (p : ℕ → Bool) (st xs : List ℕ) → length xs ≡ length st → ((k : ℕ) → k < length st → getD xs k 0 ≡ cond (p k) (setProtected (getD st k 0)) (getD st k 0)) → xs ≡ painted p st
 is-painted p st xs e h =
     ext-getD 0 xs (painted p st) (e ∙ sym (painted-length p st))
     (λ k l. let b : k < length st = subst (λ (n : ℕ). k < n) e l in h k b ∙ sym (painted-at p st k b))
@@ -31,10 +33,12 @@ is-painted p st xs e h =
 pub painted-none : (p : ℕ → Bool) (st : List ℕ) → ((k : ℕ) → p k ≡ false) → st ≡ painted p st
 painted-none p st h = is-painted p st st refl (λ k l. simp (h k))
 
-pub painted-set : (p : ℕ → Bool) (st : List ℕ) (i : ℕ) → i < length st → ((k : ℕ) → p k ≡ eqb k i) → set st i 2 ≡ painted p st
-painted-set p st i l h =
-    is-painted p st (set st i 2) (length-set st i 2)
-    (λ k b. dite (ℕ-discrete k i) (λ e. simp (h k, eq-eqb k i e) (ap (λ (j : ℕ). getD (set st i 2) j 0) e ∙ getD-set-same st i 2 0 l)) (λ n. simp (h k, ne-eqb k i n) (getD-set-other st i k 2 0 n)))
+pub painted-set : (p : ℕ → Bool) (st : List ℕ) (i v : ℕ) → i < length st → v ≡ setProtected (getD st i 0) → ((k : ℕ) → p k ≡ eqb k i) → set st i v ≡ painted p st
+painted-set p st i v l e h =
+    is-painted p st (set st i v) (length-set st i v)
+    (λ k b.
+    dite (ℕ-discrete k i) (λ f. simp (h k, eq-eqb k i f) (rw f (getD-set-same st i v 0 l ∙ e)))
+    (λ n. simp (h k, ne-eqb k i n) (getD-set-other st i k v 0 n)))
 
 pub painted-same : (p q : ℕ → Bool) (st : List ℕ) → ((k : ℕ) → p k ≡ q k) → painted p st ≡ painted q st
 painted-same p q st h = is-painted q st (painted p st) (painted-length p st) (λ k l. painted-at p st k l ∙ simp (h k))
@@ -43,15 +47,21 @@ painted-same p q st h = is-painted q st (painted p st) (painted-length p st) (λ
 pub painted-same-below : (p q : ℕ → Bool) (st : List ℕ) → ((k : ℕ) → k < length st → p k ≡ q k) → painted p st ≡ painted q st
 painted-same-below p q st h = is-painted q st (painted p st) (painted-length p st) (λ k l. painted-at p st k l ∙ simp (h k l))
 
-cond-or : (a b : Bool) (v : ℕ) → cond b 2 (cond a 2 v) ≡ cond (a || b) 2 v
-cond-or true true v = refl
-cond-or true false v = refl
-cond-or false b v = refl
+-- what painting leaves of a byte
+brush : Bool → ℕ → ℕ
+brush b v = cond b (setProtected v) v
+
+twice : (a b : Bool) (v : ℕ) → brush b (brush a v) ≡ brush (a || b) v
+unfolding brush
+twice true true v = protected-again v
+twice true false v = refl
+twice false b v = refl
 
 pub painted-then : (p q : ℕ → Bool) (st : List ℕ) → painted q (painted p st) ≡ painted (λ k. p k || q k) st
+unfolding brush
 painted-then p q st =
     is-painted (λ k. p k || q k) st (painted q (painted p st)) (painted-length q (painted p st) ∙ painted-length p st)
-    (λ k l. painted-at q (painted p st) k (subst (λ (n : ℕ). k < n) (sym (painted-length p st)) l) ∙ ap (λ (v : ℕ). cond (q k) 2 v) (painted-at p st k l) ∙ cond-or (p k) (q k) (getD st k 0))
+    (λ k l. painted-at q (painted p st) k (subst (λ (n : ℕ). k < n) (sym (painted-length p st)) l) ∙ ap (brush (q k)) (painted-at p st k l) ∙ twice (p k) (q k) (getD st k 0))
 
 -- a loop over i
 pub painted-zero : (f : ℕ → ℕ → Bool) (st : List ℕ) → st ≡ painted (λ k. any 0 (λ j. f j k)) st

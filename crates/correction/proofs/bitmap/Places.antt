@@ -1,8 +1,8 @@
 -- Where texels lie: the only products of two variables in the crate. Assumes nothing.
 use mathlib.Core.Path.{_≡_, sym, subst}
 use mathlib.Core.Bool.{true, _&&_, and-eq-true-iff}
-use Prim.Native.Nat.{ℕ, zero, _+_, _-_, _*_, _<_, _≤_}
-use native.Mathlib.Nat.{le-mul-of-pos-right, lt-of-mul-lt-mul-right, suc-mul}
+use Prim.Native.Nat.{ℕ, _+_, _-_, _*_, _<_, _≤_}
+use native.Mathlib.Nat.{le-mul-of-pos-right, lt-of-mul-lt-mul-right, suc-mul, mul-le-mul-right}
 use native.Mathlib.Numerals.{add-one}
 use native.Mathlib.Omega.{arith}
 use lib.Arith.{digits-lt}
@@ -13,6 +13,10 @@ use Rattle.correction.specs.Bitmap.{inBounds}
 -- cell x, y is one of the h * w
 pub cell-lt : (w h x y : ℕ) → x < w → y < h → y * w + x < h * w
 cell-lt w h x y p q = digits-lt q p
+
+-- and there are not many
+pub cell-small : (w h x y : ℕ) → x < w → y < h → w ≤ 4096 → h ≤ 4096 → y * w + x < 16777216
+cell-small w h x y p q r s = omega (arith, cell-lt w h x y p q, mul-le-mul-right w s)
 
 -- the last of texel k's first three samples is one of the n * ch
 pub place-lt : (ch k n : ℕ) → 3 ≤ ch → k < n → k * ch + 2 < n * ch

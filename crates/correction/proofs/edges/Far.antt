@@ -1,6 +1,6 @@
 -- Texels too far from the outline for any pair to protect: a size is at most its rounded sum with another. Assumes nothing.
 use mathlib.Core.Path.{_≡_, refl, sym, _∙_, ap, subst}
-use mathlib.Core.Bool.{Bool, true, false, not, _&&_, _||_, true≢false, and-false}
+use mathlib.Core.Bool.{Bool, true, false, not, _||_, and-false}
 use mathlib.Core.List.{List}
 use Prim.Native.Nat.{ℕ, _+_, _-_}
 use lib.Dec.{T}
@@ -15,7 +15,8 @@ use Rattle.numbers.proofs.Laws.Exact.{add-zero-eq}
 use Rattle.detectors.specs.Texel.{texelMedian}
 use Rattle.detectors.specs.Edge.{near, pairProtects, protectsLower, protectsUpper}
 use Rattle.correction.specs.Edges.{asLower, asUpper, someLower, someUpper, someEdge}
-use Rattle.ground.proofs.Laws.Bools.{holds, held}
+use Rattle.correction.specs.Inner.{protectsAs, asEither, someOf}
+use Rattle.ground.proofs.Laws.Bools.{holds, held, both-fail}
 
 -- how far a median is from the outline
 abbrev pub distance : Float → Float
@@ -72,47 +73,42 @@ far-left r am bm = refuted (near r am bm) (lt (distance am) r) (within-left r am
 far-right : (r am bm : Float) → lt (distance bm) r ≡ false → near r am bm ≡ false
 far-right r am bm p = near-comm r am bm ∙ far-left r bm am p
 
--- A pair does not protect its lower texel a, whose median m is d away, where d is not below its radius.
-pub far-lower : (r : Float) (a : List Float) (m d : Float) → m ≡ texelMedian a → d ≡ distance m → lt d r ≡ false → (b : List Float) → protectsLower r a b ≡ false
-unfolding protectsLower pairProtects
-far-lower r a m d p q e b = rw (far-left r (texelMedian a) (texelMedian b) (rw (q, p) at e))
-
--- Nor its other texel b.
-pub far-upper : (r : Float) (b : List Float) (m d : Float) → m ≡ texelMedian b → d ≡ distance m → lt d r ≡ false → (a : List Float) → protectsUpper r a b ≡ false
-unfolding protectsUpper pairProtects
-far-upper r b m d p q e a = rw (far-right r (texelMedian a) (texelMedian b) (rw (q, p) at e))
+-- A pair does not protect a texel whose median is not within its radius.
+far-pair : (lower : Bool) (r : Float) (a n : List Float) → lt (distance (texelMedian a)) r ≡ false → protectsAs lower r a n ≡ false
+unfolding protectsAs protectsLower protectsUpper pairProtects
+far-pair true r a n p = rw (far-left r (texelMedian a) (texelMedian n) p)
+far-pair false r a n p = rw (far-right r (texelMedian n) (texelMedian a) p)
 
 -- ---- all pairs of a texel
-no-lower : (tex : ℕ → ℕ → List Float) (w h : ℕ) (r : Float) (x y nx ny : ℕ) → lt (distance (texelMedian (tex x y))) r ≡ false → asLower tex w h r x y nx ny ≡ false
-unfolding asLower
-no-lower tex w h r x y nx ny p = rw (far-lower r (tex x y) _ _ refl refl p, and-false)
+pub no-pair : (lower : Bool) (tex : ℕ → ℕ → List Float) (w h : ℕ) (r : Float) (x y nx ny : ℕ) → lt (distance (texelMedian (tex x y))) r ≡ false → asEither lower tex w h r x y nx ny ≡ false
+unfolding asEither
+no-pair lower tex w h r x y nx ny p = rw (far-pair lower r (tex x y) (tex (nx - 1) (ny - 1)) p, and-false)
 
-no-upper : (tex : ℕ → ℕ → List Float) (w h : ℕ) (r : Float) (x y nx ny : ℕ) → lt (distance (texelMedian (tex x y))) r ≡ false → asUpper tex w h r x y nx ny ≡ false
-unfolding asUpper
-no-upper tex w h r x y nx ny p = rw (far-upper r (tex x y) _ _ refl refl p, and-false)
+-- the pairs in which the texel is the lower one, and those in which it is the other one
+pub lower-half : (tex : ℕ → ℕ → List Float) (w h : ℕ) (rh rv rd : Float) (x y : ℕ) → someOf true tex w h rh rv rd x y (x + 2) x (y + 2) ≡ someLower tex w h rh rv rd x y
+unfolding someOf asEither protectsAs someLower asLower
+lower-half tex w h rh rv rd x y = refl
 
-first : (a b : Bool) → (a || b) ≡ false → a ≡ false
-first true b p = p
-first false b p = refl
-
-second : (a b : Bool) → (a || b) ≡ false → b ≡ false
-second true b p = absurd (true≢false p)
-second false b p = p
-
-none : (a b c d : Bool) → a ≡ false → b ≡ false → c ≡ false → d ≡ false → (a || (b || (c || d))) ≡ false
-none a b c d p q r s = rw (p, q, r, s)
-
-neither : (a b : Bool) → a ≡ false → b ≡ false → (a || b) ≡ false
-neither a b p q = rw (p, q)
+pub upper-half : (tex : ℕ → ℕ → List Float) (w h : ℕ) (rh rv rd : Float) (x y : ℕ) → someOf false tex w h rh rv rd x y x (x + 2) y ≡ someUpper tex w h rh rv rd x y
+unfolding someOf asEither protectsAs someUpper asUpper
+upper-half tex w h rh rv rd x y = refl
 
 -- No pair protects a texel whose median is d away where d is below none of the three radii.
 pub far-edge : (tex : ℕ → ℕ → List Float) (w h : ℕ) (rh rv rd : Float) (x y : ℕ) (d : Float) → d ≡ distance (texelMedian (tex x y)) → (lt d rh || (lt d rv || lt d rd)) ≡ false → someEdge tex w h rh rv rd x y ≡ false
-unfolding someEdge someLower someUpper
-far-edge tex w h rh rv rd x y d e p =
-    let fh = ap (λ (z : Float). lt z rh) (sym e) ∙ first (lt d rh) (lt d rv || lt d rd) p in
-    let rest = second (lt d rh) (lt d rv || lt d rd) p in
-    let fv = ap (λ (z : Float). lt z rv) (sym e) ∙ first (lt d rv) (lt d rd) rest in
-    let fd = ap (λ (z : Float). lt z rd) (sym e) ∙ second (lt d rv) (lt d rd) rest in
-    neither _ _
-    (none _ _ _ _ (no-lower tex w h rh x y (x + 2) (y + 1) fh) (no-lower tex w h rv x y (x + 1) (y + 2) fv) (no-lower tex w h rd x y (x + 2) (y + 2) fd) (no-lower tex w h rd x y x (y + 2) fd))
-    (none _ _ _ _ (no-upper tex w h rh x y x (y + 1) fh) (no-upper tex w h rv x y (x + 1) y fv) (no-upper tex w h rd x y x y fd) (no-upper tex w h rd x y (x + 2) y fd))
+unfolding someEdge
+far-edge tex w h rh rv rd x y d e p = rw (sym (lower-half tex w h rh rv rd x y), sym (upper-half tex w h rh rv rd x y), none true (x + 2) x (y + 2), none false x (x + 2) y)
+  where
+    first : (lt d rh ≡ false) × ((lt d rv || lt d rd) ≡ false)
+    first = both-fail (lt d rh) (lt d rv || lt d rd) p
+
+    second : (lt d rv ≡ false) × (lt d rd ≡ false)
+    second = both-fail (lt d rv) (lt d rd) (first .1)
+
+    not-below : (r : Float) → lt d r ≡ false → lt (distance (texelMedian (tex x y))) r ≡ false
+    not-below r f = ap (λ (z : Float). lt z r) (sym e) ∙ f
+
+    none : (lower : Bool) (ahead behind level : ℕ) → someOf lower tex w h rh rv rd x y ahead behind level ≡ false
+    none lower ahead behind level =
+        unfold someOf in
+        let fd = not-below rd (second .1) in
+        rw (no-pair lower tex w h rh x y ahead (y + 1) (not-below rh (first .0)), no-pair lower tex w h rv x y (x + 1) level (not-below rv (second .0)), no-pair lower tex w h rd x y ahead level fd, no-pair lower tex w h rd x y behind level fd)

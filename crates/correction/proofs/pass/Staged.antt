@@ -7,32 +7,32 @@
 use mathlib.Core.Path.{_≡_, refl, _∙_, ap, subst}
 use mathlib.Core.Bool.{Bool, true, false, cond, _&&_}
 use mathlib.Core.List.{List}
-use Prim.Native.Nat.{ℕ, zero, suc, _+_, _*_, _/_, _%_, _<_}
-use native.Mathlib.Nat.{zero-lt-suc, not-suc-le-zero, suc-le-suc-iff, mul-zero, div-lt-iff-lt-mul}
+use Prim.Native.Nat.{ℕ, zero, suc, _*_, _/_, _%_, _<_}
+use native.Mathlib.Nat.{zero-lt-suc, not-suc-le-zero, mul-zero, div-lt-iff-lt-mul}
 use lib.ListN.{length, getD}
 use lib.Dec.{ltb}
 use lib.Seq.{ext-getD}
 use lib.Ieee.{Float, nan}
 use Rattle.detectors.specs.declared.config.Settings.{Settings}
 use Rattle.ground.specs.Lists.{tab}
-use Rattle.correction.specs.Bitmap.{texel, stencilByte, isProtected, isError}
+use Rattle.correction.specs.Bitmap.{texel}
+use Rattle.correction.specs.Stencil.{stencilByte, isProtected, isError, setError}
 use Rattle.correction.specs.Errors.{hasArtifact}
 use Rattle.correction.specs.Collapse.{cellMedian, collapsedSample, collapsed}
 use Rattle.correction.specs.Inner.{marked, found}
 use Rattle.ground.proofs.Laws.Fill.{tab-length, tab-at, tab-same}
 
-added-two : (e : Bool) → cond e (2 + 1) 2 ≡ 2 + cond e 1 0
-added-two true = refl
-added-two false = refl
-
-added-none : (e : Bool) → cond e (0 + 1) 0 ≡ 0 + cond e 1 0
-added-none true = refl
-added-none false = refl
+added : (p e : Bool) → cond e (setError (cond p 2 0)) (cond p 2 0) ≡ stencilByte p e
+unfolding setError isError stencilByte
+added true true = refl
+added true false = refl
+added false true = refl
+added false false = refl
 
 marked-staged : (xs : List Float) (w h ch : ℕ) (s : Settings) (p : Bool) (x y : ℕ) → marked xs w h ch s (cond p 2 0) x y ≡ stencilByte p (hasArtifact (texel xs w ch) w h s p x y)
-unfolding marked isProtected stencilByte
-marked-staged xs w h ch s true x y = added-two (hasArtifact (texel xs w ch) w h s true x y)
-marked-staged xs w h ch s false x y = added-none (hasArtifact (texel xs w ch) w h s false x y)
+unfolding marked isProtected
+marked-staged xs w h ch s true x y = added true (hasArtifact (texel xs w ch) w h s true x y)
+marked-staged xs w h ch s false x y = added false (hasArtifact (texel xs w ch) w h s false x y)
 
 pub found-staged : (xs : List Float) (w h ch : ℕ) (s : Settings) (n : ℕ) (p : ℕ → Bool) (st : List ℕ) → st ≡ tab n (λ k. cond (p k) 2 0) → found xs w h ch s st ≡ tab n (λ k. stencilByte (p k) (hasArtifact (texel xs w ch) w h s (p k) (k % w) (k / w)))
 unfolding found

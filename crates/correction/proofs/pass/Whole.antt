@@ -1,14 +1,12 @@
 -- The stages of the pass put together, over plain lists. Assumes nothing.
 --     protects-all, protects-none, protects-some   the protected cells of each mode, as protection leaves them
---     find-ready, apply-ready                      what finding and collapsing ask for holds after the stage before
 --     switched-off, done                           what all stages leave, in mode Disabled and in the others
 --     refused, answered                            the answer and what is left, of a refusal and of an accepted input
-use mathlib.Core.Path.{_≡_, refl, sym, _∙_, ap, subst}
+use mathlib.Core.Path.{_≡_, refl, sym, _∙_, ap}
 use mathlib.Core.Bool.{Bool, true, false, cond, _||_}
 use mathlib.Core.List.{List}
-use Prim.Native.Nat.{ℕ, zero, suc, _*_, _/_, _%_, _<_, _≤_}
+use Prim.Native.Nat.{ℕ, _*_, _/_, _%_, _<_}
 use native.Mathlib.Nat.{mul-comm}
-use native.Mathlib.Omega.{arith}
 use lib.Dec.{eqb}
 use lib.ListN.{length, getD}
 use lib.Ieee.{Float}
@@ -16,7 +14,8 @@ use borrow.Author.Tests.{eq-eqb, ne-eqb}
 use Rattle.correction.specs.declared.pass.Answer.the-variants.{Accepted, Refused}
 use Rattle.correction.specs.declared.pass.Counts.{Counts}
 use Rattle.ground.specs.Lists.{tab}
-use Rattle.correction.specs.Bitmap.{texel, stencilByte, isError}
+use Rattle.correction.specs.Bitmap.{texel}
+use Rattle.correction.specs.Stencil.{stencilByte, isProtected, isError, setProtected}
 use Rattle.correction.specs.Checks.{Input, accepted, refusalNumber, refusalPlace}
 use Rattle.correction.specs.Corners.{contours, cornersProtect}
 use Rattle.correction.specs.Edges.{edgesProtect}
@@ -31,23 +30,12 @@ use Rattle.correction.proofs.checks.Measures.{sizes, sized, cells}
 use Rattle.correction.proofs.checks.Passed.{passed}
 use Rattle.correction.proofs.Laws.Answer.{as-answered}
 
--- every entry of a list of 2 and 0 is below 255
-tab-small : (n : ℕ) (p : ℕ → Bool) (k : ℕ) → getD (tab n (λ j. cond (p j) 2 0)) k 0 < 255
-unfolding tab
-tab-small zero p k = omega arith
-tab-small (suc n) p zero = small (p zero)
-  where
-    small : (b : Bool) → cond b 2 0 < 255
-    small true = omega arith
-    small false = omega arith
-tab-small (suc n) p (suc k) = tab-small n (λ j. p (suc j)) k
-
 -- painting zeros
 painted-zeros : (n : ℕ) (p : ℕ → Bool) → painted p (tab n (λ k. 0)) ≡ tab n (λ k. cond (p k) 2 0)
-unfolding painted
+unfolding painted setProtected isProtected
 painted-zeros n p =
-    ap (λ (m : ℕ). tab m (λ k. cond (p k) 2 (getD (tab n (λ j. 0)) k 0))) (tab-length n (λ k. 0))
-    ∙ tab-same n _ _ (λ k l. ap (λ (v : ℕ). cond (p k) 2 v) (tab-at n (λ j. 0) k 0 l))
+    ap (λ (m : ℕ). tab m (λ k. cond (p k) (setProtected (getD (tab n (λ j. 0)) k 0)) (getD (tab n (λ j. 0)) k 0))) (tab-length n (λ k. 0))
+    ∙ tab-same n _ _ (λ k l. ap (λ (v : ℕ). cond (p k) (setProtected v) v) (tab-at n (λ j. 0) k 0 l))
 
 module _ (i : Input) where
   -- the cells that the mode protects, and the flagged ones
@@ -96,21 +84,10 @@ module _ (i : Input) where
         )
 
     module _ (st₁ : List ℕ) (p : st₁ ≡ tab (length (i .stencil)) (λ k. cond (protects i (k % i .width) (k / i .width)) 2 0)) where
-      pub find-ready : Sized (i .width) (i .height) (i .channels) (i .samples) × ((length st₁ ≡ i .height * i .width) × ((k : ℕ) → getD st₁ k 0 < 255))
-      unfolding covers
-      find-ready =
-          (s, (ap length p ∙ tab-length (length (i .stencil)) _ ∙ m, (λ k. subst (λ (l : List ℕ). getD l k 0 < 255) (sym p) (tab-small (length (i .stencil)) covers k))))
-
       module _ (st₂ : List ℕ) (q : st₂ ≡ found (i .samples) (i .width) (i .height) (i .channels) (i .settings) st₁) where
         found-as : st₂ ≡ tab (length (i .stencil)) (λ k. stencilByte (covers k) (hasArtifact (texel (i .samples) (i .width) (i .channels)) (i .width) (i .height) (i .settings) (covers k) (k % i .width) (k / i .width)))
         unfolding covers
         found-as = q ∙ found-staged (i .samples) (i .width) (i .height) (i .channels) (i .settings) (length (i .stencil)) covers st₁ p
-
-        found-long : length st₂ ≡ length (i .stencil)
-        found-long = ap length found-as ∙ tab-length (length (i .stencil)) _
-
-        pub apply-ready : ((3 ≤ i .channels) × (i .channels ≤ 4)) × (length (i .samples) ≡ length st₂ * i .channels)
-        apply-ready = ((s .some, s .few), s .long ∙ ap (λ (n : ℕ). n * i .channels) (sym (found-long ∙ m)))
 
         module _ (e : i .mode ≡ 0 → ⊥) where
           staged : st₂ ≡ tab (length (i .stencil)) (byteAt i)

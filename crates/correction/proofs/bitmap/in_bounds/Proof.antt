@@ -8,15 +8,19 @@ use Rattle.correction.proofs.bitmap.in_bounds.Tie as tie
 
 returns : tie.Need-returns
 unfolding inBounds
-returns c = and-taken refl (lt-ltb _ _ (c .before .before .if1 .taken)) (and-taken refl (le-leb _ _ (c .before .if2 .taken)) (and-taken refl (lt-ltb _ _ (c .if3 .taken)) refl))
+returns c =
+    let d = c .before .before in
+    and-taken refl (lt-ltb _ _ (d .before .before .if1 .taken)) (and-taken refl (le-leb _ _ (d .if2 .taken)) (and-taken refl (lt-ltb _ _ (c .before .if3 .taken)) refl))
 
 returns-2 : tie.Need-returns-2
 unfolding inBounds
-returns-2 c = and-taken refl (lt-ltb _ _ (c .before .before .if1 .taken)) (and-taken refl (le-leb _ _ (c .before .if2 .taken)) (and-left _ refl (le-ltb _ _ (c .if3 .left))))
+returns-2 c =
+    let d = c .before in
+    and-taken refl (lt-ltb _ _ (d .before .before .if1 .taken)) (and-taken refl (le-leb _ _ (d .if2 .taken)) (and-left _ refl (le-ltb _ _ (c .if3 .left))))
 
 returns-3 : tie.Need-returns-3
 unfolding inBounds
-returns-3 c = and-taken refl (lt-ltb _ _ (c .before .if1 .taken)) (and-left _ refl (lt-leb _ _ (c .if2 .left)))
+returns-3 c = and-taken refl (lt-ltb _ _ (c .before .before .if1 .taken)) (and-left _ refl (lt-leb _ _ (c .if2 .left)))
 
 returns-4 : tie.Need-returns-4
 unfolding inBounds

@@ -1,4 +1,4 @@
--- `correction::edges::protect_edges` meets its contract: the loop is a sweep over the cells that leaves `byte`. Assumes nothing.
+-- `correction::edges::protect_edges` meets its contract: a sweep that leaves `byte`. Assumes nothing.
 use mathlib.Core.Path.{_≡_}
 use mathlib.Core.Bool.{cond}
 use mathlib.Core.List.{List}
@@ -7,105 +7,76 @@ use native.Mathlib.Omega.{arith}
 use lib.ListN.{length}
 use lib.Ieee.{Float}
 use Rattle.detectors.specs.declared.config.Settings.{Settings}
-use Rattle.ground.specs.Lists.{tab}
-use Rattle.correction.specs.Bitmap.{texel}
 use Rattle.detectors.specs.Config.{radius}
+use Rattle.ground.specs.Lists.{tab}
+use Rattle.correction.specs.declared.bitmap.Bitmap.{Bitmap}
+use Rattle.correction.specs.declared.edges.Radii.{Radii}
+use Rattle.correction.specs.Bitmap.{texel}
 use Rattle.correction.specs.Edges.{someEdge, edgesProtect}
 use Rattle.correction.specs.Inner.{painted}
-use Rattle.correction.proofs.bitmap.Sweep.{Swept, swept, swept-none, swept-row, swept-on, swept-wrap, swept-all}
+use Rattle.correction.specs.Stencil.{setProtected}
+use Rattle.correction.proofs.bitmap.Sweep.{Swept, swept, swept-none, swept-place, swept-next, swept-all}
 use Rattle.correction.proofs.edges.protect_edges.Statement.{statement}
 use Rattle.correction.proofs.edges.protect_edges.Tie as tie
 
 -- what a turn leaves in the cell of column x and row y that has the byte v
-abbrev byte : List Float → ℕ → ℕ → ℕ → Float → Float → Float → ℕ → ℕ → ℕ → ℕ
-byte xs w h ch rh rv rd v x y = cond (someEdge (texel xs w ch) w h rh rv rd x y) 2 v
+abbrev byte : List Float → Bitmap → Radii → ℕ → ℕ → ℕ → ℕ
+byte xs b r v x y = cond (someEdge (texel xs (b .width) (b .channels)) (b .width) (b .height) (r .horizontal) (r .vertical) (r .diagonal) x y) (setProtected v) v
 
--- what the loop leaves is the stencil painted where an edge protects, rh, rv and rd being the radii of the three lengths
-ends : (xs : List Float) (w h ch : ℕ) (s : Settings) (st₀ st : List ℕ) (rh rv rd : Float) → rh ≡ radius (s .horizontal) → rv ≡ radius (s .vertical) → rd ≡ radius (s .diagonal) → st ≡ tab (length st₀) (swept (byte xs w h ch rh rv rd) w st₀) → st ≡ painted (λ k. edgesProtect (texel xs w ch) w h s (k % w) (k / w)) st₀
+-- the sweep leaves the stencil painted where an edge protects, r being the radii of the three lengths
+ends : (xs : List Float) (b : Bitmap) (s : Settings) (st₀ st : List ℕ) (rh rv rd : Float) → rh ≡ radius (s .horizontal) → rv ≡ radius (s .vertical) → rd ≡ radius (s .diagonal) → st ≡ tab (length st₀) (swept (byte xs b (record { horizontal = rh; vertical = rv; diagonal = rd })) (b .width) st₀) → st ≡ painted (λ k. edgesProtect (texel xs (b .width) (b .channels)) (b .width) (b .height) s (k % b .width) (k / b .width)) st₀
 unfolding painted edgesProtect
-ends xs w h ch s st₀ st rh rv rd p q r e = rw (p, q, r) at e
+ends xs b s st₀ st rh rv rd p q r e = rw (p, q, r) at e
 
 abbrev Inv-loop : tie.InvT-loop
-Inv-loop stencil₀ xs w h ch rh rv rd n x₀ y₀ k₀ stencil x y k = Swept (byte xs w h ch rh rv rd) w stencil₀ stencil x y k
+Inv-loop stencil₀ xs b r at₀ stencil at = Swept (byte xs b r) (b .width) (b .height) stencil₀ stencil at
 
 abbrev μ-loop : tie.MeasureT-loop
-μ-loop stencil₀ xs w h ch rh rv rd n x₀ y₀ k₀ stencil x y k = length stencil₀ - k
-
-radius-requires : tie.Need-radius-requires Inv-loop μ-loop
-radius-requires c κs = tt
-
-radius-requires-2 : tie.Need-radius-requires-2 Inv-loop μ-loop
-radius-requires-2 c κs = tt
-
-radius-requires-3 : tie.Need-radius-requires-3 Inv-loop μ-loop
-radius-requires-3 c κs = tt
+μ-loop stencil₀ xs b r at₀ stencil at = length stencil₀ - at .number
 
 loop-holds : tie.Need-loop-holds Inv-loop μ-loop
-loop-holds c = swept-none _ _ _ (c .before .before .before .before .before .pre .0 .any)
+loop-holds c = swept-none _ _ _ _ (c .first .ensures)
 
 slice-read-v : tie.Need-slice-read-v Inv-loop μ-loop
-slice-read-v c = omega (arith, c .before .before .loop .inv .filled .len)
+slice-read-v c =
+    let l = c .before .before .before .before in
+    swept-place _ _ _ _ (l .before .before .before .before .before .before .before .pre .1) (l .loop .inv) (c .before .if1 .taken)
 
 protected-byte-requires : tie.Need-protected-byte-requires Inv-loop μ-loop
-protected-byte-requires c κs =
-    let l = c .before .before .loop in
-    let d = c .before .before .before .before .before .before .before .before in
-    (d .pre .0, (l .inv .column, swept-row _ _ _ (l .inv) _ (d .pre .1) (c .before .loop-test .taken)))
+protected-byte-requires c κs = let l = c .before .before .before .before in (l .before .before .before .before .before .before .before .pre .0, (l .loop .inv .on .column, c .before .if1 .taken))
 
 slice-write-stencil : tie.Need-slice-write-stencil Inv-loop μ-loop
-slice-write-stencil c = omega (arith, c .before .before .before .loop .inv .filled .len)
+slice-write-stencil c =
+    let l = c .before .before .before .before .before in
+    swept-place _ _ _ _ (l .before .before .before .before .before .before .before .pre .1) (l .loop .inv) (c .before .before .if1 .taken)
 
-add-k : tie.Need-add-k Inv-loop μ-loop
-add-k c = omega (arith, c .before .before .before .before .before .before .before .before .before .good)
-
-add-x : tie.Need-add-x Inv-loop μ-loop
-add-x c = omega (arith, c .before .before .before .before .before .before .before .before .before .good, c .before .before .before .loop .inv .column)
-
-add-y : tie.Need-add-y Inv-loop μ-loop
-add-y c =
-    let l = c .before .before .before .before .loop in
-    let d = c .before .before .before .before .before .before .before .before .before .before in
-    omega (arith, d .pre .0 .high, swept-row _ _ _ (l .inv) _ (d .pre .1) (c .before .before .before .loop-test .taken))
+next-requires : tie.Need-next-requires Inv-loop μ-loop
+next-requires c κs =
+    let l = c .before .before .before .before .before in
+    let p = l .before .before .before .before .before .before .before .pre .0 in
+    (l .loop .inv .on, (c .before .before .if1 .taken, p .wide, p .high))
 
 loop-less : tie.Need-loop-less Inv-loop μ-loop
-loop-less c = omega arith
+loop-less c =
+    let t = c .before .before .before in
+    let l = t .before .before .before in
+    let i = l .loop .inv in
+    omega (arith, i .filled .len, c .next .ensures .0, swept-place _ _ _ _ (l .before .before .before .before .before .before .before .pre .1) i (t .if1 .taken))
 
 loop-again : tie.Need-loop-again Inv-loop μ-loop
-loop-again c = swept-wrap _ _ _ (c .before .before .before .before .loop .inv) (c .before .before .before .loop-test .taken) (c .before .protected-byte .ensures) (c .if1 .taken)
-
-loop-less-2 : tie.Need-loop-less-2 Inv-loop μ-loop
-loop-less-2 c = omega arith
-
-loop-again-2 : tie.Need-loop-again-2 Inv-loop μ-loop
-loop-again-2 c = swept-on _ _ _ (c .before .before .before .before .loop .inv) (c .before .before .before .loop-test .taken) (c .before .protected-byte .ensures) (c .if1 .left)
+loop-again c =
+    let t = c .before .before .before in
+    let l = t .before .before .before in
+    swept-next _ _ _ _ (l .before .before .before .before .before .before .before .pre .1) (l .loop .inv) (t .if1 .taken) (c .before .protected-byte .ensures) (c .next .ensures)
 
 same-length : tie.Need-same-length Inv-loop μ-loop
-same-length c = c .before .loop .inv .filled .len
+same-length c = c .before .before .before .loop .inv .filled .len
 
 returns : tie.Need-returns Inv-loop μ-loop
 returns c =
-    let d = c .before .before in
-    ends _ _ _ _ _ _ _ _ _ _ (d .before .before .radius .ensures) (d .before .radius2 .ensures) (d .radius3 .ensures) (swept-all _ _ _ (c .before .loop .inv) (c .loop-test .left))
+    let l = c .before .before .before in
+    let d = l .before .before in
+    ends _ _ _ _ _ _ _ _ (d .before .before .radius .ensures) (d .before .radius2 .ensures) (d .radius3 .ensures) (swept-all _ _ _ _ (l .before .before .before .before .before .before .before .pre .1) (l .loop .inv) (c .if1 .left))
 
 pub protect-edges-spec : {M : Type 1} → statement M
-protect-edges-spec =
-    tie.close
-    (tie.spec
-    Inv-loop
-    μ-loop
-    radius-requires
-    radius-requires-2
-    radius-requires-3
-    loop-holds
-    slice-read-v
-    protected-byte-requires
-    slice-write-stencil
-    add-k
-    add-x
-    add-y
-    loop-less
-    loop-again
-    loop-less-2
-    loop-again-2
-    same-length
-    returns)
+protect-edges-spec = tie.close (tie.spec Inv-loop μ-loop (λ c κs. tt) (λ c κs. tt) (λ c κs. tt) (λ c κs. c .before .before .before .before .before .pre .0 .any) loop-holds slice-read-v protected-byte-requires slice-write-stencil next-requires loop-less loop-again same-length returns)

@@ -1,82 +1,61 @@
 -- `correction::errors::find_errors` meets its contract, by the laws of a sweep. Assumes nothing.
-use mathlib.Core.Path.{sym, subst}
-use Prim.Native.Nat.{ℕ, _-_, _<_}
+use Prim.Native.Nat.{_-_}
 use native.Mathlib.Omega.{arith}
 use lib.ListN.{length}
 use Rattle.correction.specs.Inner.{marked, found}
-use Rattle.correction.proofs.bitmap.Sweep.{Swept, swept-none, swept-on, swept-wrap, swept-all, swept-same, swept-row}
+use Rattle.correction.proofs.bitmap.Sweep.{Swept, swept-none, swept-place, swept-next, swept-all}
 use Rattle.correction.proofs.errors.find_errors.Statement.{statement}
 use Rattle.correction.proofs.errors.find_errors.Tie as tie
 
 abbrev Inv-loop : tie.InvT-loop
-Inv-loop stencil₀ xs w h ch s n x₀ y₀ k₀ stencil x y k = Swept (marked xs w h ch s) w stencil₀ stencil x y k
+Inv-loop stencil₀ xs b s at₀ stencil at = Swept (marked xs (b .width) (b .height) (b .channels) s) (b .width) (b .height) stencil₀ stencil at
 
 abbrev μ-loop : tie.MeasureT-loop
-μ-loop stencil₀ xs w h ch s n x₀ y₀ k₀ stencil x y k = length stencil₀ - k
+μ-loop stencil₀ xs b s at₀ stencil at = length stencil₀ - at .number
 
 loop-holds : tie.Need-loop-holds Inv-loop μ-loop
-loop-holds c = swept-none _ _ _ (c .before .before .pre .0 .any)
+loop-holds c = swept-none _ _ _ _ (c .first .ensures)
 
 slice-read-v : tie.Need-slice-read-v Inv-loop μ-loop
-slice-read-v c = omega (arith, c .before .before .loop .inv .filled .len)
+slice-read-v c =
+    let l = c .before .before .before .before in
+    swept-place _ _ _ _ (l .before .before .before .before .pre .1) (l .loop .inv) (c .before .if1 .taken)
 
 marked-byte-requires : tie.Need-marked-byte-requires Inv-loop μ-loop
-marked-byte-requires c κs =
-    let d = c .before .before .before .before .before in
-    let i = c .before .before .loop .inv in
-    let b = swept-row _ _ _ i _ (d .pre .1 .0) (c .before .loop-test .taken) in
-    (d .pre .0, ((i .column, b), subst (λ (n : ℕ). n < 255) (sym (swept-same _ _ _ i)) (d .pre .1 .1 (c .before .before .loop .k))))
+marked-byte-requires c κs = let l = c .before .before .before .before in (l .before .before .before .before .pre .0, (l .loop .inv .on .column, c .before .if1 .taken))
 
 slice-write-stencil : tie.Need-slice-write-stencil Inv-loop μ-loop
-slice-write-stencil c = omega (arith, c .before .before .before .loop .inv .filled .len)
+slice-write-stencil c =
+    let l = c .before .before .before .before .before in
+    swept-place _ _ _ _ (l .before .before .before .before .pre .1) (l .loop .inv) (c .before .before .if1 .taken)
 
-add-k : tie.Need-add-k Inv-loop μ-loop
-add-k c = omega (arith, c .before .before .before .before .before .before .good)
-
-add-x : tie.Need-add-x Inv-loop μ-loop
-add-x c = omega (arith, c .before .before .before .before .before .before .fits)
-
-add-y : tie.Need-add-y Inv-loop μ-loop
-add-y c =
-    let l = c .before .before .before .before in
-    let d = l .before .before .before in
-    omega (arith, d .pre .0 .high, swept-row _ _ _ (l .loop .inv) _ (d .pre .1 .0) (c .before .before .before .loop-test .taken))
+next-requires : tie.Need-next-requires Inv-loop μ-loop
+next-requires c κs =
+    let l = c .before .before .before .before .before in
+    let p = l .before .before .before .before .pre .0 in
+    (l .loop .inv .on, (c .before .before .if1 .taken, p .wide, p .high))
 
 loop-less : tie.Need-loop-less Inv-loop μ-loop
-loop-less c = omega arith
+loop-less c =
+    let t = c .before .before .before in
+    let l = t .before .before .before in
+    let i = l .loop .inv in
+    omega (arith, i .filled .len, c .next .ensures .0, swept-place _ _ _ _ (l .before .before .before .before .pre .1) i (t .if1 .taken))
 
 loop-again : tie.Need-loop-again Inv-loop μ-loop
-loop-again c = swept-wrap _ _ _ (c .before .before .before .before .loop .inv) (c .before .before .before .loop-test .taken) (c .before .marked-byte .ensures) (c .if1 .taken)
-
-loop-less-2 : tie.Need-loop-less-2 Inv-loop μ-loop
-loop-less-2 c = omega arith
-
-loop-again-2 : tie.Need-loop-again-2 Inv-loop μ-loop
-loop-again-2 c = swept-on _ _ _ (c .before .before .before .before .loop .inv) (c .before .before .before .loop-test .taken) (c .before .marked-byte .ensures) (c .if1 .left)
+loop-again c =
+    let t = c .before .before .before in
+    let l = t .before .before .before in
+    swept-next _ _ _ _ (l .before .before .before .before .pre .1) (l .loop .inv) (t .if1 .taken) (c .before .marked-byte .ensures) (c .next .ensures)
 
 same-length : tie.Need-same-length Inv-loop μ-loop
-same-length c = c .before .loop .inv .filled .len
+same-length c = c .before .before .before .loop .inv .filled .len
 
 returns : tie.Need-returns Inv-loop μ-loop
 unfolding found
-returns c = swept-all _ _ _ (c .before .loop .inv) (c .loop-test .left)
+returns c =
+    let l = c .before .before .before in
+    swept-all _ _ _ _ (l .before .before .before .before .pre .1) (l .loop .inv) (c .if1 .left)
 
 pub find-errors-spec : {M : Type 1} → statement M
-find-errors-spec =
-    tie.close
-    (tie.spec
-    Inv-loop
-    μ-loop
-    loop-holds
-    slice-read-v
-    marked-byte-requires
-    slice-write-stencil
-    add-k
-    add-x
-    add-y
-    loop-less
-    loop-again
-    loop-less-2
-    loop-again-2
-    same-length
-    returns)
+find-errors-spec = tie.close (tie.spec Inv-loop μ-loop (λ c κs. c .before .before .pre .0 .any) loop-holds slice-read-v marked-byte-requires slice-write-stencil next-requires loop-less loop-again same-length returns)

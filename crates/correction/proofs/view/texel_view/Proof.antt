@@ -5,7 +5,7 @@ use native.Mathlib.Omega.{arith}
 use lib.ListN.{length}
 use denote.Ref.{now}
 use borrow.Author.Tests.{eq-eqb, ne-eqb, lt-ltb, le-ltb}
-use Rattle.correction.specs.Bitmap.{isError}
+use Rattle.correction.specs.Stencil.{isError}
 use Rattle.correction.specs.Checks.{sizeRefusal}
 use Rattle.correction.specs.View.{viewable, viewed}
 use Rattle.correction.proofs.checks.Measures.{Lies, lies, sizes}

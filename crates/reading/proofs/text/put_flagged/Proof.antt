@@ -7,7 +7,7 @@ use lib.ListN.{getD}
 use denote.Ref.{now}
 use borrow.Author.Needs.{needs}
 use borrow.Author.Tests.{eq-eqb, ne-eqb}
-use Rattle.correction.specs.Bitmap.{isError}
+use Rattle.correction.specs.Stencil.{isError}
 use Rattle.reading.specs.Text.{texelText, flaggedText}
 use Rattle.reading.proofs.Lengths.{cell-short}
 use Rattle.reading.proofs.Writes.{written-as, written-none}

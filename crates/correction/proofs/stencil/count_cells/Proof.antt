@@ -1,16 +1,16 @@
--- `correction::pass::count_cells` meets its contract: before cell i both numbers count the cells below it. Assumes nothing.
+-- `correction::stencil::count_cells` meets its contract: before cell i both numbers count the cells below it. Assumes nothing.
 use mathlib.Core.Path.{_≡_, refl, sym, _∙_, ap}
 use mathlib.Core.List.{List}
 use Prim.Native.Nat.{ℕ, _+_, _-_, _/_, _%_, _≤_}
-use native.Mathlib.Nat.{le-antisymm}
+use native.Mathlib.Nat.{le-antisymm, div-one}
 use native.Mathlib.Omega.{arith}
 use lib.ListN.{length, getD}
 use Rattle.ground.specs.Lists.{count}
-use Rattle.correction.specs.Bitmap.{isProtected, isError}
+use Rattle.correction.specs.Stencil.{isProtected, isError}
 use Rattle.correction.specs.Pass.{protectedCount, errorCount}
 use Rattle.ground.proofs.Laws.Count.{none-counted, one-more, count-small}
-use Rattle.correction.proofs.pass.count_cells.Statement.{statement}
-use Rattle.correction.proofs.pass.count_cells.Tie as tie
+use Rattle.correction.proofs.stencil.count_cells.Statement.{statement}
+use Rattle.correction.proofs.stencil.count_cells.Tie as tie
 
 record Inv (st : List ℕ) (p e i : ℕ) : Type 0 where
   in-range : i ≤ length st
@@ -23,13 +23,13 @@ begins st = record { in-range = omega arith; protected = sym (none-counted _); e
 few : (st : List ℕ) (p e i : ℕ) → Inv st p e i → (p ≤ i) × (e ≤ i)
 few st p e i v = (omega (arith, v .protected, count-small (λ k. isProtected (getD st k 0)) i), omega (arith, v .error, count-small (λ k. isError (getD st k 0)) i))
 
-turns : (st : List ℕ) (p e i : ℕ) → Inv st p e i → i + 1 ≤ length st → Inv st (p + getD st i 0 / 2 % 2) (e + getD st i 0 % 2) (i + 1)
+turns : (st : List ℕ) (p e i : ℕ) → Inv st p e i → i + 1 ≤ length st → Inv st (p + getD st i 0 / 2 % 2) (e + getD st i 0 / 1 % 2) (i + 1)
 unfolding isProtected isError
 turns st p e i v l =
     record {
       in-range = l;
       protected = one-more (λ k. isProtected (getD st k 0)) i p (getD st i 0 / 2 % 2) (v .protected) (omega arith) refl;
-      error = one-more (λ k. isError (getD st k 0)) i e (getD st i 0 % 2) (v .error) (omega arith) refl;
+      error = one-more (λ k. isError (getD st k 0)) i e (getD st i 0 / 1 % 2) (v .error) (omega arith) (rw div-one);
     }
 
 ends : (st : List ℕ) (p e i : ℕ) → Inv st p e i → length st ≤ i → (p ≡ protectedCount st) × (e ≡ errorCount st)
@@ -44,32 +44,11 @@ Inv-loop stencil p₀ e₀ i₀ p e i = Inv stencil p e i
 abbrev μ-loop : tie.MeasureT-loop
 μ-loop stencil p₀ e₀ i₀ p e i = length stencil - i
 
-loop-holds : tie.Need-loop-holds Inv-loop μ-loop
-loop-holds c = begins _
-
-shared-slice-read-p : tie.Need-shared-slice-read-p Inv-loop μ-loop
-shared-slice-read-p c = omega arith
-
-cast-p : tie.Need-cast-p Inv-loop μ-loop
-cast-p c = omega arith
-
 add-p : tie.Need-add-p Inv-loop μ-loop
 add-p c = omega (arith, few _ _ _ _ (c .before .before .loop .inv) .0)
 
-shared-slice-read-e : tie.Need-shared-slice-read-e Inv-loop μ-loop
-shared-slice-read-e c = omega arith
-
-cast-e : tie.Need-cast-e Inv-loop μ-loop
-cast-e c = omega arith
-
 add-e : tie.Need-add-e Inv-loop μ-loop
 add-e c = omega (arith, few _ _ _ _ (c .before .before .before .loop .inv) .1)
-
-add-i : tie.Need-add-i Inv-loop μ-loop
-add-i c = omega arith
-
-loop-less : tie.Need-loop-less Inv-loop μ-loop
-loop-less c = omega arith
 
 loop-again : tie.Need-loop-again Inv-loop μ-loop
 loop-again c = turns _ _ _ _ (c .before .before .before .loop .inv) (omega arith)
@@ -78,19 +57,4 @@ returns : tie.Need-returns Inv-loop μ-loop
 returns c = let r = ends _ _ _ _ (c .before .loop .inv) (c .loop-test .left) in rw (r .0, r .1)
 
 pub count-cells-spec : {M : Type 1} → statement M
-count-cells-spec =
-    tie.close
-    (tie.spec
-    Inv-loop
-    μ-loop
-    loop-holds
-    shared-slice-read-p
-    cast-p
-    add-p
-    shared-slice-read-e
-    cast-e
-    add-e
-    add-i
-    loop-less
-    loop-again
-    returns)
+count-cells-spec = tie.close (tie.spec Inv-loop μ-loop (λ c. begins _) (λ c. omega arith) (λ c. omega arith) add-p (λ c. omega arith) (λ c. omega arith) add-e (λ c. omega arith) (λ c. omega arith) loop-again returns)

@@ -1,0 +1,2 @@
+-- A sweep that collapses.
+pub mod Turns

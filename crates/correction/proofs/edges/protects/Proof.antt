@@ -1,0 +1,17 @@
+-- `correction::edges::protects` meets its contract. Assumes nothing.
+use borrow.Author.Needs.{needs}
+use Rattle.detectors.specs.Edge.{protectsLower, protectsUpper}
+use Rattle.correction.specs.Inner.{protectsAs}
+use Rattle.correction.proofs.edges.protects.Statement.{statement}
+use Rattle.correction.proofs.edges.protects.Tie as tie
+
+returns : tie.Need-returns
+unfolding protectsAs protectsLower
+returns c = let m = c .before .before in rw (c .before .if1 .taken, c .pair-protects .ensures, m .median .ensures, m .before .before .pre)
+
+returns-2 : tie.Need-returns-2
+unfolding protectsAs protectsUpper
+returns-2 c = let m = c .before .before in rw (c .before .if1 .left, c .pair-protects2 .ensures, m .median .ensures, m .before .before .pre)
+
+pub protects-spec : {M : Type 1} → statement M
+protects-spec = tie.close (tie.spec (λ c κs. search needs) (λ c κs. search needs) (λ c κs. search needs) returns returns-2)

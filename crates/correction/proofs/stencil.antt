@@ -1,0 +1,2 @@
+-- A byte's bits, one at a time.
+pub mod Bits

@@ -1,0 +1,12 @@
+-- `correction::stencil::is_protected` meets its contract. Assumes nothing.
+use mathlib.Core.Path.{refl}
+use Rattle.correction.specs.Stencil.{isProtected}
+use Rattle.correction.proofs.stencil.is_protected.Statement.{statement}
+use Rattle.correction.proofs.stencil.is_protected.Tie as tie
+
+returns : tie.Need-returns
+unfolding isProtected
+returns c = refl
+
+pub is-protected-spec : {M : Type 1} → statement M
+is-protected-spec = tie.close (tie.spec returns)
