@@ -16,6 +16,7 @@ pub struct Refusal {
     pub place: usize,
 }
 
+// Check 1.
 fn bad_channels(ch: usize) -> bool
     ensures { λ r. ⌜ r ≡ Checks.badChannels ch ⌝ }
 {
@@ -34,23 +35,43 @@ fn bad_side(n: usize) -> bool
     true
 }
 
-// Checks 1 to 4, of a bitmap with n samples and m cells.
+// Check 2.
+fn bad_size(w: usize, h: usize) -> bool
+    ensures { λ r. ⌜ r ≡ Checks.badSize w h ⌝ }
+{
+    bad_side(w) || bad_side(h)
+}
+
+// Check 3, of n samples.
+fn bad_sample_count(w: usize, h: usize, ch: usize, n: usize) -> bool
+    requires { ⌜ (w ≤ 4096) × (h ≤ 4096) × (ch ≤ 4) ⌝ }
+    ensures { λ r. ⌜ r ≡ Checks.badSampleCount w h ch n ⌝ }
+{
+    n != w * h * ch
+}
+
+// Check 4, of m cells.
+fn bad_cell_count(w: usize, h: usize, m: usize) -> bool
+    requires { ⌜ (w ≤ 4096) × (h ≤ 4096) ⌝ }
+    ensures { λ r. ⌜ r ≡ Checks.badCellCount w h m ⌝ }
+{
+    m != w * h
+}
+
+// The first of checks 1 to 4 that fails, of a bitmap with n samples and m cells; 0 where all pass.
 pub fn size_refusal(w: usize, h: usize, ch: usize, n: usize, m: usize) -> u8
     ensures { λ r. ⌜ r ≡ Checks.sizeRefusal w h ch n m ⌝ }
 {
     if bad_channels(ch) {
         return 1;
     }
-    if bad_side(w) {
+    if bad_size(w, h) {
         return 2;
     }
-    if bad_side(h) {
-        return 2;
-    }
-    if n != w * h * ch {
+    if bad_sample_count(w, h, ch, n) {
         return 3;
     }
-    if m != w * h {
+    if bad_cell_count(w, h, m) {
         return 4;
     }
     0

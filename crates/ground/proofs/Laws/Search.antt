@@ -6,12 +6,14 @@
 --     any-implies    where a test holds of some number another does
 --     some-implies   the same over a list
 --     none-below     where no number below n passes, each fails
---     first-found    the search stops at i
---     first-none     the search passes all
---     first-is-end   the same, where each fails
---     first-end      the same, as a loop leaves it
---     first-le       the answer is at most n
---     first-past     where the answer is not below n, each fails
+--     first-is-end   where each number fails the first is n
+--     first-le       the first is at most n
+--     first-past     where the first is not below n, each fails
+--     Searched       a search that has come to i: none before it passes
+--     search-none    before the first turn
+--     search-more    a turn whose answer r fails
+--     search-found   a turn whose answer r passes: i is the first
+--     search-end     the loop is left at the end: so is i there
 use mathlib.Core.Path.{_≡_, refl, sym, _∙_, ap, subst}
 use mathlib.Core.Bool.{Bool, true, false, cond, _||_, true≢false}
 use mathlib.Core.List.{List, [], _∷_}
@@ -72,25 +74,31 @@ found f (suc n) zero h l p = rw p
 found f (suc n) (suc i) h l p =
     rw (h 0 (omega arith), found (λ k. f (suc k)) n i (λ k b. h (suc k) (omega arith)) (le-of-suc-le-suc l) p)
 
-past : (f : ℕ → Bool) (n : ℕ) → ((k : ℕ) → k < n → f k ≡ false) → first n f ≡ n
-unfolding first
-past f zero h = refl
-past f (suc n) h = rw (h 0 (omega arith), past (λ k. f (suc k)) n (λ k b. h (suc k) (omega arith)))
-
--- where each fails the answer is n
 pub first-is-end : (f : ℕ → Bool) (n : ℕ) → ((k : ℕ) → k < n → f k ≡ false) → first n f ≡ n
-first-is-end f n h = past f n h
+unfolding first
+first-is-end f zero h = refl
+first-is-end f (suc n) h = rw (h 0 (omega arith), first-is-end (λ k. f (suc k)) n (λ k b. h (suc k) (omega arith)))
 
-pub first-found : (f : ℕ → Bool) (n i : ℕ) → any i f ≡ false → i < n → f i ≡ true → first n f ≡ i
-first-found f n i p l q = found f n i (none-below f i p) l q
+-- ---- a loop that searches, and stops at the first
 
-pub first-none : (f : ℕ → Bool) (n : ℕ) → any n f ≡ false → first n f ≡ n
-first-none f n p = past f n (none-below f n p)
+pub record Searched (f : ℕ → Bool) (n i : ℕ) : Type 0 where
+  pub high : i ≤ n
+  pub none : any i f ≡ false
 
-pub first-end : (f : ℕ → Bool) (n i : ℕ) → any i f ≡ false → i ≤ n → n ≤ i → first n f ≡ i
-first-end f n i p a b =
-    let e : i ≡ n = le-antisymm a b in
-    first-none f n (subst (λ (k : ℕ). any k f ≡ false) e p) ∙ sym e
+pub search-none : (f : ℕ → Bool) (n : ℕ) → Searched f n 0
+search-none f n = record { high = omega arith; none = none-zero f }
+
+module _ {f : ℕ → Bool} {n i : ℕ} (s : Searched f n i) where
+  pub search-more : {r : Bool} → i < n → r ≡ f i → r ≡ false → Searched f n (i + 1)
+  search-more l e p = record { high = omega arith; none = none-more f i (s .none) (sym e ∙ p) }
+
+  pub search-found : {r : Bool} → i < n → r ≡ f i → r ≡ true → i ≡ first n f
+  search-found l e p = sym (found f n i (none-below f i (s .none)) l (sym e ∙ p))
+
+  pub search-end : n ≤ i → i ≡ first n f
+  search-end l =
+      let e : i ≡ n = le-antisymm (s .high) l in
+      e ∙ sym (first-is-end f n (none-below f n (subst (λ (k : ℕ). any k f ≡ false) e (s .none))))
 
 cond-le : (b : Bool) (m n : ℕ) → m ≤ n → cond b 0 (suc m) ≤ suc n
 cond-le true m n l = omega arith
