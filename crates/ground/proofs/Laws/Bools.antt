@@ -4,6 +4,7 @@
 --     or-taken, or-left     the same of `a || b`
 --     both-hold, both-fail  of `a && b` that holds, and of `a || b` that fails
 --     cond-above            of an answer not below k where a test that holds answers less
+--     both-ways             two tests of which each holds where the other does
 --     guarded               what stands behind a test matters only where the test holds
 --     and-implies, or-implies, four-imply, not-implies, cond-implies   where a test holds another does, part by part
 use mathlib.Core.Path.{_≡_, refl, sym, _∙_, ap}
@@ -35,6 +36,11 @@ both-fail false b p = (refl, p)
 pub cond-above : (b : Bool) (x y k : ℕ) → x < k → k ≤ cond b x y → (b ≡ false) × (k ≤ y)
 cond-above true x y k l p = absurd (omega arith)
 cond-above false x y k l p = (refl, p)
+
+pub both-ways : (a b : Bool) → (a ≡ true → b ≡ true) → (b ≡ true → a ≡ true) → a ≡ b
+both-ways true b f g = sym (f refl)
+both-ways false true f g = g refl
+both-ways false false f g = refl
 
 pub guarded : (e e' f g : Bool) → e ≡ e' → (e ≡ true → f ≡ g) → (e && f) ≡ (e' && g)
 guarded true true f g p q = q refl

@@ -3,6 +3,8 @@
 --     none-more      the test fails at k
 --     any-at         the test holds at a k below n
 --     any-three      the three tests, in order
+--     any-first      the first number by itself
+--     any-same       two tests that agree below n
 --     any-implies    where a test holds of some number another does
 --     some-implies   the same over a list
 --     none-below     where no number below n passes, each fails
@@ -42,13 +44,27 @@ unfolding any
 any-at f zero k l p = absurd (not-suc-le-zero l)
 any-at f (suc n) k l p = ⊎-elim (λ e. rw (← e, p) (or-true (any k f))) (λ b. rw (any-at f n k b p)) (eq-or-lt-of-le (le-of-suc-le-suc l))
 
-or-assoc : (a b c : Bool) → (((false || a) || b) || c) ≡ (a || (b || c))
+or-assoc : (a b c : Bool) → ((a || b) || c) ≡ (a || (b || c))
 or-assoc true b c = refl
 or-assoc false b c = refl
+
+or-false : (b : Bool) → (b || false) ≡ b
+or-false true = refl
+or-false false = refl
 
 pub any-three : (f : ℕ → Bool) → any 3 f ≡ (f 0 || (f 1 || f 2))
 unfolding any
 any-three f = or-assoc (f 0) (f 1) (f 2)
+
+pub any-first : (n : ℕ) (f : ℕ → Bool) → any (suc n) f ≡ (f 0 || any n (λ k. f (suc k)))
+unfolding any
+any-first zero f = sym (or-false (f 0))
+any-first (suc n) f = rw (any-first n f) (or-assoc (f 0) (any n (λ k. f (suc k))) (f (suc n)))
+
+pub any-same : (n : ℕ) (f g : ℕ → Bool) → ((k : ℕ) → k < n → f k ≡ g k) → any n f ≡ any n g
+unfolding any
+any-same zero f g h = refl
+any-same (suc n) f g h = rw (any-same n f g (λ k l. h k (omega arith)), h n (le-refl (suc n)))
 
 pub any-implies : (n : ℕ) (f g : ℕ → Bool) → ((k : ℕ) → f k ≡ true → g k ≡ true) → any n f ≡ true → any n g ≡ true
 unfolding any
