@@ -1,6 +1,6 @@
 -- The checks, each with its number, its test and its place, and the first that fails. Definitions only.
 use Prim.Native.Nat.{ℕ, _+_, _-_, _*_}
-use mathlib.Core.Bool.{Bool, true, false, cond, not, _&&_, _||_}
+use mathlib.Core.Bool.{Bool, cond, not, _&&_, _||_}
 use mathlib.Core.List.{List, [], _∷_, _++_}
 use lib.ListN.{getD, length}
 use lib.Dec.{eqb, ltb, leb}
@@ -124,13 +124,17 @@ abbrev pub outlineChecks : List ℕ → List Float → List ℕ → List (Bool �
 outlineChecks colours coords ends =
     (badOutlines (length colours) (length coords), 7) ∷ (badEnds ends (length colours), 8) ∷ (badSegments colours coords, 9) ∷ []
 
+-- checks 1 to 4 of an input
+abbrev pub bitmapChecks : Input → List (Bool × ℕ)
+bitmapChecks i = sizeChecks (i .width) (i .height) (i .channels) (length (i .samples)) (length (i .stencil))
+
 -- checks 5 to 9
 abbrev pub contentChecks : Input → List (Bool × ℕ)
 contentChecks i = (badSettings (i .mode) (i .settings), 5) ∷ (badSamples (i .samples), 6) ∷ outlineChecks (i .colours) (i .coords) (i .ends)
 
 -- all checks, in number order
 abbrev pub checks : Input → List (Bool × ℕ)
-checks i = sizeChecks (i .width) (i .height) (i .channels) (length (i .samples)) (length (i .stencil)) ++ contentChecks i
+checks i = bitmapChecks i ++ contentChecks i
 
 -- the number of the first check that fails, and 0 where all pass: of checks 1 to 4, of checks 7 to 9, and of all
 unfoldable pub sizeRefusal : ℕ → ℕ → ℕ → ℕ → ℕ → ℕ

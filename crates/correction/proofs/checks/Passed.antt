@@ -6,7 +6,7 @@
 --     stages, staged   an answer 0 is one of each stage of the checks
 --     passed         so of each check
 use mathlib.Core.Path.{_≡_, refl, subst, _∙_}
-use mathlib.Core.Bool.{Bool, true, false, not, _||_}
+use mathlib.Core.Bool.{true, false, not, _||_}
 use mathlib.Core.List.{List}
 use Prim.Native.Nat.{ℕ, suc, _+_, _*_, _<_, _≤_}
 use native.Mathlib.Omega.{arith}
@@ -17,7 +17,7 @@ use borrow.Author.Tests.{eqb-true, ltb-false, not-false}
 use Rattle.numbers.specs.Constants.{zeroOf}
 use Rattle.detectors.specs.Constants.{limitOf}
 use Rattle.detectors.specs.declared.config.Settings.{Settings}
-use Rattle.correction.specs.Checks.{Input, badLength, settingsPlace, badSettings, oversize, samplesPlace, badSamples, badOutlines, endBefore, badEnd, endsPlace, badEnds, badSegment, segmentsPlace, badSegments, sizeChecks, outlineChecks, contentChecks, sizeRefusal, refusalNumber}
+use Rattle.correction.specs.Checks.{Input, badLength, settingsPlace, badSettings, oversize, samplesPlace, badSamples, badOutlines, endBefore, badEnd, endsPlace, badEnds, badSegment, segmentsPlace, badSegments, outlineChecks, bitmapChecks, contentChecks, sizeRefusal, refusalNumber}
 use Rattle.correction.specs.Inner.{Outlined}
 use Rattle.correction.proofs.checks.Ends.{before-next}
 use Rattle.ground.proofs.Laws.Search.{first-past}
@@ -115,20 +115,18 @@ pub record Stages (i : Input) : Type 0 where
   pub samples : badSamples (i .samples) ≡ false
   pub outlines : Passes (outlineChecks (i .colours) (i .coords) (i .ends))
 
-module _ (i : Input) where
-  abbrev pub first : List (Bool × ℕ)
-  first = sizeChecks (i .width) (i .height) (i .channels) (length (i .samples)) (length (i .stencil))
+pub stages : (i : Input) → refusalNumber i ≡ 0 → Stages i
+unfolding refusalNumber sizeRefusal
+stages i p =
+    let a = zero-parts (bitmapChecks i) (contentChecks i) refl p in
+    let f = all-pass (contentChecks i) refl (a .1) in
+    record { sizes = a .0; settings = f .0; samples = f .1 .0; outlines = f .1 .1 }
 
-  pub stages : refusalNumber i ≡ 0 → Stages i
-  unfolding refusalNumber sizeRefusal
-  stages p =
-      let a = zero-parts first (contentChecks i) refl p in
-      let f = all-pass (contentChecks i) refl (a .1) in
-      record { sizes = a .0; settings = f .0; samples = f .1 .0; outlines = f .1 .1 }
-
-  pub staged : Stages i → refusalNumber i ≡ 0
-  unfolding refusalNumber sizeRefusal
-  staged s = passes-to first (contentChecks i) (all-pass first refl (s .sizes)) ∙ none-fails (contentChecks i) (s .settings, (s .samples, s .outlines))
+pub staged : (i : Input) → Stages i → refusalNumber i ≡ 0
+unfolding refusalNumber sizeRefusal
+staged i s =
+    passes-to (bitmapChecks i) (contentChecks i) (all-pass (bitmapChecks i) refl (s .sizes))
+    ∙ none-fails (contentChecks i) (s .settings, (s .samples, s .outlines))
 
 pub passed : (i : Input) → refusalNumber i ≡ 0 → Passed i
 passed i p =

@@ -5,15 +5,13 @@
 --     by-samples         those pass, and check 6 fails
 --     by-outlines        those pass, so checks 7 to 9 answer, with r and its place o
 use mathlib.Core.Path.{_≡_, refl, sym, _∙_, ap, subst}
-use mathlib.Core.Bool.{Bool, true, false}
-use mathlib.Core.List.{List}
+use mathlib.Core.Bool.{true, false}
 use Prim.Native.Nat.{ℕ, _<_, _≤_}
 use lib.Dec.{ltb}
 use lib.ListN.{length}
 use borrow.Author.Tests.{lt-ltb, le-ltb}
 use Rattle.ground.specs.Refuse.{firstFailing}
-use Rattle.correction.specs.Checks.{Input, settingsPlace, badSettings, samplesPlace, badSamples, outlineChecks, contentChecks, sizeRefusal, outlineRefusal, refusalNumber, outlinePlace, placeOf, refusalPlace}
-use Rattle.correction.proofs.checks.Passed.{first}
+use Rattle.correction.specs.Checks.{Input, settingsPlace, badSettings, samplesPlace, badSamples, outlineChecks, bitmapChecks, contentChecks, sizeRefusal, outlineRefusal, refusalNumber, outlinePlace, placeOf, refusalPlace}
 use Rattle.ground.proofs.Laws.Refuse.{all-pass, fails-in, passes-to, answer-is}
 
 pub below : {p q : ℕ} (n : ℕ) → p ≡ q → p < n → ltb q n ≡ true
@@ -23,9 +21,6 @@ pub not-below : {p q : ℕ} (n : ℕ) → p ≡ q → n ≤ p → ltb q n ≡ fa
 not-below n e l = le-ltb _ n (subst (λ (k : ℕ). n ≤ k) e l)
 
 module _ (i : Input) where
-  abbrev last : List (Bool × ℕ)
-  last = outlineChecks (i .colours) (i .coords) (i .ends)
-
   -- where check k answers, the place is its own
   answers : {k o : ℕ} → k ≡ refusalNumber i → o ≡ placeOf i k → (k ≡ refusalNumber i) × (o ≡ refusalPlace i)
   unfolding refusalPlace
@@ -35,13 +30,13 @@ module _ (i : Input) where
     pub by-sizes : (n ≡ 0 → ⊥) → (n ≡ refusalNumber i) × (0 ≡ refusalPlace i)
     unfolding sizeRefusal refusalNumber placeOf outlinePlace
     by-sizes h =
-        answers (e ∙ sym (fails-in (first i) (contentChecks i) (λ z. h (e ∙ z))))
-        (answer-is (λ k. 0 ≡ placeOf i k) (first i) refl (refl, (refl, (refl, (refl, tt)))) ∙ ap (placeOf i) (sym e))
+        answers (e ∙ sym (fails-in (bitmapChecks i) (contentChecks i) (λ z. h (e ∙ z))))
+        (answer-is (λ k. 0 ≡ placeOf i k) (bitmapChecks i) refl (refl, (refl, (refl, (refl, tt)))) ∙ ap (placeOf i) (sym e))
 
     module _ (z : n ≡ 0) {p : ℕ} (f : p ≡ settingsPlace (i .mode) (i .settings)) where
       from-rest : firstFailing (contentChecks i) ≡ refusalNumber i
       unfolding sizeRefusal refusalNumber
-      from-rest = sym (passes-to (first i) (contentChecks i) (all-pass (first i) refl (sym e ∙ z)))
+      from-rest = sym (passes-to (bitmapChecks i) (contentChecks i) (all-pass (bitmapChecks i) refl (sym e ∙ z)))
 
       pub by-settings : p < 5 → (5 ≡ refusalNumber i) × (p ≡ refusalPlace i)
       unfolding firstFailing badSettings placeOf
@@ -56,4 +51,4 @@ module _ (i : Input) where
         unfolding firstFailing badSettings badSamples outlineRefusal placeOf outlinePlace
         by-outlines l {r} a b =
             answers (a ∙ (simp (not-below 5 f t, not-below (length (i .samples)) g l) at from-rest))
-            (b ∙ subst (λ (k : ℕ). outlinePlace (i .colours) (i .coords) (i .ends) k ≡ placeOf i k) (sym a) (answer-is (λ k. outlinePlace (i .colours) (i .coords) (i .ends) k ≡ placeOf i k) last refl (refl, (refl, (refl, tt)))))
+            (b ∙ subst (λ (k : ℕ). outlinePlace (i .colours) (i .coords) (i .ends) k ≡ placeOf i k) (sym a) (answer-is (λ k. outlinePlace (i .colours) (i .coords) (i .ends) k ≡ placeOf i k) (outlineChecks (i .colours) (i .coords) (i .ends)) refl (refl, (refl, (refl, tt)))))

@@ -5,7 +5,7 @@
 --     start-next   a contour ends where the next starts
 --     start-le     a contour starts at most where it ends
 --     corners-at   a cell that some contour hits, by its number, is one that some contour of the list protects
-use mathlib.Core.Path.{_≡_, refl, sym, _∙_, ap, subst}
+use mathlib.Core.Path.{_≡_, refl, sym, _∙_, ap}
 use mathlib.Core.Bool.{Bool, true, false, cond, _&&_, _||_}
 use mathlib.Core.List.{List, [], _∷_}
 use Prim.Native.Nat.{ℕ, zero, suc, _+_, _-_, _*_, _/_, _%_, _<_, _≤_, zero-le}
@@ -15,7 +15,7 @@ use lib.Dec.{eqb, ltb}
 use lib.ListN.{length, getD, drop, length-drop}
 use lib.Seq.{length-take-le, getD-take, getD-drop}
 use lib.Ieee.{Float, nan}
-use borrow.Author.Tests.{lt-ltb, le-ltb, eq-eqb, ne-eqb}
+use borrow.Author.Tests.{eq-eqb, ne-eqb}
 use Rattle.ground.specs.Lists.{tab, any, some}
 use Rattle.correction.specs.Corners.{Segment, segmentAt, between, split, contours, before, shared, noSegment, lower, beside, isCorner, around, cornerAt, contourProtects, cornersProtect}
 use Rattle.correction.specs.Inner.{Outlined, painted, cornerHits, contourHits}

@@ -16,7 +16,7 @@
 --     search-more    a turn whose answer r fails
 --     search-found   a turn whose answer r passes: i is the first
 --     search-end     the loop is left at the end: so is i there
-use mathlib.Core.Path.{_≡_, refl, sym, _∙_, ap, subst}
+use mathlib.Core.Path.{_≡_, refl, sym, _∙_, subst}
 use mathlib.Core.Bool.{Bool, true, false, cond, _||_, true≢false}
 use mathlib.Core.List.{List, [], _∷_}
 use mathlib.Core.Logic.{⊎-elim}

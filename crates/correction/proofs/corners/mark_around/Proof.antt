@@ -4,24 +4,6 @@ use Rattle.correction.proofs.corners.Around.{next-fits, marked-around}
 use Rattle.correction.proofs.corners.mark_around.Statement.{statement}
 use Rattle.correction.proofs.corners.mark_around.Tie as tie
 
-add-mark : tie.Need-add-mark
-add-mark c = let l = c .before .before .before .before .before .before in next-fits _ (l .lower .ensures) (l .before .before .pre .1)
-
-add-mark-2 : tie.Need-add-mark-2
-add-mark-2 c =
-    let b = c .before .before .before .before .before .before .before .before .before in
-    next-fits _ (b .lower2 .ensures) (b .before .before .before .pre .2)
-
-add-mark-3 : tie.Need-add-mark-3
-add-mark-3 c =
-    let b = c .before .before .before .before .before .before .before .before .before .before .before .before .before in
-    next-fits _ (b .before .lower .ensures) (b .before .before .before .pre .1)
-
-add-mark-4 : tie.Need-add-mark-4
-add-mark-4 c =
-    let b = c .before .before .before .before .before .before .before .before .before .before .before .before .before in
-    next-fits _ (b .lower2 .ensures) (b .before .before .before .pre .2)
-
 returns : tie.Need-returns
 returns c =
     let p4 = c .before .before in
@@ -36,4 +18,14 @@ returns c =
 pub mark-around-spec : {M : Type 1} → statement M
 mark-around-spec =
     tie.close
-    (tie.spec (λ c κs. search needs) (λ c κs. search needs) (λ c κs. search needs) add-mark (λ c κs. search needs) add-mark-2 (λ c κs. search needs) add-mark-3 add-mark-4 (λ c κs. search needs) (λ c. search needs) returns)
+    (tie.spec
+    (λ c κs. search needs)
+    (λ c κs. search needs)
+    (λ c. next-fits _ (c .before .lower .ensures) (c .before .before .before .pre .1))
+    (λ c. next-fits _ (c .lower2 .ensures) (c .before .before .before .pre .2))
+    (λ c κs. search needs)
+    (λ c κs. search needs)
+    (λ c κs. search needs)
+    (λ c κs. search needs)
+    (λ c. search needs)
+    returns)
