@@ -1,4 +1,5 @@
 -- What follows from the definitions, for any bitmap.
+pub mod Checks
 pub mod Answer
 pub mod Leaves
 pub mod Neighbourhood

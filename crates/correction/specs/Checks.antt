@@ -1,7 +1,7 @@
--- The checks, in number order, and their places. Definitions only.
+-- The checks, each with its number, its test and its place, and the first that fails. Definitions only.
 use Prim.Native.Nat.{ℕ, _+_, _-_, _*_}
-use mathlib.Core.Bool.{Bool, true, false, cond, not, _&&_, _||_}
-use mathlib.Core.List.{List, [], _∷_}
+use mathlib.Core.Bool.{Bool, cond, not, _&&_, _||_}
+use mathlib.Core.List.{List, [], _∷_, _++_}
 use lib.ListN.{getD, length}
 use lib.Dec.{eqb, ltb, leb}
 use lib.Ieee.{Float, Format, binary32, binary64, nan, le, neg}
@@ -9,6 +9,7 @@ use Rattle.numbers.specs.Constants.{zeroOf}
 use Rattle.detectors.specs.Constants.{limitOf}
 use Rattle.detectors.specs.declared.config.Settings.{Settings}
 use Rattle.ground.specs.Lists.{first}
+use Rattle.ground.specs.Refuse.{firstFailing}
 
 -- All that comes in.
 pub record Input : Type 0 where
@@ -27,30 +28,35 @@ abbrev pub input : ℕ → ℕ → ℕ → List Float → List ℕ → ℕ → S
 input w h ch xs st mode s colours coords ends =
     record { width = w; height = h; channels = ch; samples = xs; stencil = st; mode = mode; settings = s; colours = colours; coords = coords; ends = ends }
 
--- ---- checks 1 to 4: channels, sides, and the two lengths
+-- ---- check 1: channels not 3 or 4
 
 unfoldable pub badChannels : ℕ → Bool
 badChannels ch = not (eqb ch 3 || eqb ch 4)
 
--- outside 1..4,096
+-- ---- check 2: width or height outside 1..4,096
+
 unfoldable pub badSide : ℕ → Bool
 badSide n = not (leb 1 n && leb n 4096)
 
--- the number of the first of them that fails, of n samples and m cells, and 0 where none does
-unfoldable pub sizeRefusal : ℕ → ℕ → ℕ → ℕ → ℕ → ℕ
-sizeRefusal w h ch n m =
-    cond (badChannels ch) 1
-    (cond (badSide w) 2
-    (cond (badSide h) 2
-    (cond (not (eqb n (w * h * ch))) 3
-    (cond (not (eqb m (w * h))) 4 0))))
+unfoldable pub badSize : ℕ → ℕ → Bool
+badSize w h = badSide w || badSide h
+
+-- ---- check 3: sample length n not width × height × channels
+
+unfoldable pub badSampleCount : ℕ → ℕ → ℕ → ℕ → Bool
+badSampleCount w h ch n = not (eqb n (w * h * ch))
+
+-- ---- check 4: stencil length m not width × height
+
+unfoldable pub badCellCount : ℕ → ℕ → ℕ → Bool
+badCellCount w h m = not (eqb m (w * h))
 
 -- ---- check 5: mode above 3, or ratio or a length NaN, below 0 or above 1,048,576
 
 unfoldable pub badLength : Float → Bool
 badLength v = not (le (zeroOf binary64) v && le v (limitOf binary64))
 
--- the first bad: mode 0, ratio 1, lengths 2, 3, 4; 5 where none is
+-- its place, the first bad: mode 0, ratio 1, lengths 2, 3, 4; 5 where none is
 unfoldable pub settingsPlace : ℕ → Settings → ℕ
 settingsPlace mode s =
     cond (ltb 3 mode) 0
@@ -59,14 +65,20 @@ settingsPlace mode s =
     (cond (badLength (s .vertical)) 3
     (cond (badLength (s .diagonal)) 4 5))))
 
+unfoldable pub badSettings : ℕ → Settings → Bool
+badSettings mode s = ltb (settingsPlace mode s) 5
+
 -- ---- check 6: a sample NaN, infinite or of size above 1,048,576
 
 unfoldable pub oversize : Format → Float → Bool
 oversize f v = not (le (neg (limitOf f)) v && le v (limitOf f))
 
--- the first bad sample, and their number where none is
+-- its place, the first bad sample, and their number where none is
 unfoldable pub samplesPlace : List Float → ℕ
 samplesPlace xs = first (length xs) (λ j. oversize binary32 (getD xs j nan))
+
+unfoldable pub badSamples : List Float → Bool
+badSamples xs = ltb (samplesPlace xs) (length xs)
 
 -- ---- check 7: coordinates not twice the colours, or over 65,536 segments
 
@@ -82,7 +94,7 @@ endBefore ends i = cond (eqb i 0) 0 (getD ends (i - 1) 0)
 unfoldable pub badEnd : List ℕ → ℕ → ℕ → Bool
 badEnd ends n i = ltb (getD ends i 0) (endBefore ends i) || ltb n (getD ends i 0)
 
--- the first bad end, and the list's length where none is
+-- its place, the first bad end, and the list's length where none is
 unfoldable pub endsPlace : List ℕ → ℕ → ℕ
 endsPlace ends n = first (length ends) (badEnd ends n)
 
@@ -94,27 +106,45 @@ badEnds ends n = ltb (endsPlace ends n) (length ends) || not (eqb (endBefore end
 unfoldable pub badSegment : List ℕ → List Float → ℕ → Bool
 badSegment colours coords i = ltb 7 (getD colours i 0) || (oversize binary64 (getD coords (2 * i) nan) || oversize binary64 (getD coords (2 * i + 1) nan))
 
--- the first bad segment, and their number where none is
+-- its place, the first bad segment, and their number where none is
 unfoldable pub segmentsPlace : List ℕ → List Float → ℕ
 segmentsPlace colours coords = first (length colours) (badSegment colours coords)
 
+unfoldable pub badSegments : List ℕ → List Float → Bool
+badSegments colours coords = ltb (segmentsPlace colours coords) (length colours)
+
 -- ---- the first failure answers
 
--- of checks 7 to 9 the number of the first that fails, and 0 where all pass
-unfoldable pub outlineRefusal : List ℕ → List Float → List ℕ → ℕ
-outlineRefusal colours coords ends =
-    cond (badOutlines (length colours) (length coords)) 7
-    (cond (badEnds ends (length colours)) 8
-    (cond (ltb (segmentsPlace colours coords) (length colours)) 9 0))
+-- checks 1 to 4, of a bitmap with n samples and m cells
+abbrev pub sizeChecks : ℕ → ℕ → ℕ → ℕ → ℕ → List (Bool × ℕ)
+sizeChecks w h ch n m = (badChannels ch, 1) ∷ (badSize w h, 2) ∷ (badSampleCount w h ch n, 3) ∷ (badCellCount w h m, 4) ∷ []
 
--- the number of the first check that fails, and 0 where all pass
+-- checks 7 to 9
+abbrev pub outlineChecks : List ℕ → List Float → List ℕ → List (Bool × ℕ)
+outlineChecks colours coords ends =
+    (badOutlines (length colours) (length coords), 7) ∷ (badEnds ends (length colours), 8) ∷ (badSegments colours coords, 9) ∷ []
+
+-- checks 1 to 4 of an input
+abbrev pub bitmapChecks : Input → List (Bool × ℕ)
+bitmapChecks i = sizeChecks (i .width) (i .height) (i .channels) (length (i .samples)) (length (i .stencil))
+
+-- checks 5 to 9
+abbrev pub contentChecks : Input → List (Bool × ℕ)
+contentChecks i = (badSettings (i .mode) (i .settings), 5) ∷ (badSamples (i .samples), 6) ∷ outlineChecks (i .colours) (i .coords) (i .ends)
+
+-- all checks, in number order
+abbrev pub checks : Input → List (Bool × ℕ)
+checks i = bitmapChecks i ++ contentChecks i
+
+-- the number of the first check that fails, and 0 where all pass: of checks 1 to 4, of checks 7 to 9, and of all
+unfoldable pub sizeRefusal : ℕ → ℕ → ℕ → ℕ → ℕ → ℕ
+sizeRefusal w h ch n m = firstFailing (sizeChecks w h ch n m)
+
+unfoldable pub outlineRefusal : List ℕ → List Float → List ℕ → ℕ
+outlineRefusal colours coords ends = firstFailing (outlineChecks colours coords ends)
+
 unfoldable pub refusalNumber : Input → ℕ
-refusalNumber i =
-    let n = sizeRefusal (i .width) (i .height) (i .channels) (length (i .samples)) (length (i .stencil)) in
-    cond (not (eqb n 0)) n
-    (cond (ltb (settingsPlace (i .mode) (i .settings)) 5) 5
-    (cond (ltb (samplesPlace (i .samples)) (length (i .samples))) 6
-    (outlineRefusal (i .colours) (i .coords) (i .ends))))
+refusalNumber i = firstFailing (checks i)
 
 -- the place of check n, where it is 8 or 9
 unfoldable pub outlinePlace : List ℕ → List Float → List ℕ → ℕ → ℕ

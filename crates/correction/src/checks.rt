@@ -16,6 +16,7 @@ pub struct Refusal {
     pub place: usize,
 }
 
+// Check 1: channels not 3 or 4.
 fn bad_channels(ch: usize) -> bool
     ensures { λ r. ⌜ r ≡ Checks.badChannels ch ⌝ }
 {
@@ -25,6 +26,7 @@ fn bad_channels(ch: usize) -> bool
     ch != 4
 }
 
+// A side outside 1..4,096.
 fn bad_side(n: usize) -> bool
     ensures { λ r. ⌜ r ≡ Checks.badSide n ⌝ }
 {
@@ -34,28 +36,49 @@ fn bad_side(n: usize) -> bool
     true
 }
 
-// Checks 1 to 4, of a bitmap with n samples and m cells.
+// Check 2: either side.
+fn bad_size(w: usize, h: usize) -> bool
+    ensures { λ r. ⌜ r ≡ Checks.badSize w h ⌝ }
+{
+    bad_side(w) || bad_side(h)
+}
+
+// Check 3, of n samples; the bounds are for the product to fit.
+fn bad_sample_count(w: usize, h: usize, ch: usize, n: usize) -> bool
+    requires { ⌜ (w ≤ 4096) × (h ≤ 4096) × (ch ≤ 4) ⌝ }
+    ensures { λ r. ⌜ r ≡ Checks.badSampleCount w h ch n ⌝ }
+{
+    n != w * h * ch
+}
+
+// Check 4, of m cells.
+fn bad_cell_count(w: usize, h: usize, m: usize) -> bool
+    requires { ⌜ (w ≤ 4096) × (h ≤ 4096) ⌝ }
+    ensures { λ r. ⌜ r ≡ Checks.badCellCount w h m ⌝ }
+{
+    m != w * h
+}
+
+// The first of checks 1 to 4 that fails, of a bitmap with n samples and m cells; 0 where all pass.
 pub fn size_refusal(w: usize, h: usize, ch: usize, n: usize, m: usize) -> u8
     ensures { λ r. ⌜ r ≡ Checks.sizeRefusal w h ch n m ⌝ }
 {
     if bad_channels(ch) {
         return 1;
     }
-    if bad_side(w) {
+    if bad_size(w, h) {
         return 2;
     }
-    if bad_side(h) {
-        return 2;
-    }
-    if n != w * h * ch {
+    if bad_sample_count(w, h, ch, n) {
         return 3;
     }
-    if m != w * h {
+    if bad_cell_count(w, h, m) {
         return 4;
     }
     0
 }
 
+// A ratio or a length that is NaN, below 0 or above the limit.
 fn bad_length(v: f64) -> bool
     ensures { λ r. ⌜ r ≡ Checks.badLength v ⌝ }
 {
@@ -65,7 +88,7 @@ fn bad_length(v: f64) -> bool
     true
 }
 
-// Check 5: the first that is bad, or 5.
+// The place of check 5: the first that is bad, or 5.
 fn settings_place(mode: u8, s: Settings) -> usize
     ensures { λ r. ⌜ r ≡ Checks.settingsPlace mode s ⌝ }
 {
@@ -87,6 +110,7 @@ fn settings_place(mode: u8, s: Settings) -> usize
     5
 }
 
+// A sample that is NaN, infinite or of size above the limit.
 fn bad_sample(v: f32) -> bool
     ensures { λ r. ⌜ r ≡ Checks.oversize binary32 v ⌝ }
 {
@@ -96,7 +120,7 @@ fn bad_sample(v: f32) -> bool
     true
 }
 
-// Check 6: the first bad sample, or their number.
+// The place of check 6: the first bad sample, or their number.
 fn samples_place(xs: &[f32]) -> usize
     ensures { λ r. ⌜ r ≡ Checks.samplesPlace (now (xs .entry)) ⌝ }
 {
@@ -120,13 +144,14 @@ fn bad_outlines(colours: usize, coords: usize) -> bool
     coords != 2 * colours
 }
 
+// An end below the last one or above the segment count n.
 fn bad_end(end: usize, last: usize, n: usize) -> bool
     ensures { λ r. ⌜ r ≡ (ltb end last || ltb n end) ⌝ }
 {
     end < last || end > n
 }
 
-// Check 8: the first bad end, or their number.
+// The place of check 8: the first bad end, or their number.
 fn ends_place(ends: &[usize], n: usize) -> usize
     ensures { λ r. ⌜ r ≡ Checks.endsPlace (now (ends .entry)) n ⌝ }
 {
@@ -151,6 +176,7 @@ fn end_before(ends: &[usize], i: usize) -> usize
     if i == 0 { 0 } else { ends[i - 1] }
 }
 
+// Check 8, where `place` is the first bad end.
 fn bad_ends(ends: &[usize], n: usize, place: usize) -> bool
     requires { ⌜ place ≡ Checks.endsPlace (now ends) n ⌝ }
     ensures { λ r. ⌜ r ≡ Checks.badEnds (now (ends .entry)) n ⌝ }
@@ -158,6 +184,7 @@ fn bad_ends(ends: &[usize], n: usize, place: usize) -> bool
     place < ends.len() || end_before(ends, ends.len()) != n
 }
 
+// A coordinate that is NaN, infinite or of size above the limit.
 fn bad_coordinate(v: f64) -> bool
     ensures { λ r. ⌜ r ≡ Checks.oversize binary64 v ⌝ }
 {
@@ -167,13 +194,14 @@ fn bad_coordinate(v: f64) -> bool
     true
 }
 
+// A colour above 7, or a bad coordinate.
 fn bad_segment(colour: u8, x: f64, y: f64) -> bool
     ensures { λ r. ⌜ r ≡ (ltb 7 colour || (Checks.oversize binary64 x || Checks.oversize binary64 y)) ⌝ }
 {
     colour > 7 || (bad_coordinate(x) || bad_coordinate(y))
 }
 
-// Check 9: the first bad segment, or their number.
+// The place of check 9: the first bad segment, or their number.
 fn segments_place(colours: &[u8], coords: &[f64]) -> usize
     requires { ⌜ length (now coords) ≡ 2 * length (now colours) ⌝ }
     ensures { λ r. ⌜ r ≡ Checks.segmentsPlace (now (colours .entry)) (now (coords .entry)) ⌝ }
@@ -188,7 +216,7 @@ fn segments_place(colours: &[u8], coords: &[f64]) -> usize
     i
 }
 
-// Checks 7 to 9.
+// The first of checks 7 to 9 that fails, with its place.
 fn outline_refusal(colours: &[u8], coords: &[f64], ends: &[usize]) -> Refusal
     ensures { λ r. ⌜ (r .number ≡ Checks.outlineRefusal (now (colours .entry)) (now (coords .entry)) (now (ends .entry))) × (r .place ≡ Checks.outlinePlace (now (colours .entry)) (now (coords .entry)) (now (ends .entry)) (r .number)) ⌝ }
 {

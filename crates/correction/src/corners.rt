@@ -3,7 +3,7 @@ ghost use mathlib.Core.Path.{_≡_};
 ghost use Prim.Native.Nat.{_+_, _-_, _*_, _/_, _%_, _<_, _≤_};
 ghost use mathlib.Core.Bool.{cond, _&&_};
 ghost use lib.Dec.{eqb, ltb};
-ghost use lib.ListN.{length, getD};
+ghost use lib.ListN.{length};
 ghost use Rattle.correction.specs.Corners as Corners;
 ghost use Rattle.correction.specs.Inner.{Outlined, painted, spot, clip, cornerHits, contourHits};
 use crate::bitmap;
@@ -58,10 +58,12 @@ fn mark_around(stencil: &mut [u8], w: usize, h: usize, px: f64, py: f64)
 {
     let l = lower(px, w);
     let b = lower(py, h);
+    let r = l + 1;
+    let t = b + 1;
     mark(stencil, w, h, l, b);
-    mark(stencil, w, h, l + 1, b);
-    mark(stencil, w, h, l, b + 1);
-    mark(stencil, w, h, l + 1, b + 1);
+    mark(stencil, w, h, r, b);
+    mark(stencil, w, h, l, t);
+    mark(stencil, w, h, r, t);
 }
 
 // How many of the three colour bits both have.

@@ -15,15 +15,15 @@ use lib.Ieee.{Float, binary32, nan}
 use denote.Ref.{now}
 use contract.Lifetimes.{Lfts}
 use borrow.Fn.Kinds.{Dens}
-use borrow.Author.Tests.{le-ltb}
+use borrow.Author.Tests.{le-ltb, eq-eqb}
 use Rattle.numbers.proofs.Laws.Median.{median-keeps}
-use Rattle.correction.specs.Checks.{Input, sizeRefusal, oversize, samplesPlace, refusalNumber, accepted}
+use Rattle.correction.specs.Checks.{Input, oversize, samplesPlace, badSamples, refusalNumber, accepted}
 use Rattle.correction.specs.Collapse.{cellMedian, collapsedSample, collapsed}
 use Rattle.correction.specs.Pass.{flags, passSamples, stencilAfter, samplesAfter, fedBack, numberOf}
 use Rattle.ground.proofs.Laws.Fill.{tab-length, tab-at}
 use Rattle.ground.proofs.Laws.Search.{first-is-end}
 use Rattle.correction.proofs.checks.Measures.{sizes}
-use Rattle.correction.proofs.checks.Passed.{passed, stages}
+use Rattle.correction.proofs.checks.Passed.{passed, stages, staged}
 use Rattle.correction.proofs.pass.msdf_error_correction.Kinds.{ps}
 use Rattle.correction.proofs.pass.msdf_error_correction.Reads as entry
 use Rattle.correction.proofs.Laws.Answer.{zero-accepts}
@@ -66,22 +66,20 @@ samples-within i p j l =
     ∙ collapsed-keeps (λ (v : Float). oversize binary32 v ≡ false) (i .samples) (i .channels) (i .width * i .height) f (z .channels .0) (z .samples) (q .samples) j h
 
 -- Where no sample is oversize check 6 passes.
-samples-pass : (xs : List Float) → ((j : ℕ) → j < length xs → oversize binary32 (getD xs j nan) ≡ false) → ltb (samplesPlace xs) (length xs) ≡ false
-unfolding samplesPlace
+samples-pass : (xs : List Float) → ((j : ℕ) → j < length xs → oversize binary32 (getD xs j nan) ≡ false) → badSamples xs ≡ false
+unfolding badSamples samplesPlace
 samples-pass xs h = le-ltb _ _ (le-of-eq (sym (first-is-end (λ k. oversize binary32 (getD xs k nan)) (length xs) h)))
 
 -- So the result of an accepted pass is accepted as input, with the mode, the settings and the outlines of any accepted input of its size.
 pub accepted-again : (i j : Input) → accepted i ≡ true → accepted j ≡ true → i .width ≡ j .width → i .height ≡ j .height → i .channels ≡ j .channels → accepted (fedBack i j) ≡ true
-unfolding accepted refusalNumber
+unfolding accepted
 accepted-again i j p q w h ch =
     let s = stages j (number-zero j q) in
     let z = sizes (j .width) (j .height) (j .channels) (length (j .samples)) (length (j .stencil)) (s .sizes) in
     let y = sizes (i .width) (i .height) (i .channels) (length (i .samples)) (length (i .stencil)) (passed i (number-zero i p) .sizes) in
     let n : length (samplesAfter i) ≡ length (j .samples) = samples-length i p ∙ y .samples ∙ rw (w, h, ch) (sym (z .samples)) in
     let m : length (stencilAfter i) ≡ length (j .stencil) = stencil-length i p ∙ rw (w, h) (sym (z .cells)) in
-    let e : sizeRefusal (j .width) (j .height) (j .channels) (length (samplesAfter i)) (length (stencilAfter i)) ≡ 0 = rw (n, m) (s .sizes) in
-    let f : ltb (samplesPlace (samplesAfter i)) (length (samplesAfter i)) ≡ false = samples-pass (samplesAfter i) (samples-within i p) in
-    simp (e, s .settings, f, s .outlines)
+    eq-eqb (refusalNumber (fedBack i j)) 0 (staged (fedBack i j) (record { sizes = rw (n, m) (s .sizes); settings = s .settings; samples = samples-pass (samplesAfter i) (samples-within i p); outlines = s .outlines }))
 
 -- The first of a run of `msdf_error_correction` that answers 0: it keeps the promise as it is read from the source, of the arguments a, the answer z and the arguments at exit e, of which the samples are the fourth.
 pub promise-within : (κs : Lfts 5) (a : Dens κs ps) (z : _) (e : _) → entry.Post κs a z e → numberOf z ≡ 0 → (j : ℕ) → j < length (now (e .1 .1 .1 .0)) → oversize binary32 (getD (now (e .1 .1 .1 .0)) j nan) ≡ false

@@ -1,9 +1,10 @@
--- What an answer 0 of the size checks says. Assumes nothing.
+-- What passing each of checks 1 to 4 says, and all of them. Assumes nothing.
+--     channel-bound, side-bound, size-bound, sample-count, cell-count   each by itself
 --     sizes   the sides and the channels are within their bounds, and both lengths are as they should be
 --     sized   the same as the inner functions ask for it, and cells of the stencil
 --     lies    so a texel inside has its cell and its samples, and every product fits
 use mathlib.Core.Path.{_≡_, refl, sym, _∙_, ap}
-use mathlib.Core.Bool.{Bool, true, false, not, _||_, true≢false}
+use mathlib.Core.Bool.{Bool, true, false, _||_, true≢false}
 use mathlib.Core.List.{List}
 use Prim.Native.Nat.{ℕ, _+_, _*_, _<_, _≤_}
 use native.Mathlib.Nat.{mul-le-mul, mul-comm, mul-le-mul-right, le-mul-of-pos-right}
@@ -12,10 +13,11 @@ use lib.Dec.{eqb, leb}
 use lib.ListN.{length}
 use lib.Ieee.{Float}
 use borrow.Author.Tests.{eqb-true, leb-true, not-false}
-use Rattle.correction.specs.Checks.{badChannels, badSide, sizeRefusal}
+use Rattle.correction.specs.Checks.{badChannels, badSide, badSize, badSampleCount, badCellCount, sizeChecks, sizeRefusal}
 use Rattle.correction.specs.Inner.{Sized}
 use Rattle.correction.proofs.bitmap.Places.{cell-lt, next-row}
-use Rattle.ground.proofs.Laws.Bools.{both-hold, cond-zero}
+use Rattle.ground.proofs.Laws.Bools.{both-hold, both-fail}
+use Rattle.ground.proofs.Laws.Refuse.{all-pass}
 
 pub side-bound : (n : ℕ) → badSide n ≡ false → (1 ≤ n) × (n ≤ 4096)
 unfolding badSide
@@ -31,6 +33,18 @@ either ch false false p q r = absurd (true≢false (sym r))
 pub channel-bound : (ch : ℕ) → badChannels ch ≡ false → (3 ≤ ch) × (ch ≤ 4)
 unfolding badChannels
 channel-bound ch p = either ch (eqb ch 3) (eqb ch 4) refl refl (not-false _ p)
+
+pub size-bound : (w h : ℕ) → badSize w h ≡ false → ((1 ≤ w) × (w ≤ 4096)) × ((1 ≤ h) × (h ≤ 4096))
+unfolding badSize
+size-bound w h p = let q = both-fail (badSide w) (badSide h) p in (side-bound w (q .0), side-bound h (q .1))
+
+pub sample-count : (w h ch n : ℕ) → badSampleCount w h ch n ≡ false → n ≡ w * h * ch
+unfolding badSampleCount
+sample-count w h ch n p = eqb-true n (w * h * ch) (not-false _ p)
+
+pub cell-count : (w h m : ℕ) → badCellCount w h m ≡ false → m ≡ w * h
+unfolding badCellCount
+cell-count w h m p = eqb-true m (w * h) (not-false _ p)
 
 pub area-fits : (w h : ℕ) → w ≤ 4096 → h ≤ 4096 → w * h ≤ 16777216
 area-fits w h p q = mul-le-mul p q
@@ -49,18 +63,9 @@ pub record Sizes (w h ch n m : ℕ) : Type 0 where
 pub sizes : (w h ch n m : ℕ) → sizeRefusal w h ch n m ≡ 0 → Sizes w h ch n m
 unfolding sizeRefusal
 sizes w h ch n m p =
-    let a = cond-zero (badChannels ch) 0 _ p in
-    let b = cond-zero (badSide w) 1 _ (a .1) in
-    let c = cond-zero (badSide h) 1 _ (b .1) in
-    let d = cond-zero (not (eqb n (w * h * ch))) 2 _ (c .1) in
-    let e = cond-zero (not (eqb m (w * h))) 3 _ (d .1) in
-    record {
-      wide = side-bound w (b .0);
-      high = side-bound h (c .0);
-      channels = channel-bound ch (a .0);
-      samples = eqb-true n (w * h * ch) (not-false _ (d .0));
-      cells = eqb-true m (w * h) (not-false _ (e .0));
-    }
+    let f = all-pass (sizeChecks w h ch n m) refl p in
+    let b = size-bound w h (f .1 .0) in
+    record { wide = b .0; high = b .1; channels = channel-bound ch (f .0); samples = sample-count w h ch n (f .1 .1 .0); cells = cell-count w h m (f .1 .1 .1 .0) }
 
 -- the same as the inner functions ask for it
 pub sized : (w h ch : ℕ) (xs : List Float) (m : ℕ) → Sizes w h ch (length xs) m → Sized w h ch xs

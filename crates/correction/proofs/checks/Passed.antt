@@ -1,27 +1,28 @@
--- What an answer 0 of all the checks says, check by check. Assumes nothing.
---     stages         what each stage of the checks answers
---     passed         each check's fact
---     good-outlines  the coordinates are twice the colours, and these are few
+-- What passing each of checks 5 to 9 says, and all nine. Assumes nothing.
 --     length-bounds  a length that is not bad is from 0 to the limit
 --     size-bounds    a sample or a coordinate that is not oversize is from minus the limit to the limit
 --     good-segment   a segment that is not bad has a colour of at most 7 and two coordinates that are not oversize
-use mathlib.Core.Path.{_≡_, refl, subst}
-use mathlib.Core.Bool.{Bool, true, false, cond, not, _||_}
+--     good-settings, good-samples, good-outlines, good-ends, good-segments   each check by itself
+--     stages, staged   an answer 0 is one of each stage of the checks
+--     passed         so of each check
+use mathlib.Core.Path.{_≡_, refl, subst, _∙_}
+use mathlib.Core.Bool.{true, false, not, _||_}
 use mathlib.Core.List.{List}
 use Prim.Native.Nat.{ℕ, suc, _+_, _*_, _<_, _≤_}
 use native.Mathlib.Omega.{arith}
 use lib.Dec.{eqb, ltb}
 use lib.ListN.{length, getD}
 use lib.Ieee.{Float, Format, binary32, binary64, nan, le, neg}
-use borrow.Author.Tests.{eqb-true, eqb-false, ltb-false, not-false}
+use borrow.Author.Tests.{eqb-true, ltb-false, not-false}
 use Rattle.numbers.specs.Constants.{zeroOf}
 use Rattle.detectors.specs.Constants.{limitOf}
 use Rattle.detectors.specs.declared.config.Settings.{Settings}
-use Rattle.correction.specs.Checks.{Input, sizeRefusal, badLength, settingsPlace, oversize, samplesPlace, badOutlines, endBefore, badEnd, endsPlace, badEnds, badSegment, segmentsPlace, outlineRefusal, refusalNumber}
+use Rattle.correction.specs.Checks.{Input, badLength, settingsPlace, badSettings, oversize, samplesPlace, badSamples, badOutlines, endBefore, badEnd, endsPlace, badEnds, badSegment, segmentsPlace, badSegments, outlineChecks, bitmapChecks, contentChecks, sizeRefusal, refusalNumber}
 use Rattle.correction.specs.Inner.{Outlined}
 use Rattle.correction.proofs.checks.Ends.{before-next}
 use Rattle.ground.proofs.Laws.Search.{first-past}
-use Rattle.ground.proofs.Laws.Bools.{both-hold, both-fail, cond-zero, cond-above}
+use Rattle.ground.proofs.Laws.Bools.{both-hold, both-fail, cond-above}
+use Rattle.ground.proofs.Laws.Refuse.{Passes, none-fails, all-pass, zero-parts, passes-to}
 
 pub record Passed (i : Input) : Type 0 where
   pub sizes : sizeRefusal (i .width) (i .height) (i .channels) (length (i .samples)) (length (i .stencil)) ≡ 0
@@ -57,7 +58,7 @@ good-segment colours coords j p =
 
 -- ---- the outlines
 
-good-end : (ends : List ℕ) (n j : ℕ) → badEnd ends n j ≡ false → (endBefore ends j ≤ getD ends j 0) × (getD ends j 0 ≤ n)
+pub good-end : (ends : List ℕ) (n j : ℕ) → badEnd ends n j ≡ false → (endBefore ends j ≤ getD ends j 0) × (getD ends j 0 ≤ n)
 unfolding badEnd
 good-end ends n j p =
     let a = both-fail (ltb (getD ends j 0) (endBefore ends j)) (ltb n (getD ends j 0)) p in
@@ -69,7 +70,7 @@ good-outlines n m p =
     let a = both-fail (ltb 65536 n) (not (eqb m (2 * n))) p in
     (ltb-false 65536 n (a .0), eqb-true m (2 * n) (not-false _ (a .1)))
 
-good-ends : (ends : List ℕ) (n : ℕ) → badEnds ends n ≡ false → ((j : ℕ) → j < length ends → badEnd ends n j ≡ false) × (endBefore ends (length ends) ≡ n)
+pub good-ends : (ends : List ℕ) (n : ℕ) → badEnds ends n ≡ false → ((j : ℕ) → j < length ends → badEnd ends n j ≡ false) × (endBefore ends (length ends) ≡ n)
 unfolding badEnds endsPlace
 good-ends ends n p =
     let a = both-fail (ltb (endsPlace ends n) (length ends)) (not (eqb (endBefore ends (length ends)) n)) p in
@@ -85,73 +86,64 @@ made colours coords ends p h =
       within = λ j l. good-end ends (length colours) j (h j l) .1;
     }
 
--- ---- the settings and the samples
+-- ---- the settings, the samples and the segments
 
-good-settings : (mode : ℕ) (s : Settings) → 5 ≤ settingsPlace mode s → (mode ≤ 3) × ((badLength (s .ratio) ≡ false) × ((badLength (s .horizontal) ≡ false) × ((badLength (s .vertical) ≡ false) × (badLength (s .diagonal) ≡ false))))
-unfolding settingsPlace
+pub good-settings : (mode : ℕ) (s : Settings) → badSettings mode s ≡ false → (mode ≤ 3) × (badLength (s .ratio) ≡ false) × (badLength (s .horizontal) ≡ false) × (badLength (s .vertical) ≡ false) × (badLength (s .diagonal) ≡ false)
+unfolding badSettings settingsPlace
 good-settings mode s p =
-    let a = cond-above (ltb 3 mode) 0 _ 5 (omega arith) p in
+    let a = cond-above (ltb 3 mode) 0 _ 5 (omega arith) (ltb-false _ 5 p) in
     let b = cond-above (badLength (s .ratio)) 1 _ 5 (omega arith) (a .1) in
     let c = cond-above (badLength (s .horizontal)) 2 _ 5 (omega arith) (b .1) in
     let d = cond-above (badLength (s .vertical)) 3 _ 5 (omega arith) (c .1) in
     let e = cond-above (badLength (s .diagonal)) 4 5 5 (omega arith) (d .1) in
-    (ltb-false 3 mode (a .0), (b .0, (c .0, (d .0, e .0))))
+    (ltb-false 3 mode (a .0), b .0, c .0, d .0, e .0)
 
-good-samples : (xs : List Float) → ltb (samplesPlace xs) (length xs) ≡ false → (j : ℕ) → j < length xs → oversize binary32 (getD xs j nan) ≡ false
-unfolding samplesPlace
+pub good-samples : (xs : List Float) → badSamples xs ≡ false → (j : ℕ) → j < length xs → oversize binary32 (getD xs j nan) ≡ false
+unfolding badSamples samplesPlace
 good-samples xs p = first-past (λ j. oversize binary32 (getD xs j nan)) (length xs) (ltb-false _ (length xs) p)
 
-good-segments : (colours : List ℕ) (coords : List Float) → ltb (segmentsPlace colours coords) (length colours) ≡ false → (j : ℕ) → j < length colours → badSegment colours coords j ≡ false
-unfolding segmentsPlace
+pub good-segments : (colours : List ℕ) (coords : List Float) → badSegments colours coords ≡ false → (j : ℕ) → j < length colours → badSegment colours coords j ≡ false
+unfolding badSegments segmentsPlace
 good-segments colours coords p = first-past (badSegment colours coords) (length colours) (ltb-false _ (length colours) p)
 
 -- ---- all of them
 
-number-zero : (n r : ℕ) (b : Bool) → eqb n 0 ≡ b → cond (not b) n r ≡ 0 → (n ≡ 0) × (r ≡ 0)
-number-zero n r true e p = (eqb-true n 0 e, p)
-number-zero n r false e p = absurd (eqb-false n 0 e p)
-
-outlines-pass : (colours : List ℕ) (coords : List Float) (ends : List ℕ) → outlineRefusal colours coords ends ≡ 0 → (badOutlines (length colours) (length coords) ≡ false) × ((badEnds ends (length colours) ≡ false) × (ltb (segmentsPlace colours coords) (length colours) ≡ false))
-unfolding outlineRefusal
-outlines-pass colours coords ends p =
-    let a = cond-zero (badOutlines (length colours) (length coords)) 6 _ p in
-    let b = cond-zero (badEnds ends (length colours)) 7 _ (a .1) in
-    let c = cond-zero (ltb (segmentsPlace colours coords) (length colours)) 8 0 (b .1) in
-    (a .0, (b .0, c .0))
-
 -- an answer 0 stage by stage, before each is taken apart
 pub record Stages (i : Input) : Type 0 where
   pub sizes : sizeRefusal (i .width) (i .height) (i .channels) (length (i .samples)) (length (i .stencil)) ≡ 0
-  pub settings : ltb (settingsPlace (i .mode) (i .settings)) 5 ≡ false
-  pub samples : ltb (samplesPlace (i .samples)) (length (i .samples)) ≡ false
-  pub outlines : outlineRefusal (i .colours) (i .coords) (i .ends) ≡ 0
+  pub settings : badSettings (i .mode) (i .settings) ≡ false
+  pub samples : badSamples (i .samples) ≡ false
+  pub outlines : Passes (outlineChecks (i .colours) (i .coords) (i .ends))
 
 pub stages : (i : Input) → refusalNumber i ≡ 0 → Stages i
-unfolding refusalNumber
+unfolding refusalNumber sizeRefusal
 stages i p =
-    let n = sizeRefusal (i .width) (i .height) (i .channels) (length (i .samples)) (length (i .stencil)) in
-    let a = number-zero n _ (eqb n 0) refl p in
-    let b = cond-zero (ltb (settingsPlace (i .mode) (i .settings)) 5) 4 _ (a .1) in
-    let c = cond-zero (ltb (samplesPlace (i .samples)) (length (i .samples))) 5 (outlineRefusal (i .colours) (i .coords) (i .ends)) (b .1) in
-    record { sizes = a .0; settings = b .0; samples = c .0; outlines = c .1 }
+    let a = zero-parts (bitmapChecks i) (contentChecks i) refl p in
+    let f = all-pass (contentChecks i) refl (a .1) in
+    record { sizes = a .0; settings = f .0; samples = f .1 .0; outlines = f .1 .1 }
+
+pub staged : (i : Input) → Stages i → refusalNumber i ≡ 0
+unfolding refusalNumber sizeRefusal
+staged i s =
+    passes-to (bitmapChecks i) (contentChecks i) (all-pass (bitmapChecks i) refl (s .sizes))
+    ∙ none-fails (contentChecks i) (s .settings, (s .samples, s .outlines))
 
 pub passed : (i : Input) → refusalNumber i ≡ 0 → Passed i
 passed i p =
     let t = stages i p in
-    let s = good-settings (i .mode) (i .settings) (ltb-false (settingsPlace (i .mode) (i .settings)) 5 (t .settings)) in
-    let o = outlines-pass (i .colours) (i .coords) (i .ends) (t .outlines) in
-    let e = good-ends (i .ends) (length (i .colours)) (o .1 .0) in
+    let s = good-settings (i .mode) (i .settings) (t .settings) in
+    let e = good-ends (i .ends) (length (i .colours)) (t .outlines .1 .0) in
     record {
       sizes = t .sizes;
       mode = s .0;
-      ratio = s .1 .0;
-      horizontal = s .1 .1 .0;
-      vertical = s .1 .1 .1 .0;
-      diagonal = s .1 .1 .1 .1;
+      ratio = s .1;
+      horizontal = s .2;
+      vertical = s .3;
+      diagonal = s .4;
       samples = good-samples (i .samples) (t .samples);
-      outlines = o .0;
+      outlines = t .outlines .0;
       ends = e .0;
       last = e .1;
-      outlined = made (i .colours) (i .coords) (i .ends) (o .0) (e .0);
-      segments = good-segments (i .colours) (i .coords) (o .1 .1);
+      outlined = made (i .colours) (i .coords) (i .ends) (t .outlines .0) (e .0);
+      segments = good-segments (i .colours) (i .coords) (t .outlines .1 .1 .0);
     }

@@ -1,99 +1,54 @@
--- Which check answers, and with what place, by what the checks before it said. Assumes nothing.
---     by-sizes     one of checks 1 to 4 fails
---     by-settings  those pass, and check 5 fails
---     by-samples   those pass, and check 6 fails
---     by-outlines  those pass, so checks 7 to 9 answer
-use mathlib.Core.Path.{_≡_, refl, _∙_, ap}
-use mathlib.Core.Bool.{Bool, true, false, cond, not}
-use mathlib.Core.List.{List}
-use Prim.Native.Nat.{ℕ, _*_, _<_, _≤_}
-use native.Mathlib.Omega.{arith}
-use lib.Dec.{eqb, ltb}
+-- Which check answers, and with what place, by what the code has found: n is the answer of checks 1 to 4, p and q are the places of checks 5 and 6. Assumes nothing.
+--     below, not-below   a test of a place, by what the code compares
+--     by-sizes           one of checks 1 to 4 fails
+--     by-settings        those pass, and check 5 fails
+--     by-samples         those pass, and check 6 fails
+--     by-outlines        those pass, so checks 7 to 9 answer, with r and its place o
+use mathlib.Core.Path.{_≡_, refl, sym, _∙_, ap, subst}
+use mathlib.Core.Bool.{true, false}
+use Prim.Native.Nat.{ℕ, _<_, _≤_}
+use lib.Dec.{ltb}
 use lib.ListN.{length}
-use lib.Ieee.{Float}
-use borrow.Author.Tests.{eq-eqb, ne-eqb, lt-ltb, le-ltb}
-use Rattle.correction.specs.Checks.{Input, badChannels, badSide, sizeRefusal, settingsPlace, samplesPlace, badOutlines, badEnds, segmentsPlace, outlineRefusal, refusalNumber, outlinePlace, placeOf, refusalPlace}
+use borrow.Author.Tests.{lt-ltb, le-ltb}
+use Rattle.ground.specs.Refuse.{firstFailing}
+use Rattle.correction.specs.Checks.{Input, settingsPlace, badSettings, samplesPlace, badSamples, outlineChecks, bitmapChecks, contentChecks, sizeRefusal, outlineRefusal, refusalNumber, outlinePlace, placeOf, refusalPlace}
+use Rattle.ground.proofs.Laws.Refuse.{all-pass, fails-in, passes-to, answer-is}
 
--- ---- the numbers that each group answers
+pub below : {p q : ℕ} (n : ℕ) → p ≡ q → p < n → ltb q n ≡ true
+below n e l = lt-ltb _ n (subst (λ (k : ℕ). k < n) e l)
 
-cond-le : (b : Bool) (x y k : ℕ) → x ≤ k → y ≤ k → cond b x y ≤ k
-cond-le true x y k p q = p
-cond-le false x y k p q = q
-
-cond-other : (b : Bool) (x y k : ℕ) → (x ≡ k → ⊥) → (y ≡ k → ⊥) → cond b x y ≡ k → ⊥
-cond-other true x y k p q = p
-cond-other false x y k p q = q
-
-size-small : (w h ch n m : ℕ) → sizeRefusal w h ch n m ≤ 4
-unfolding sizeRefusal
-size-small w h ch n m =
-    cond-le (badChannels ch) 1 _ 4 (omega arith)
-    (cond-le (badSide w) 2 _ 4 (omega arith)
-    (cond-le (badSide h) 2 _ 4 (omega arith)
-    (cond-le (not (eqb n (w * h * ch))) 3 _ 4 (omega arith)
-    (cond-le (not (eqb m (w * h))) 4 0 4 (omega arith) (omega arith)))))
-
-outline-other : (colours : List ℕ) (coords : List Float) (ends : List ℕ) (k : ℕ) → 0 < k → k < 7 → outlineRefusal colours coords ends ≡ k → ⊥
-unfolding outlineRefusal
-outline-other colours coords ends k p q =
-    cond-other (badOutlines (length colours) (length coords)) 7 _ k (λ e. omega arith)
-    (cond-other (badEnds ends (length colours)) 8 _ k (λ e. omega arith)
-    (cond-other (ltb (segmentsPlace colours coords) (length colours)) 9 0 k (λ e. omega arith) (λ e. omega arith)))
-
--- ---- who answers
+pub not-below : {p q : ℕ} (n : ℕ) → p ≡ q → n ≤ p → ltb q n ≡ false
+not-below n e l = le-ltb _ n (subst (λ (k : ℕ). n ≤ k) e l)
 
 module _ (i : Input) where
-  abbrev pub size : ℕ
-  size = sizeRefusal (i .width) (i .height) (i .channels) (length (i .samples)) (length (i .stencil))
-
-  abbrev pub outline : ℕ
-  outline = outlineRefusal (i .colours) (i .coords) (i .ends)
-
-  -- where check n answers, refusalPlace is its place
-  place-at : (n : ℕ) → n ≡ refusalNumber i → placeOf i n ≡ refusalPlace i
+  -- where check k answers, the place is its own
+  answers : {k o : ℕ} → k ≡ refusalNumber i → o ≡ placeOf i k → (k ≡ refusalNumber i) × (o ≡ refusalPlace i)
   unfolding refusalPlace
-  place-at n e = ap (placeOf i) e
+  answers e p = (e, p ∙ ap (placeOf i) e)
 
-  place-low : (n : ℕ) → n ≤ 4 → 0 ≡ placeOf i n
-  unfolding placeOf outlinePlace
-  place-low n l = simp (ne-eqb n 5 (λ e. omega arith), ne-eqb n 6 (λ e. omega arith), ne-eqb n 8 (λ e. omega arith), ne-eqb n 9 (λ e. omega arith))
+  module _ {n : ℕ} (e : n ≡ sizeRefusal (i .width) (i .height) (i .channels) (length (i .samples)) (length (i .stencil))) where
+    pub by-sizes : (n ≡ 0 → ⊥) → (n ≡ refusalNumber i) × (0 ≡ refusalPlace i)
+    unfolding sizeRefusal refusalNumber placeOf outlinePlace
+    by-sizes h =
+        answers (e ∙ sym (fails-in (bitmapChecks i) (contentChecks i) (λ z. h (e ∙ z))))
+        (answer-is (λ k. 0 ≡ placeOf i k) (bitmapChecks i) refl (refl, (refl, (refl, (refl, tt)))) ∙ ap (placeOf i) (sym e))
 
-  place-settings : settingsPlace (i .mode) (i .settings) ≡ placeOf i 5
-  unfolding placeOf
-  place-settings = refl
+    module _ (z : n ≡ 0) {p : ℕ} (f : p ≡ settingsPlace (i .mode) (i .settings)) where
+      from-rest : firstFailing (contentChecks i) ≡ refusalNumber i
+      unfolding sizeRefusal refusalNumber
+      from-rest = sym (passes-to (bitmapChecks i) (contentChecks i) (all-pass (bitmapChecks i) refl (sym e ∙ z)))
 
-  place-samples : samplesPlace (i .samples) ≡ placeOf i 6
-  unfolding placeOf
-  place-samples = refl
+      pub by-settings : p < 5 → (5 ≡ refusalNumber i) × (p ≡ refusalPlace i)
+      unfolding firstFailing badSettings placeOf
+      by-settings l = answers (simp (below 5 f l) at from-rest) f
 
-  place-outline : outlinePlace (i .colours) (i .coords) (i .ends) outline ≡ placeOf i outline
-  unfolding placeOf
-  place-outline =
-      simp
-      (ne-eqb outline 5 (outline-other (i .colours) (i .coords) (i .ends) 5 (omega arith) (omega arith)), ne-eqb outline 6 (outline-other (i .colours) (i .coords) (i .ends) 6 (omega arith) (omega arith)))
+      module _ (t : 5 ≤ p) {q : ℕ} (g : q ≡ samplesPlace (i .samples)) where
+        pub by-samples : q < length (i .samples) → (6 ≡ refusalNumber i) × (q ≡ refusalPlace i)
+        unfolding firstFailing badSettings badSamples placeOf
+        by-samples l = answers (simp (not-below 5 f t, below (length (i .samples)) g l) at from-rest) g
 
-  pub by-sizes : (size ≡ 0 → ⊥) → (size ≡ refusalNumber i) × (0 ≡ refusalPlace i)
-  by-sizes p = (number, place-low size (size-small (i .width) (i .height) (i .channels) (length (i .samples)) (length (i .stencil))) ∙ place-at size number)
-    where
-      number : size ≡ refusalNumber i
-      number = unfold refusalNumber in simp (ne-eqb size 0 p)
-
-  module _ (s : size ≡ 0) where
-    pub by-settings : settingsPlace (i .mode) (i .settings) < 5 → (5 ≡ refusalNumber i) × (settingsPlace (i .mode) (i .settings) ≡ refusalPlace i)
-    by-settings p = (number, place-settings ∙ place-at 5 number)
-      where
-        number : 5 ≡ refusalNumber i
-        number = unfold refusalNumber in simp (eq-eqb size 0 s, lt-ltb _ 5 p)
-
-    module _ (t : 5 ≤ settingsPlace (i .mode) (i .settings)) where
-      pub by-samples : samplesPlace (i .samples) < length (i .samples) → (6 ≡ refusalNumber i) × (samplesPlace (i .samples) ≡ refusalPlace i)
-      by-samples p = (number, place-samples ∙ place-at 6 number)
-        where
-          number : 6 ≡ refusalNumber i
-          number = unfold refusalNumber in simp (eq-eqb size 0 s, le-ltb _ 5 t, lt-ltb _ (length (i .samples)) p)
-
-      pub by-outlines : length (i .samples) ≤ samplesPlace (i .samples) → (outline ≡ refusalNumber i) × (outlinePlace (i .colours) (i .coords) (i .ends) outline ≡ refusalPlace i)
-      by-outlines p = (number, place-outline ∙ place-at outline number)
-        where
-          number : outline ≡ refusalNumber i
-          number = unfold refusalNumber in simp (eq-eqb size 0 s, le-ltb _ 5 t, le-ltb _ (length (i .samples)) p)
+        pub by-outlines : length (i .samples) ≤ q → {r o : ℕ} → r ≡ outlineRefusal (i .colours) (i .coords) (i .ends) → o ≡ outlinePlace (i .colours) (i .coords) (i .ends) r → (r ≡ refusalNumber i) × (o ≡ refusalPlace i)
+        unfolding firstFailing badSettings badSamples outlineRefusal placeOf outlinePlace
+        by-outlines l {r} a b =
+            answers (a ∙ (simp (not-below 5 f t, not-below (length (i .samples)) g l) at from-rest))
+            (b ∙ subst (λ (k : ℕ). outlinePlace (i .colours) (i .coords) (i .ends) k ≡ placeOf i k) (sym a) (answer-is (λ k. outlinePlace (i .colours) (i .coords) (i .ends) k ≡ placeOf i k) (outlineChecks (i .colours) (i .coords) (i .ends)) refl (refl, (refl, (refl, tt)))))

@@ -17,47 +17,30 @@ use lib.IntN.{ℤ, pos, negsuc}
 use mir.Syntax.{w64}
 use mir.Val.{Fits}
 use borrow.Author.Tests.{ltb-true, leb-true, eqb-true, lt-ltb, le-ltb, le-leb, eq-eqb, ne-eqb}
+use Rattle.ground.proofs.Laws.Bools.{both-hold, both-ways}
 use Rattle.correction.specs.Bitmap.{inBounds}
 use Rattle.correction.specs.Corners.{beside}
 use Rattle.correction.specs.Inner.{painted, spot, clip}
 use Rattle.correction.proofs.bitmap.Places.{row-lt}
 use Rattle.correction.proofs.bitmap.Painted.{painted-four, painted-same-below}
 
-same : (p q : Bool) → (p ≡ true → q ≡ true) → (q ≡ true → p ≡ true) → p ≡ q
-same true q f g = sym (f refl)
-same false true f g = g refl
-same false false f g = refl
-
-both : (a b : Bool) → (a && b) ≡ true → (a ≡ true) × (b ≡ true)
-both true b p = (refl, p)
-both false true p = (p, refl)
-both false false p = (p, p)
-
 -- a row and a column test, four times
 spread : (a b c d : Bool) → ((((a && c) || (b && c)) || (a && d)) || (b && d)) ≡ ((a || b) && (c || d))
-spread true true true true = refl
-spread true true true false = refl
+spread true b true d = refl
 spread true true false true = refl
 spread true true false false = refl
-spread true false true true = refl
-spread true false true false = refl
 spread true false false true = refl
 spread true false false false = refl
-spread false true true true = refl
-spread false true true false = refl
-spread false true false true = refl
-spread false true false false = refl
-spread false false true true = refl
-spread false false true false = refl
-spread false false false true = refl
-spread false false false false = refl
+spread false true true d = refl
+spread false true false d = refl
+spread false false c d = refl
 
 pub inside : (w h nx ny : ℕ) → inBounds w h nx ny ≡ true → (1 ≤ nx) × (nx ≤ w) × (1 ≤ ny) × (ny ≤ h)
 unfolding inBounds
 inside w h nx ny t =
-    let a = both (ltb 0 nx) (leb nx w && (ltb 0 ny && leb ny h)) t in
-    let b = both (leb nx w) (ltb 0 ny && leb ny h) (a .1) in
-    let c = both (ltb 0 ny) (leb ny h) (b .1) in
+    let a = both-hold (ltb 0 nx) (leb nx w && (ltb 0 ny && leb ny h)) t in
+    let b = both-hold (leb nx w) (ltb 0 ny && leb ny h) (a .1) in
+    let c = both-hold (ltb 0 ny) (leb ny h) (b .1) in
     (ltb-true 0 nx (a .0), leb-true nx w (b .0), ltb-true 0 ny (c .0), leb-true ny h (c .1))
 
 bounded : (w h nx ny : ℕ) → 0 < nx → nx ≤ w → 0 < ny → ny ≤ h → inBounds w h nx ny ≡ true
@@ -69,7 +52,7 @@ module _ (w h x y nx ny : ℕ) (p : x < w) (q : y < h) where
   to : spot w h nx ny (y * w + x) ≡ true → (eqb (suc x) nx && eqb (suc y) ny) ≡ true
   unfolding spot
   to t =
-      let e = both (inBounds w h nx ny) (eqb (y * w + x) ((ny - 1) * w + (nx - 1))) t in
+      let e = both-hold (inBounds w h nx ny) (eqb (y * w + x) ((ny - 1) * w + (nx - 1))) t in
       let i = inside w h nx ny (e .0) in
       let l : nx - 1 < w = omega (arith, i) in
       let f : y * w + x ≡ (ny - 1) * w + (nx - 1) = eqb-true (y * w + x) ((ny - 1) * w + (nx - 1)) (e .1) in
@@ -80,7 +63,7 @@ module _ (w h x y nx ny : ℕ) (p : x < w) (q : y < h) where
   from : (eqb (suc x) nx && eqb (suc y) ny) ≡ true → spot w h nx ny (y * w + x) ≡ true
   unfolding spot
   from t =
-      let e = both (eqb (suc x) nx) (eqb (suc y) ny) t in
+      let e = both-hold (eqb (suc x) nx) (eqb (suc y) ny) t in
       let a : suc x ≡ nx = eqb-true (suc x) nx (e .0) in
       let b : suc y ≡ ny = eqb-true (suc y) ny (e .1) in
       let c : x ≡ nx - 1 = omega (arith, a) in
@@ -92,7 +75,7 @@ module _ (w h x y nx ny : ℕ) (p : x < w) (q : y < h) where
       )
 
   spot-at : spot w h nx ny (y * w + x) ≡ (eqb (suc x) nx && eqb (suc y) ny)
-  spot-at = same (spot w h nx ny (y * w + x)) (eqb (suc x) nx && eqb (suc y) ny) to from
+  spot-at = both-ways (spot w h nx ny (y * w + x)) (eqb (suc x) nx && eqb (suc y) ny) to from
 
 next : (l x : ℕ) → (eqb (suc x) (suc l) || eqb (suc x) (suc l + 1)) ≡ (eqb x l || eqb x (l + 1))
 next l x = let e : suc l + 1 ≡ suc (l + 1) = omega arith in rw (e, eqb·suc-suc x l, eqb·suc-suc x (l + 1))

@@ -56,21 +56,17 @@ module _ (z : ℤ) (f : SFits w64 z) where
   back : z ≡ read
   back = sym (toZ-ofZ w64 z f)
 
-  plain : ltZ read (pos 0) ≡ false → ltZ z (pos 0) ≡ false
-  plain p = subst (λ (y : ℤ). ltZ y (pos 0) ≡ false) (sym back) p
-
   pub at-far : (n : ℕ) → ltZ read (negsuc 0) ≡ true → n + 1 ≡ clip z n
-  at-far n p = clip-far z n (subst (λ (y : ℤ). ltZ y (negsuc 0) ≡ true) (sym back) p)
+  at-far n p = clip-far z n (rw back p)
 
   pub at-near : (n : ℕ) → ltZ read (negsuc 0) ≡ false → ltZ read (pos 0) ≡ true → 0 ≡ clip z n
-  at-near n p q =
-      clip-near z n (subst (λ (y : ℤ). ltZ y (negsuc 0) ≡ false) (sym back) p) (subst (λ (y : ℤ). ltZ y (pos 0) ≡ true) (sym back) q)
+  at-near n p q = clip-near z n (rw back p) (rw back q)
 
   pub cast : ltZ read (pos 0) ≡ false → T (nonNeg read) × Fits w64 (natAbs read)
-  cast p = subst (λ (y : ℤ). T (nonNeg y) × Fits w64 (natAbs y)) back (not-neg z (plain p), abs-fits z f)
+  cast p = subst (λ (y : ℤ). T (nonNeg y) × Fits w64 (natAbs y)) back (not-neg z (rw back p), abs-fits z f)
 
   pub at-in : (n : ℕ) → ltZ read (pos 0) ≡ false → natAbs read < n → natAbs read + 1 ≡ clip z n
-  at-in n p l = subst (λ (y : ℤ). natAbs y < n → natAbs y + 1 ≡ clip z n) back (clip-in z n (plain p)) l
+  at-in n p l = subst (λ (y : ℤ). natAbs y < n → natAbs y + 1 ≡ clip z n) back (clip-in z n (rw back p)) l
 
   pub at-out : (n : ℕ) → ltZ read (pos 0) ≡ false → n ≤ natAbs read → n + 1 ≡ clip z n
-  at-out n p l = clip-out z n (plain p) (subst (λ (y : ℤ). n ≤ natAbs y) (sym back) l)
+  at-out n p l = clip-out z n (rw back p) (rw back l)

@@ -1,26 +1,35 @@
 -- Contours by the numbers of their segments, and all of them by the numbers of their ends. Assumes nothing.
+--     painted-long, painted-turn   a loop that paints turn by turn: how long its stencil is, and one more turn
 --     hit          a segment that is a corner, as the code goes: j is the segment before it, and b whether they make a corner
 --     miss         one that isn't
 --     start-next   a contour ends where the next starts
 --     start-le     a contour starts at most where it ends
 --     corners-at   a cell that some contour hits, by its number, is one that some contour of the list protects
-use mathlib.Core.Path.{_≡_, refl, sym, _∙_, ap, subst}
+use mathlib.Core.Path.{_≡_, refl, sym, _∙_, ap}
 use mathlib.Core.Bool.{Bool, true, false, cond, _&&_, _||_}
 use mathlib.Core.List.{List, [], _∷_}
 use Prim.Native.Nat.{ℕ, zero, suc, _+_, _-_, _*_, _/_, _%_, _<_, _≤_, zero-le}
-use native.Mathlib.Nat.{le-refl}
 use native.Mathlib.Numerals.{add-one}
 use native.Mathlib.Omega.{arith}
 use lib.Dec.{eqb, ltb}
 use lib.ListN.{length, getD, drop, length-drop}
 use lib.Seq.{length-take-le, getD-take, getD-drop}
 use lib.Ieee.{Float, nan}
-use borrow.Author.Tests.{lt-ltb, le-ltb, eq-eqb, ne-eqb}
+use borrow.Author.Tests.{eq-eqb, ne-eqb}
 use Rattle.ground.specs.Lists.{tab, any, some}
 use Rattle.correction.specs.Corners.{Segment, segmentAt, between, split, contours, before, shared, noSegment, lower, beside, isCorner, around, cornerAt, contourProtects, cornersProtect}
 use Rattle.correction.specs.Inner.{Outlined, painted, cornerHits, contourHits}
 use Rattle.ground.proofs.Laws.Fill.{tab-length, tab-at}
-use Rattle.correction.proofs.bitmap.Painted.{painted-same, painted-none}
+use Rattle.ground.proofs.Laws.Search.{any-first, any-same}
+use Rattle.correction.proofs.bitmap.Painted.{painted-length, painted-same, painted-none, painted-more}
+
+-- a loop whose turn i paints where f i holds, and has left st of st₀
+module _ (f : ℕ → ℕ → Bool) (st₀ st : List ℕ) (i : ℕ) (p : st ≡ painted (λ k. any i (λ j. f j k)) st₀) where
+  pub painted-long : length st ≡ length st₀
+  painted-long = ap length p ∙ painted-length _ st₀
+
+  pub painted-turn : (st' : List ℕ) (g : ℕ → Bool) → ((k : ℕ) → g k ≡ f i k) → st' ≡ painted g st → st' ≡ painted (λ k. any (i + 1) (λ j. f j k)) st₀
+  painted-turn st' g h e = e ∙ painted-same g (f i) st h ∙ ap (painted (f i)) p ∙ painted-more f st₀ i
 
 module _ (w : ℕ) (colours : List ℕ) (coords : List Float) (from end i j : ℕ) (b : Bool) (e : j ≡ cond (eqb i from) (end - 1) (i - 1)) (f : b ≡ ltb (shared (getD colours j 0) (getD colours i 0)) 2) where
   corner : b ≡ ltb (shared (getD colours (cond (eqb i from) (end - 1) (i - 1)) 0) (getD colours i 0)) 2
@@ -35,25 +44,6 @@ module _ (w : ℕ) (colours : List ℕ) (coords : List Float) (from end i j : �
   pub miss : b ≡ false → (st : List ℕ) → st ≡ painted (cornerHits w colours coords from end i) st
   unfolding cornerHits
   miss l st = painted-none _ st (λ k. simp (sym corner ∙ l))
-
-any-same : (n : ℕ) (f g : ℕ → Bool) → ((j : ℕ) → j < n → f j ≡ g j) → any n f ≡ any n g
-unfolding any
-any-same zero f g h = refl
-any-same (suc n) f g h = rw (any-same n f g (λ j l. h j (omega arith)), h n (le-refl (suc n)))
-
-or-assoc : (a b c : Bool) → ((a || b) || c) ≡ (a || (b || c))
-or-assoc true b c = refl
-or-assoc false b c = refl
-
-or-false : (a : Bool) → (a || false) ≡ a
-or-false true = refl
-or-false false = refl
-
--- the first number by itself
-any-first : (n : ℕ) (f : ℕ → Bool) → any (suc n) f ≡ (f 0 || any n (λ k. f (suc k)))
-unfolding any
-any-first zero f = sym (or-false (f 0))
-any-first (suc n) f = ap (λ (b : Bool). b || f (suc n)) (any-first n f) ∙ or-assoc (f 0) (any n (λ k. f (suc k))) (f (suc n))
 
 -- where contour i starts: at the end before it
 abbrev pub startAt : List ℕ → ℕ → ℕ

@@ -3,13 +3,13 @@
 --     and-taken, and-left   `a && b` as the code goes through it: r is what the first call answered, s what the second did, and e and f are their definitions
 --     or-taken, or-left     the same of `a || b`
 --     both-hold, both-fail  of `a && b` that holds, and of `a || b` that fails
---     cond-zero             of an answer 0 where a test that holds answers another number
 --     cond-above            of an answer not below k where a test that holds answers less
+--     both-ways             two tests of which each holds where the other does
 --     guarded               what stands behind a test matters only where the test holds
 --     and-implies, or-implies, four-imply, not-implies, cond-implies   where a test holds another does, part by part
 use mathlib.Core.Path.{_≡_, refl, sym, _∙_, ap}
 use mathlib.Core.Bool.{Bool, true, false, not, cond, _&&_, _||_, true≢false}
-use Prim.Native.Nat.{ℕ, suc, _<_, _≤_}
+use Prim.Native.Nat.{ℕ, _<_, _≤_}
 use native.Mathlib.Omega.{arith}
 use lib.Dec.{T}
 
@@ -33,13 +33,14 @@ pub both-fail : (a b : Bool) → (a || b) ≡ false → (a ≡ false) × (b ≡ 
 both-fail true b p = absurd (true≢false p)
 both-fail false b p = (refl, p)
 
-pub cond-zero : (b : Bool) (x y : ℕ) → cond b (suc x) y ≡ 0 → (b ≡ false) × (y ≡ 0)
-cond-zero true x y p = absurd (omega arith)
-cond-zero false x y p = (refl, p)
-
 pub cond-above : (b : Bool) (x y k : ℕ) → x < k → k ≤ cond b x y → (b ≡ false) × (k ≤ y)
 cond-above true x y k l p = absurd (omega arith)
 cond-above false x y k l p = (refl, p)
+
+pub both-ways : (a b : Bool) → (a ≡ true → b ≡ true) → (b ≡ true → a ≡ true) → a ≡ b
+both-ways true b f g = sym (f refl)
+both-ways false true f g = g refl
+both-ways false false f g = refl
 
 pub guarded : (e e' f g : Bool) → e ≡ e' → (e ≡ true → f ≡ g) → (e && f) ≡ (e' && g)
 guarded true true f g p q = q refl

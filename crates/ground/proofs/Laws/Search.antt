@@ -3,16 +3,20 @@
 --     none-more      the test fails at k
 --     any-at         the test holds at a k below n
 --     any-three      the three tests, in order
+--     any-first      the first number by itself
+--     any-same       two tests that agree below n
 --     any-implies    where a test holds of some number another does
 --     some-implies   the same over a list
 --     none-below     where no number below n passes, each fails
---     first-found    the search stops at i
---     first-none     the search passes all
---     first-is-end   the same, where each fails
---     first-end      the same, as a loop leaves it
---     first-le       the answer is at most n
---     first-past     where the answer is not below n, each fails
-use mathlib.Core.Path.{_≡_, refl, sym, _∙_, ap, subst}
+--     first-is-end   where each number fails the first is n
+--     first-le       the first is at most n
+--     first-past     where the first is not below n, each fails
+--     Searched       a search that has come to i: none before it passes
+--     search-none    before the first turn
+--     search-more    a turn whose answer r fails
+--     search-found   a turn whose answer r passes: i is the first
+--     search-end     the loop is left at the end: so is i there
+use mathlib.Core.Path.{_≡_, refl, sym, _∙_, subst}
 use mathlib.Core.Bool.{Bool, true, false, cond, _||_, true≢false}
 use mathlib.Core.List.{List, [], _∷_}
 use mathlib.Core.Logic.{⊎-elim}
@@ -40,13 +44,27 @@ unfolding any
 any-at f zero k l p = absurd (not-suc-le-zero l)
 any-at f (suc n) k l p = ⊎-elim (λ e. rw (← e, p) (or-true (any k f))) (λ b. rw (any-at f n k b p)) (eq-or-lt-of-le (le-of-suc-le-suc l))
 
-or-assoc : (a b c : Bool) → (((false || a) || b) || c) ≡ (a || (b || c))
+or-assoc : (a b c : Bool) → ((a || b) || c) ≡ (a || (b || c))
 or-assoc true b c = refl
 or-assoc false b c = refl
+
+or-false : (b : Bool) → (b || false) ≡ b
+or-false true = refl
+or-false false = refl
 
 pub any-three : (f : ℕ → Bool) → any 3 f ≡ (f 0 || (f 1 || f 2))
 unfolding any
 any-three f = or-assoc (f 0) (f 1) (f 2)
+
+pub any-first : (n : ℕ) (f : ℕ → Bool) → any (suc n) f ≡ (f 0 || any n (λ k. f (suc k)))
+unfolding any
+any-first zero f = sym (or-false (f 0))
+any-first (suc n) f = rw (any-first n f) (or-assoc (f 0) (any n (λ k. f (suc k))) (f (suc n)))
+
+pub any-same : (n : ℕ) (f g : ℕ → Bool) → ((k : ℕ) → k < n → f k ≡ g k) → any n f ≡ any n g
+unfolding any
+any-same zero f g h = refl
+any-same (suc n) f g h = rw (any-same n f g (λ k l. h k (omega arith)), h n (le-refl (suc n)))
 
 pub any-implies : (n : ℕ) (f g : ℕ → Bool) → ((k : ℕ) → f k ≡ true → g k ≡ true) → any n f ≡ true → any n g ≡ true
 unfolding any
@@ -72,25 +90,31 @@ found f (suc n) zero h l p = rw p
 found f (suc n) (suc i) h l p =
     rw (h 0 (omega arith), found (λ k. f (suc k)) n i (λ k b. h (suc k) (omega arith)) (le-of-suc-le-suc l) p)
 
-past : (f : ℕ → Bool) (n : ℕ) → ((k : ℕ) → k < n → f k ≡ false) → first n f ≡ n
-unfolding first
-past f zero h = refl
-past f (suc n) h = rw (h 0 (omega arith), past (λ k. f (suc k)) n (λ k b. h (suc k) (omega arith)))
-
--- where each fails the answer is n
 pub first-is-end : (f : ℕ → Bool) (n : ℕ) → ((k : ℕ) → k < n → f k ≡ false) → first n f ≡ n
-first-is-end f n h = past f n h
+unfolding first
+first-is-end f zero h = refl
+first-is-end f (suc n) h = rw (h 0 (omega arith), first-is-end (λ k. f (suc k)) n (λ k b. h (suc k) (omega arith)))
 
-pub first-found : (f : ℕ → Bool) (n i : ℕ) → any i f ≡ false → i < n → f i ≡ true → first n f ≡ i
-first-found f n i p l q = found f n i (none-below f i p) l q
+-- ---- a loop that searches, and stops at the first
 
-pub first-none : (f : ℕ → Bool) (n : ℕ) → any n f ≡ false → first n f ≡ n
-first-none f n p = past f n (none-below f n p)
+pub record Searched (f : ℕ → Bool) (n i : ℕ) : Type 0 where
+  pub high : i ≤ n
+  pub none : any i f ≡ false
 
-pub first-end : (f : ℕ → Bool) (n i : ℕ) → any i f ≡ false → i ≤ n → n ≤ i → first n f ≡ i
-first-end f n i p a b =
-    let e : i ≡ n = le-antisymm a b in
-    first-none f n (subst (λ (k : ℕ). any k f ≡ false) e p) ∙ sym e
+pub search-none : (f : ℕ → Bool) (n : ℕ) → Searched f n 0
+search-none f n = record { high = omega arith; none = none-zero f }
+
+module _ {f : ℕ → Bool} {n i : ℕ} (s : Searched f n i) where
+  pub search-more : {r : Bool} → i < n → r ≡ f i → r ≡ false → Searched f n (i + 1)
+  search-more l e p = record { high = omega arith; none = none-more f i (s .none) (sym e ∙ p) }
+
+  pub search-found : {r : Bool} → i < n → r ≡ f i → r ≡ true → i ≡ first n f
+  search-found l e p = sym (found f n i (none-below f i (s .none)) l (sym e ∙ p))
+
+  pub search-end : n ≤ i → i ≡ first n f
+  search-end l =
+      let e : i ≡ n = le-antisymm (s .high) l in
+      e ∙ sym (first-is-end f n (none-below f n (subst (λ (k : ℕ). any k f ≡ false) e (s .none))))
 
 cond-le : (b : Bool) (m n : ℕ) → m ≤ n → cond b 0 (suc m) ≤ suc n
 cond-le true m n l = omega arith

@@ -4,13 +4,6 @@ use Rattle.correction.specs.Checks.{badChannels}
 use Rattle.correction.proofs.checks.bad_channels.Statement.{statement}
 use Rattle.correction.proofs.checks.bad_channels.Tie as tie
 
-returns : tie.Need-returns
-unfolding badChannels
-returns c = simp (eq-eqb _ _ (c .if1 .taken))
-
-returns-2 : tie.Need-returns-2
-unfolding badChannels
-returns-2 c = simp (ne-eqb _ _ (c .if1 .left))
-
 pub bad-channels-spec : {M : Type 1} → statement M
-bad-channels-spec = tie.close (tie.spec returns returns-2)
+unfolding badChannels
+bad-channels-spec = tie.close (tie.spec (λ c. simp (eq-eqb _ _ (c .if1 .taken))) (λ c. simp (ne-eqb _ _ (c .if1 .left))))

@@ -5,11 +5,7 @@ use Rattle.ground.proofs.Laws.Bools.{or-taken, or-left}
 use Rattle.correction.proofs.checks.bad_end.Statement.{statement}
 use Rattle.correction.proofs.checks.bad_end.Tie as tie
 
-returns : tie.Need-returns
-returns c = or-taken _ refl (lt-ltb _ _ (c .if1 .taken))
-
-returns-2 : tie.Need-returns-2
-returns-2 c = or-left refl (le-ltb _ _ (c .if1 .left)) refl
-
 pub bad-end-spec : {M : Type 1} → statement M
-bad-end-spec = tie.close (tie.spec returns returns-2)
+bad-end-spec =
+    tie.close
+    (tie.spec (λ c. or-taken _ refl (lt-ltb _ _ (c .if1 .taken))) (λ c. or-left refl (le-ltb _ _ (c .if1 .left)) refl))

@@ -12,9 +12,6 @@ use Rattle.ground.proofs.Laws.Bools.{or-taken, or-left}
 use Rattle.correction.proofs.checks.bad_ends.Statement.{statement}
 use Rattle.correction.proofs.checks.bad_ends.Tie as tie
 
-end-before-requires : tie.Need-end-before-requires
-end-before-requires c κs = search needs
-
 returns : tie.Need-returns
 unfolding badEnds
 returns c =
@@ -29,4 +26,4 @@ returns-2 c =
     (ap (λ (k : ℕ). not (eqb k (b .args .n))) (c .end-before .ensures))
 
 pub bad-ends-spec : {M : Type 1} → statement M
-bad-ends-spec = tie.close (tie.spec end-before-requires returns returns-2)
+bad-ends-spec = tie.close (tie.spec (λ c κs. search needs) returns returns-2)

@@ -6,15 +6,6 @@ use Rattle.ground.proofs.Laws.Bools.{or-taken, or-left}
 use Rattle.correction.proofs.checks.bad_segment.Statement.{statement}
 use Rattle.correction.proofs.checks.bad_segment.Tie as tie
 
-bad-coordinate-requires : tie.Need-bad-coordinate-requires
-bad-coordinate-requires c κs = search needs
-
-bad-coordinate-requires-2 : tie.Need-bad-coordinate-requires-2
-bad-coordinate-requires-2 c κs = search needs
-
-returns : tie.Need-returns
-returns c = or-taken _ refl (lt-ltb _ _ (c .if1 .taken))
-
 returns-2 : tie.Need-returns-2
 returns-2 c =
     or-left refl (le-ltb _ _ (c .before .before .if1 .left))
@@ -28,4 +19,4 @@ returns-3 c =
 pub bad-segment-spec : {M : Type 1} → statement M
 bad-segment-spec =
     tie.close
-    (tie.spec bad-coordinate-requires bad-coordinate-requires-2 returns returns-2 returns-3)
+    (tie.spec (λ c κs. search needs) (λ c κs. search needs) (λ c. or-taken _ refl (lt-ltb _ _ (c .if1 .taken))) returns-2 returns-3)

@@ -4,23 +4,8 @@ use Rattle.correction.proofs.corners.Clips.{at-far, at-near, cast, at-i
 use Rattle.correction.proofs.corners.clipped.Statement.{statement}
 use Rattle.correction.proofs.corners.clipped.Tie as tie
 
-add-result : tie.Need-add-result
-add-result c = search needs
-
-returns : tie.Need-returns
-returns c = at-far _ (c .before .fits .l) _ (c .if1 .taken)
-
-returns-2 : tie.Need-returns-2
-returns-2 c = at-near _ (c .before .before .fits .l) _ (c .before .if1 .left) (c .if2 .taken)
-
 cast-k : tie.Need-cast-k
 cast-k c = cast _ (c .before .before .fits .l) (c .if2 .left)
-
-add-result-2 : tie.Need-add-result-2
-add-result-2 c = search needs
-
-add-result-3 : tie.Need-add-result-3
-add-result-3 c = search needs
 
 returns-3 : tie.Need-returns-3
 returns-3 c = at-in _ (c .before .before .before .fits .l) _ (c .before .if2 .left) (c .if3 .taken)
@@ -31,4 +16,12 @@ returns-4 c = at-out _ (c .before .before .before .fits .l) _ (c .before .if2 .l
 pub clipped-spec : {M : Type 1} → statement M
 clipped-spec =
     tie.close
-    (tie.spec add-result returns returns-2 cast-k add-result-2 add-result-3 returns-3 returns-4)
+    (tie.spec
+    (λ c. search needs)
+    (λ c. at-far _ (c .before .fits .l) _ (c .if1 .taken))
+    (λ c. at-near _ (c .before .before .fits .l) _ (c .before .if1 .left) (c .if2 .taken))
+    cast-k
+    (λ c. search needs)
+    (λ c. search needs)
+    returns-3
+    returns-4)

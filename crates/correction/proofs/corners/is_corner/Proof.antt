@@ -6,11 +6,5 @@ use borrow.Author.Needs.{needs}
 use Rattle.correction.proofs.corners.is_corner.Statement.{statement}
 use Rattle.correction.proofs.corners.is_corner.Tie as tie
 
-shared-requires : tie.Need-shared-requires
-shared-requires c κs = search needs
-
-returns : tie.Need-returns
-returns c = ap (λ (s : ℕ). ltb s 2) (c .shared .ensures)
-
 pub is-corner-spec : {M : Type 1} → statement M
-is-corner-spec = tie.close (tie.spec shared-requires returns)
+is-corner-spec = tie.close (tie.spec (λ c κs. search needs) (λ c. ap (λ (s : ℕ). ltb s 2) (c .shared .ensures)))

@@ -9,12 +9,6 @@ use Rattle.correction.specs.Inner.{clip}
 use Rattle.correction.proofs.corners.lower.Statement.{statement}
 use Rattle.correction.proofs.corners.lower.Tie as tie
 
-floor-to-i64-requires : tie.Need-floor-to-i64-requires
-floor-to-i64-requires c κs = search needs
-
-clipped-requires : tie.Need-clipped-requires
-clipped-requires c κs = search needs
-
 returns : tie.Need-returns
 unfolding lower
 returns c =
@@ -23,4 +17,4 @@ returns c =
     ∙ ap (λ (z : ℤ). clip z (c .before .before .args .n)) (toZ-ofZ w64 (f .result) (record { sfits = f .ok }) ∙ f .ensures)
 
 pub lower-spec : {M : Type 1} → statement M
-lower-spec = tie.close (tie.spec floor-to-i64-requires clipped-requires returns)
+lower-spec = tie.close (tie.spec (λ c κs. search needs) (λ c κs. search needs) returns)

@@ -4,45 +4,6 @@ use Rattle.correction.proofs.corners.Around.{next-fits, marked-around}
 use Rattle.correction.proofs.corners.mark_around.Statement.{statement}
 use Rattle.correction.proofs.corners.mark_around.Tie as tie
 
-lower-requires : tie.Need-lower-requires
-lower-requires c κs = search needs
-
-lower-requires-2 : tie.Need-lower-requires-2
-lower-requires-2 c κs = search needs
-
-mark-requires : tie.Need-mark-requires
-mark-requires c κs = search needs
-
-add-mark : tie.Need-add-mark
-add-mark c = let l = c .before .before .before .before .before .before in next-fits _ (l .lower .ensures) (l .before .before .pre .1)
-
-mark-requires-2 : tie.Need-mark-requires-2
-mark-requires-2 c κs = search needs
-
-add-mark-2 : tie.Need-add-mark-2
-add-mark-2 c =
-    let b = c .before .before .before .before .before .before .before .before .before in
-    next-fits _ (b .lower2 .ensures) (b .before .before .before .pre .2)
-
-mark-requires-3 : tie.Need-mark-requires-3
-mark-requires-3 c κs = search needs
-
-add-mark-3 : tie.Need-add-mark-3
-add-mark-3 c =
-    let b = c .before .before .before .before .before .before .before .before .before .before .before .before .before in
-    next-fits _ (b .before .lower .ensures) (b .before .before .before .pre .1)
-
-add-mark-4 : tie.Need-add-mark-4
-add-mark-4 c =
-    let b = c .before .before .before .before .before .before .before .before .before .before .before .before .before in
-    next-fits _ (b .lower2 .ensures) (b .before .before .before .pre .2)
-
-mark-requires-4 : tie.Need-mark-requires-4
-mark-requires-4 c κs = search needs
-
-same-length : tie.Need-same-length
-same-length c = search needs
-
 returns : tie.Need-returns
 returns c =
     let p4 = c .before .before in
@@ -58,15 +19,13 @@ pub mark-around-spec : {M : Type 1} → statement M
 mark-around-spec =
     tie.close
     (tie.spec
-    lower-requires
-    lower-requires-2
-    mark-requires
-    add-mark
-    mark-requires-2
-    add-mark-2
-    mark-requires-3
-    add-mark-3
-    add-mark-4
-    mark-requires-4
-    same-length
+    (λ c κs. search needs)
+    (λ c κs. search needs)
+    (λ c. next-fits _ (c .before .lower .ensures) (c .before .before .before .pre .1))
+    (λ c. next-fits _ (c .lower2 .ensures) (c .before .before .before .pre .2))
+    (λ c κs. search needs)
+    (λ c κs. search needs)
+    (λ c κs. search needs)
+    (λ c κs. search needs)
+    (λ c. search needs)
     returns)

@@ -1,16 +1,16 @@
 -- `correction::corners::protect_corners` meets its contract: after each turn the stencil is painted by the contours before c. Assumes nothing.
-use mathlib.Core.Path.{_≡_, refl, _∙_, ap}
+use mathlib.Core.Path.{_≡_, refl, _∙_}
 use mathlib.Core.Bool.{Bool}
 use mathlib.Core.List.{List}
-use Prim.Native.Nat.{ℕ, _+_, _-_, _≤_}
+use Prim.Native.Nat.{ℕ, _-_, _≤_}
 use native.Mathlib.Omega.{arith}
 use lib.ListN.{length, getD}
 use lib.Ieee.{Float}
 use denote.Ref.{now}
 use Rattle.ground.specs.Lists.{any}
 use Rattle.correction.specs.Inner.{painted, contourHits}
-use Rattle.correction.proofs.bitmap.Painted.{painted-length, painted-zero, painted-more, painted-same}
-use Rattle.correction.proofs.corners.Contours.{startAt, start-next, start-le, corners-at}
+use Rattle.correction.proofs.bitmap.Painted.{painted-zero, painted-same}
+use Rattle.correction.proofs.corners.Contours.{painted-long, painted-turn, startAt, start-next, start-le, corners-at}
 use Rattle.correction.proofs.corners.protect_corners.Statement.{statement}
 use Rattle.correction.proofs.corners.protect_corners.Tie as tie
 
@@ -23,16 +23,6 @@ record Inv (st₀ : List ℕ) (w : ℕ) (colours : List ℕ) (coords : List Floa
   start : from ≡ startAt ends c
   done : st ≡ painted (λ k. any c (λ j. nth w colours coords ends j k)) st₀
 
-module _ (st₀ : List ℕ) (w : ℕ) (colours : List ℕ) (coords : List Float) (ends st : List ℕ) (from c : ℕ) (v : Inv st₀ w colours coords ends st from c) where
-  long : length st ≡ length st₀
-  long = ap length (v .done) ∙ painted-length _ st₀
-
-  turn : (st' : List ℕ) → st' ≡ painted (contourHits w colours coords from (getD ends c 0)) st → st' ≡ painted (λ k. any (c + 1) (λ j. nth w colours coords ends j k)) st₀
-  turn st' e =
-      e ∙ ap (λ (n : ℕ). painted (contourHits w colours coords n (getD ends c 0)) st) (v .start)
-      ∙ ap (painted (nth w colours coords ends c)) (v .done)
-      ∙ painted-more (nth w colours coords ends) st₀ c
-
 abbrev Inv-loop : tie.InvT-loop
 Inv-loop stencil₀ w h colours coords ends from₀ c₀ stencil from c = Inv stencil₀ w colours coords ends stencil from c
 
@@ -42,24 +32,14 @@ abbrev μ-loop : tie.MeasureT-loop
 loop-holds : tie.Need-loop-holds Inv-loop μ-loop
 loop-holds c =
     let a = c .before .before .before .before .args in
-    record {
-      high = omega arith;
-      start = refl;
-      done = painted-zero (nth (a .w) (now (a .colours)) (now (a .coords)) (now (a .ends))) (now (a .stencil));
-    }
-
-mul-end : tie.Need-mul-end Inv-loop μ-loop
-mul-end c = omega (arith, c .before .before .before .before .before .before .good, c .loop-test .taken)
-
-shared-slice-read-end : tie.Need-shared-slice-read-end Inv-loop μ-loop
-shared-slice-read-end c = c .before .loop-test .taken
+    record { high = omega arith; start = refl; done = painted-zero (nth (a .w) (now (a .colours)) (now (a .coords)) (now (a .ends))) (now (a .stencil)) }
 
 protect-contour-requires : tie.Need-protect-contour-requires Inv-loop μ-loop
 protect-contour-requires c κs =
     let t = c .before .before in
     let l = t .before .loop in
     let r = t .before .before .before .before .before .before .pre in (
-      (r .0 .0, r .0 .1, r .0 .2, long _ _ _ _ _ _ _ _ (l .inv) ∙ r .0 .3),
+      (r .0 .0, r .0 .1, r .0 .2, painted-long _ _ _ _ (l .inv .done) ∙ r .0 .3),
       (
         (r .1 .twice, r .1 .few),
         (omega (arith, l .inv .start, start-le (r .1) (l .c) (t .loop-test .taken)), r .1 .within (l .c) (t .loop-test .taken)),
@@ -69,30 +49,25 @@ protect-contour-requires c κs =
 add-c : tie.Need-add-c Inv-loop μ-loop
 add-c c = let t = c .before .before .before .before .before in omega (arith, t .before .before .before .before .before .before .good, t .loop-test .taken)
 
-loop-less : tie.Need-loop-less Inv-loop μ-loop
-loop-less c = omega (arith, c .before .before .before .before .before .loop-test .taken)
-
 loop-again : tie.Need-loop-again Inv-loop μ-loop
 loop-again c =
     let t = c .before .before .before .before .before in
     let l = t .before .loop in
+    let a = t .before .before .before .before .before .before .args in
+    let f : ℕ → ℕ → Bool = nth (a .w) (now (a .colours)) (now (a .coords)) (now (a .ends)) in
     record {
       high = omega (arith, t .loop-test .taken);
-      start = start-next (now (t .before .before .before .before .before .before .args .ends)) (l .c);
-      done = turn _ _ _ _ _ _ _ _ (l .inv) _ (c .before .before .protect-contour .ensures);
+      start = start-next (now (a .ends)) (l .c);
+      done = painted-turn f _ _ (l .c) (l .inv .done) _ _ (λ k. rw (l .inv .start)) (c .before .before .protect-contour .ensures);
     }
-
-same-length : tie.Need-same-length Inv-loop μ-loop
-same-length c = long _ _ _ _ _ _ _ _ (c .before .loop .inv)
 
 returns : tie.Need-returns Inv-loop μ-loop
 returns c =
     let s = c .before .before .before .before .before .before in
-    let a = s .args in
-    let f : ℕ → ℕ → Bool = nth (a .w) (now (a .colours)) (now (a .coords)) (now (a .ends)) in
-    let e : c .before .loop .c ≡ length (now (a .ends)) = omega (arith, c .before .loop .inv .high) in
-    c .before .loop .inv .done ∙ ap (λ (n : ℕ). painted (λ k. any n (λ j. f j k)) (now (a .stencil))) e
-    ∙ painted-same _ _ _ (corners-at (a .w) (now (a .colours)) (now (a .coords)) (now (a .ends)) (s .pre .1))
+    let v = c .before .loop .inv in
+    let e : c .before .loop .c ≡ length (now (s .args .ends)) = omega (arith, v .high) in
+    rw e at (v .done)
+    ∙ painted-same _ _ _ (corners-at (s .args .w) (now (s .args .colours)) (now (s .args .coords)) (now (s .args .ends)) (s .pre .1))
 
 pub protect-corners-spec : {M : Type 1} → statement M
 protect-corners-spec =
@@ -101,11 +76,11 @@ protect-corners-spec =
     Inv-loop
     μ-loop
     loop-holds
-    mul-end
-    shared-slice-read-end
+    (λ c. omega (arith, c .before .before .before .before .before .before .good, c .loop-test .taken))
+    (λ c. c .before .loop-test .taken)
     protect-contour-requires
     add-c
-    loop-less
+    (λ c. omega (arith, c .before .before .before .before .before .loop-test .taken))
     loop-again
-    same-length
+    (λ c. painted-long _ _ _ _ (c .before .loop .inv .done))
     returns)
