@@ -1,6 +1,9 @@
--- What the crates above may know of lists, searches, tests and NaN patterns.
+-- What the crates above may know of lists, searches, tests, NaN patterns and writing, and that each promise determines its answer.
 pub mod Bools
 pub mod Search
 pub mod Count
 pub mod Fill
 pub mod Nan
+pub mod Join
+pub mod Write
+pub mod Alike
