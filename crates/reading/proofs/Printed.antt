@@ -16,11 +16,12 @@ use Rattle.reading.specs.Answer.{caseOf, answerText, printed}
 use Rattle.reading.specs.Case.{rowSamples, samplesOf}
 use Rattle.reading.specs.Grammar.{breach, width, height, channels, rowAt, rowSize}
 use Rattle.reading.specs.Text.{badText, refusedText}
-use Rattle.reading.proofs.Answered.{sized, stencil-length}
-use Rattle.reading.proofs.Decoded.{row-length}
+use Rattle.reading.proofs.run.Answered.{sized, stencil-length}
+use Rattle.reading.proofs.decode.Decoded.{row-length}
 use Rattle.reading.proofs.Laws.Bounds.{breach-short, breach-le, refusal-number-le, refusal-place-le, protected-le, error-le, ends-le, colours-le}
-use Rattle.reading.proofs.Layouts.{breach-small, samples-by-rows}
-use Rattle.reading.proofs.Lengths.{joined-length, bad-length, refused-length, accepted-length}
+use Rattle.reading.proofs.fields.Layouts.{breach-small, samples-by-rows}
+use Rattle.ground.proofs.Laws.Join.{joined-length}
+use Rattle.reading.proofs.text.Lengths.{bad-length, refused-length, accepted-length}
 
 -- a breach is printed
 pub printed-bad : (s : List ℕ) → (breach s ≡ 65537 → ⊥) → badText (breach s) ≡ printed s

@@ -3,11 +3,12 @@ ghost use mathlib.Core.Path.{_≡_};
 ghost use Prim.Native.Nat.{_+_, _*_, _≤_, _<_};
 ghost use mathlib.Core.List.{[], _∷_};
 ghost use lib.ListN.{length};
-ghost use Rattle.reading.specs.Bytes.{f64At};
+ghost use Rattle.ground.specs.Bytes.{f64At};
 ghost use Rattle.reading.specs.Case as Case;
-ghost use Rattle.reading.specs.Lists.{joined};
-ghost use Rattle.reading.specs.Written.{Written, Outlined};
-use crate::bytes;
+ghost use Rattle.ground.specs.Lists.{joined};
+ghost use Rattle.ground.specs.Write.{Written};
+ghost use Rattle.reading.specs.Inner.{Outlined};
+use ground::bytes;
 use crate::reader;
 
 // The n samples of the row at a place.

@@ -6,9 +6,10 @@ ghost use Rattle.correction.specs.Checks.{input};
 ghost use Rattle.correction.specs.Pass as Pass;
 ghost use Rattle.reading.specs.Answer as Answers;
 ghost use Rattle.reading.specs.Grammar.{channels};
-ghost use Rattle.reading.specs.Lists.{listed};
-ghost use Rattle.reading.specs.Written.{Written, Whole, Lent};
-use crate::bytes;
+ghost use Rattle.ground.specs.Lists.{tab};
+ghost use Rattle.ground.specs.Write.{Written};
+ghost use Rattle.reading.specs.Inner.{Whole, Lent};
+use ground::bytes;
 use crate::decode;
 use crate::text;
 use correction::pass;
@@ -56,7 +57,7 @@ fn settings(s: &[u8]) -> Settings
 // Zeros in the first n cells.
 fn clear(out: &mut [u8], n: usize) -> usize
     requires { ⌜ n ≤ length (now out) ⌝ }
-    ensures { λ r. ⌜ Written (now (out .entry)) 0 (listed n (λ k. 0)) r (now (out .exit)) × (r ≡ n) ⌝ }
+    ensures { λ r. ⌜ Written (now (out .entry)) 0 (tab n (λ k. 0)) r (now (out .exit)) × (r ≡ n) ⌝ }
 {
     let mut i = 0usize;
     while i < n {

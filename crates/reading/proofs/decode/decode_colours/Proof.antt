@@ -8,10 +8,10 @@ use denote.Ref.{now}
 use borrow.Author.Needs.{needs}
 use Rattle.reading.specs.Case.{segments, contourColours, coloursOf}
 use Rattle.reading.specs.Grammar.{lengthAt, start, before, contours}
-use Rattle.reading.specs.Lists.{joined}
-use Rattle.reading.specs.Written.{Written}
-use Rattle.reading.proofs.Decoded.{colours-length, start-zero, before-zero, contour-inside, contour-told, count-next}
-use Rattle.reading.proofs.Writes.{joined-none, joined-next, joined-all, written-as, written-length}
+use Rattle.ground.specs.Lists.{joined}
+use Rattle.ground.specs.Write.{Written}
+use Rattle.reading.proofs.decode.Decoded.{colours-length, start-zero, before-zero, contour-inside, contour-told, count-next}
+use Rattle.ground.proofs.Laws.Write.{joined-none, joined-next, joined-all, written-as, written-length}
 use Rattle.reading.proofs.decode.decode_colours.Statement.{statement}
 use Rattle.reading.proofs.decode.decode_colours.Tie as tie
 

@@ -8,10 +8,10 @@ use denote.Ref.{now}
 use borrow.Author.Needs.{needs}
 use Rattle.reading.specs.Case.{endsOf}
 use Rattle.reading.specs.Grammar.{start, before, contours}
-use Rattle.reading.specs.Lists.{listed}
-use Rattle.reading.specs.Written.{Written}
-use Rattle.reading.proofs.Decoded.{start-zero, before-zero, contour-inside, contour-told, count-next}
-use Rattle.reading.proofs.Writes.{written-to, listed-none, listed-next, listed-all}
+use Rattle.ground.specs.Lists.{tab}
+use Rattle.ground.specs.Write.{Written}
+use Rattle.reading.proofs.decode.Decoded.{start-zero, before-zero, contour-inside, contour-told, count-next}
+use Rattle.ground.proofs.Laws.Write.{written-to, tab-none, tab-next, tab-all}
 use Rattle.reading.proofs.decode.decode_ends.Statement.{statement}
 use Rattle.reading.proofs.decode.decode_ends.Tie as tie
 
@@ -24,7 +24,7 @@ record Inv (s : List ℕ) (k : ℕ) (out₀ out : List ℕ) (last place i : ℕ)
   there : place ≡ start s i
   count : last ≡ before s i
   len : length out ≡ length out₀
-  written : Written out₀ 0 (listed i (ends s)) i out
+  written : Written out₀ 0 (tab i (ends s)) i out
 
 abbrev Inv-loop : tie.InvT-loop
 Inv-loop s end k n out₀ last₀ place₀ i₀ out last place i = Inv s k out₀ out last place i
@@ -33,7 +33,7 @@ abbrev μ-loop : tie.MeasureT-loop
 μ-loop s end k n out₀ last₀ place₀ i₀ out last place i = k - i
 
 loop-holds : tie.Need-loop-holds Inv-loop μ-loop
-loop-holds c = record { within = omega arith; there = start-zero _; count = before-zero _; len = refl; written = listed-none _ 0 _ }
+loop-holds c = record { within = omega arith; there = start-zero _; count = before-zero _; len = refl; written = tab-none _ 0 _ }
 
 field-at-requires : tie.Need-field-at-requires Inv-loop μ-loop
 field-at-requires c κs = search needs
@@ -69,7 +69,7 @@ loop-again c =
       there = told .1;
       count = w;
       len = simp length-set (l .inv .len);
-      written = listed-next (l .i) (ends s) _ (l .inv .written) w;
+      written = tab-next (l .i) (ends s) _ (l .inv .written) w;
     }
 
 same-length : tie.Need-same-length Inv-loop μ-loop
@@ -77,7 +77,7 @@ same-length c = c .before .loop .inv .len
 
 returns : tie.Need-returns Inv-loop μ-loop
 unfolding endsOf
-returns c = let z : c .before .loop .i ≡ c .before .before .before .before .args .k = omega arith in (written-to _ z (listed-all (contours (now (c .before .before .before .before .args .s))) (ends (now (c .before .before .before .before .args .s))) (c .before .loop .inv .written) (z ∙ c .before .before .before .before .pre .0 .count)), refl)
+returns c = let z : c .before .loop .i ≡ c .before .before .before .before .args .k = omega arith in (written-to _ z (tab-all (contours (now (c .before .before .before .before .args .s))) (ends (now (c .before .before .before .before .args .s))) (c .before .loop .inv .written) (z ∙ c .before .before .before .before .pre .0 .count)), refl)
 
 pub decode-ends-spec : {M : Type 1} → statement M
 decode-ends-spec =

@@ -3,7 +3,7 @@ use Prim.Native.Nat.{_-_}
 use native.Mathlib.Omega.{arith}
 use lib.ListN.{length-set}
 use borrow.Author.Needs.{needs}
-use Rattle.reading.proofs.Writes.{written-two}
+use Rattle.ground.proofs.Laws.Write.{written-two}
 use Rattle.reading.proofs.decode.segment_coords.Statement.{statement}
 use Rattle.reading.proofs.decode.segment_coords.Tie as tie
 

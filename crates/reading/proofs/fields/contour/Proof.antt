@@ -4,10 +4,10 @@ use Prim.Native.Nat.{_+_, _/_}
 use native.Mathlib.Omega.{arith}
 use borrow.Author.Needs.{needs}
 use Rattle.reading.specs.Grammar.{lengthAt}
-use Rattle.reading.specs.Written.{Stage, Reached}
-use Rattle.reading.proofs.Layouts.{breach-outline}
-use Rattle.reading.proofs.Outlines.{reached-more, outlined-broken}
-use Rattle.reading.proofs.Stages.{stepped-on, stepped-broken, next-contour, told-contour}
+use Rattle.reading.specs.Inner.{Stage, Reached}
+use Rattle.reading.proofs.fields.Layouts.{breach-outline}
+use Rattle.reading.proofs.fields.Outlines.{reached-more, outlined-broken}
+use Rattle.reading.proofs.fields.Stages.{stepped-on, stepped-broken, next-contour, told-contour}
 use Rattle.reading.proofs.fields.contour.Statement.{statement}
 use Rattle.reading.proofs.fields.contour.Tie as tie
 

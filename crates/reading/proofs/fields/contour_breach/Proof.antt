@@ -3,7 +3,7 @@ use mathlib.Core.Path.{sym, _∙_}
 use borrow.Author.Needs.{needs}
 use borrow.Author.Tests.{lt-ltb, le-ltb, le-leb, lt-leb, eq-eqb, ne-eqb}
 use Rattle.reading.specs.Grammar.{contourBreach}
-use Rattle.reading.proofs.Breaches.{found, passed, head-fine}
+use Rattle.reading.proofs.fields.Breaches.{found, passed, head-fine}
 use Rattle.reading.proofs.fields.contour_breach.Statement.{statement}
 use Rattle.reading.proofs.fields.contour_breach.Tie as tie
 

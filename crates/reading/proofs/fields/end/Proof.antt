@@ -4,8 +4,8 @@ use native.Mathlib.Omega.{arith}
 use borrow.Author.Needs.{needs}
 use borrow.Author.Tests.{lt-ltb, le-ltb}
 use Rattle.reading.specs.Grammar.{endBreach}
-use Rattle.reading.proofs.Breaches.{found, passed}
-use Rattle.reading.proofs.Stages.{stepped-end, stepped-broken, end-decides, whole-read}
+use Rattle.reading.proofs.fields.Breaches.{found, passed}
+use Rattle.reading.proofs.fields.Stages.{stepped-end, stepped-broken, end-decides, whole-read}
 use Rattle.reading.proofs.fields.end.Statement.{statement}
 use Rattle.reading.proofs.fields.end.Tie as tie
 

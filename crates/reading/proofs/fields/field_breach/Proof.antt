@@ -3,7 +3,7 @@ use mathlib.Core.Path.{sym, _∙_}
 use borrow.Author.Needs.{needs}
 use borrow.Author.Tests.{eq-eqb, ne-eqb}
 use Rattle.reading.specs.Grammar.{fieldBreach}
-use Rattle.reading.proofs.Breaches.{found, passed, head-fine}
+use Rattle.reading.proofs.fields.Breaches.{found, passed, head-fine}
 use Rattle.reading.proofs.fields.field_breach.Statement.{statement}
 use Rattle.reading.proofs.fields.field_breach.Tie as tie
 

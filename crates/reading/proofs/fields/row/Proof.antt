@@ -2,8 +2,8 @@
 use mathlib.Core.Path.{sym, _∙_}
 use native.Mathlib.Omega.{arith}
 use borrow.Author.Needs.{needs}
-use Rattle.reading.specs.Written.{Stage}
-use Rattle.reading.proofs.Stages.{stepped-on, stepped-broken, next-field, row-broken, rowing-more}
+use Rattle.reading.specs.Inner.{Stage}
+use Rattle.reading.proofs.fields.Stages.{stepped-on, stepped-broken, next-field, row-broken, rowing-more}
 use Rattle.reading.proofs.fields.row.Statement.{statement}
 use Rattle.reading.proofs.fields.row.Tie as tie
 

@@ -2,10 +2,10 @@
 use mathlib.Core.Path.{sym, _∙_, refl}
 use native.Mathlib.Omega.{arith}
 use borrow.Author.Needs.{needs}
-use Rattle.reading.specs.Written.{Stage}
-use Rattle.reading.proofs.Layouts.{breach-settings}
-use Rattle.reading.proofs.Outlines.{reached-none}
-use Rattle.reading.proofs.Stages.{stepped-on, stepped-broken, same-field, next-field}
+use Rattle.reading.specs.Inner.{Stage}
+use Rattle.reading.proofs.fields.Layouts.{breach-settings}
+use Rattle.reading.proofs.fields.Outlines.{reached-none}
+use Rattle.reading.proofs.fields.Stages.{stepped-on, stepped-broken, same-field, next-field}
 use Rattle.reading.proofs.fields.settings.Statement.{statement}
 use Rattle.reading.proofs.fields.settings.Tie as tie
 

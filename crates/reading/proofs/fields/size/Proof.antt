@@ -5,10 +5,10 @@ use native.Mathlib.Omega.{arith}
 use lib.ListN.{getD}
 use denote.Ref.{now}
 use borrow.Author.Needs.{needs}
-use Rattle.reading.specs.Written.{Stage}
-use Rattle.reading.proofs.Breaches.{field-fine}
-use Rattle.reading.proofs.Sizes.{pair-fits, triple-fits, row-fits}
-use Rattle.reading.proofs.Stages.{stepped-on, stepped-broken, same-field, next-field, size-field, size-large, size-small}
+use Rattle.reading.specs.Inner.{Stage}
+use Rattle.reading.proofs.fields.Breaches.{field-fine}
+use Rattle.reading.proofs.fields.Sizes.{pair-fits, triple-fits, row-fits}
+use Rattle.reading.proofs.fields.Stages.{stepped-on, stepped-broken, same-field, next-field, size-field, size-large, size-small}
 use Rattle.reading.proofs.fields.size.Statement.{statement}
 use Rattle.reading.proofs.fields.size.Tie as tie
 

@@ -2,8 +2,8 @@
 use mathlib.Core.Path.{sym, _∙_, refl}
 use native.Mathlib.Omega.{arith}
 use borrow.Author.Needs.{needs}
-use Rattle.reading.specs.Written.{Stage}
-use Rattle.reading.proofs.Layouts.{read-found, breach-long}
+use Rattle.reading.specs.Inner.{Stage}
+use Rattle.reading.proofs.fields.Layouts.{read-found, breach-long}
 use Rattle.reading.proofs.fields.start.Statement.{statement}
 use Rattle.reading.proofs.fields.start.Tie as tie
 

@@ -2,7 +2,7 @@
 use mathlib.Core.Logic.{⊎-elim}
 use native.Mathlib.Omega.{arith}
 use borrow.Author.Tests.{eqb-true, eqb-false}
-use Rattle.reading.proofs.Stages.{stepped-as, told-other, rowing-first, begun-due, sized-due, outlining-due, rowing-due}
+use Rattle.reading.proofs.fields.Stages.{stepped-as, told-other, rowing-first, begun-due, sized-due, outlining-due, rowing-due}
 use Rattle.reading.proofs.fields.step.Statement.{statement}
 use Rattle.reading.proofs.fields.step.Tie as tie
 

@@ -9,9 +9,9 @@ use denote.Ref.{now}
 use borrow.Author.Needs.{needs}
 use Rattle.correction.specs.Pass.{answer}
 use Rattle.reading.specs.Answer.{answerText}
-use Rattle.reading.proofs.Decoded.{decoded-samples, decoded-case, whole-samples, whole-cells, whole-rows}
-use Rattle.reading.proofs.Sizes.{row-fits, pair-fits}
-use Rattle.reading.proofs.Writes.{written-fits, front, front-length, written-as}
+use Rattle.reading.proofs.decode.Decoded.{decoded-samples, decoded-case, whole-samples, whole-cells, whole-rows}
+use Rattle.reading.proofs.fields.Sizes.{row-fits, pair-fits}
+use Rattle.ground.proofs.Laws.Write.{written-fits, front, front-length, written-as}
 use Rattle.reading.proofs.run.answer_case.Statement.{statement}
 use Rattle.reading.proofs.run.answer_case.Tie as tie
 

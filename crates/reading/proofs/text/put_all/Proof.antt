@@ -7,8 +7,8 @@ use native.Mathlib.Omega.{arith}
 use lib.ListN.{take, length, length-set}
 use lib.Seq.{take-suc, take-all}
 use denote.Ref.{now}
-use Rattle.reading.specs.Written.{Written}
-use Rattle.reading.proofs.Writes.{written-none, written-one, written-then, written-as, written-to}
+use Rattle.ground.specs.Write.{Written}
+use Rattle.ground.proofs.Laws.Write.{written-none, written-one, written-then, written-as, written-to}
 use Rattle.reading.proofs.text.put_all.Statement.{statement}
 use Rattle.reading.proofs.text.put_all.Tie as tie
 

@@ -7,7 +7,7 @@ use lib.Seq.{sets}
 use borrow.Author.Needs.{needs}
 use Rattle.reading.specs.Decimal.{decimal}
 use Rattle.reading.proofs.Laws.Decimal.{decimal-one, decimal-more, length-more, decimal-some}
-use Rattle.reading.proofs.Writes.{sets-last}
+use Rattle.ground.proofs.Laws.Write.{sets-last}
 use Rattle.reading.proofs.text.put_decimal.Statement.{statement}
 use Rattle.reading.proofs.text.put_decimal.Tie as tie
 

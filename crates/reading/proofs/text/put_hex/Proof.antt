@@ -3,8 +3,8 @@ use Prim.Native.Nat.{_-_, _/_}
 use native.Mathlib.Omega.{arith}
 use borrow.Author.Needs.{needs}
 use Rattle.reading.specs.Text.{hex}
-use Rattle.reading.proofs.Lengths.{hexPair-length}
-use Rattle.reading.proofs.Writes.{written-then, written-room}
+use Rattle.reading.proofs.text.Lengths.{hexPair-length}
+use Rattle.ground.proofs.Laws.Write.{written-then, written-room}
 use Rattle.reading.proofs.text.put_hex.Statement.{statement}
 use Rattle.reading.proofs.text.put_hex.Tie as tie
 

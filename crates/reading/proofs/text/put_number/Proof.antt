@@ -6,7 +6,7 @@ use lib.ListN.{length, length-append}
 use borrow.Author.Needs.{needs}
 use Rattle.reading.specs.Decimal.{decimal}
 use Rattle.reading.specs.Text.{numbered}
-use Rattle.reading.proofs.Writes.{written-then, written-room}
+use Rattle.ground.proofs.Laws.Write.{written-then, written-room}
 use Rattle.reading.proofs.text.put_number.Statement.{statement}
 use Rattle.reading.proofs.text.put_number.Tie as tie
 

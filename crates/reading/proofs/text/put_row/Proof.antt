@@ -4,8 +4,8 @@ use native.Mathlib.Omega.{arith}
 use denote.Ref.{now}
 use borrow.Author.Needs.{needs}
 use Rattle.reading.specs.Text.{rowText}
-use Rattle.reading.proofs.Lengths.{marks-length}
-use Rattle.reading.proofs.Writes.{written-then, written-room}
+use Rattle.reading.proofs.text.Lengths.{marks-length}
+use Rattle.ground.proofs.Laws.Write.{written-then, written-room}
 use Rattle.reading.proofs.text.put_row.Statement.{statement}
 use Rattle.reading.proofs.text.put_row.Tie as tie
 

@@ -5,12 +5,12 @@ use native.Mathlib.Omega.{arith}
 use lib.Ieee.{nan}
 use lib.ListN.{length, getD}
 use denote.Ref.{now}
-use Rattle.reading.specs.Lists.{joined}
+use Rattle.ground.specs.Lists.{joined}
 use Rattle.reading.specs.Text.{flaggedText}
-use Rattle.reading.specs.Written.{Written}
-use Rattle.reading.proofs.Lengths.{flagged-length}
-use Rattle.reading.proofs.Sizes.{row-within}
-use Rattle.reading.proofs.Writes.{joined-none, joined-next, joined-all, written-length}
+use Rattle.ground.specs.Write.{Written}
+use Rattle.reading.proofs.text.Lengths.{flagged-length}
+use Rattle.reading.proofs.fields.Sizes.{row-within}
+use Rattle.ground.proofs.Laws.Write.{joined-none, joined-next, joined-all, written-length}
 use Rattle.reading.proofs.text.put_texels.Statement.{statement}
 use Rattle.reading.proofs.text.put_texels.Tie as tie
 

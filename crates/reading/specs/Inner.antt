@@ -1,18 +1,12 @@
--- What the inner functions leave for each other: those that write, and those that walk through the fields. Definitions only.
+-- What the inner functions ask of each other; no public promise rests on it. Definitions only.
 use mathlib.Core.Path.{_≡_}
 use Prim.Native.Nat.{ℕ, zero, suc, _+_, _-_, _*_, _≤_, _<_}
 use mathlib.Core.List.{List}
 use lib.ListN.{length, getD}
-use lib.Seq.{sets}
 use lib.Ieee.{Float}
 use Rattle.reading.specs.Grammar.{fine, lengthAt, start, before, contoursFrom, contours, rowSize, sizeBreach, fieldBreach, outlineBreach, rowsBreach, endAt, width, height, channels, breach}
 use Rattle.reading.specs.declared.reader.Field.{Field}
 use Rattle.reading.specs.declared.fields.Layout.{Layout}
-
--- the text stands in the slice from a place on, all else is as it was, and the answer is the place after it
-pub record Written {A : Type 0} (out : List A) (at : ℕ) (text : List A) (next : ℕ) (after : List A) : Type 0 where
-  pub holds : after ≡ sets out at text
-  pub to : next ≡ at + length text
 
 -- what a field reader tells of the field at a place: its tag, 0 where there is none, its length where that is there, and where its contents end where they are there
 pub record Told (s : List ℕ) (at : ℕ) (f : Field) : Type 0 where

@@ -12,21 +12,21 @@ use Rattle.detectors.specs.declared.config.Settings.{Settings}
 use Rattle.reading.specs.Answer.{settingsOf, caseOf}
 use Rattle.reading.specs.Case.{modeOf, rowSamples, contourColours, contourCoords, samplesOf, coloursOf, coordsOf, endsOf}
 use Rattle.reading.specs.Grammar.{lengthAt, start, before, width, height, channels, rowsAt}
-use Rattle.reading.specs.Lists.{joined, listed}
-use Rattle.reading.specs.Written.{Told, Outlined, Whole}
+use Rattle.ground.specs.Lists.{joined, tab}
+use Rattle.reading.specs.Inner.{Told, Outlined, Whole}
 use Rattle.reading.specs.declared.reader.Field.{Field}
-use Rattle.reading.proofs.Layouts.{samples-by-rows}
-use Rattle.reading.proofs.Outlines.{start-next, before-next}
-use Rattle.reading.proofs.Writes.{listed-length}
+use Rattle.reading.proofs.fields.Layouts.{samples-by-rows}
+use Rattle.reading.proofs.fields.Outlines.{start-next, before-next}
+use Rattle.ground.proofs.Laws.Fill.{tab-length}
 
 -- a row, and the colours and the coordinates of a contour, are as long as their numbers say
 pub row-length : (s : List ℕ) (from n : ℕ) → length (rowSamples s from n) ≡ n
 unfolding rowSamples
-row-length s from n = listed-length n _
+row-length s from n = tab-length n _
 
 pub colours-length : (s : List ℕ) (from n : ℕ) → length (contourColours s from n) ≡ n
 unfolding contourColours
-colours-length s from n = listed-length n _
+colours-length s from n = tab-length n _
 
 pub coords-length : (s : List ℕ) (from n : ℕ) → length (contourCoords s from n) ≡ 2 * n
 unfolding contourCoords joined
@@ -110,6 +110,6 @@ module _ {s : List ℕ} {rows k n w h : ℕ} (a : Whole s rows k n) (ew : w ≡ 
       ap (λ (r : ℕ). f r w h) at-rows ∙ ap (λ (x : ℕ). f (rowsAt s) x h) ew ∙ ap (λ (z : ℕ). f (rowsAt s) (width s) z) eh
 
   -- the decoded case is the one that the input means
-  pub decoded-case : {set : Settings} {xs : List Float} {st cs : List ℕ} {ps : List Float} {es : List ℕ} → xs ≡ samplesOf s → st ≡ listed (w * h) (λ k. 0) → set ≡ settingsOf s → cs ≡ coloursOf s → ps ≡ coordsOf s → es ≡ endsOf s
+  pub decoded-case : {set : Settings} {xs : List Float} {st cs : List ℕ} {ps : List Float} {es : List ℕ} → xs ≡ samplesOf s → st ≡ tab (w * h) (λ k. 0) → set ≡ settingsOf s → cs ≡ coloursOf s → ps ≡ coordsOf s → es ≡ endsOf s
       → input w h (channels s) xs st (modeOf s) set cs ps es ≡ caseOf s
   decoded-case p q r e f g = rw (p, q, r, e, f, g, ew, eh)
