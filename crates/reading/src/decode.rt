@@ -8,8 +8,8 @@ ghost use Rattle.reading.specs.Case as Case;
 ghost use Rattle.ground.specs.Lists.{joined};
 ghost use Rattle.ground.specs.Write.{Written};
 ghost use Rattle.reading.specs.Inner.{Outlined};
-use ground::bytes;
 use crate::reader;
+use ground::bytes;
 
 // The n samples of the row at a place.
 fn decode_row(s: &[u8], from: usize, n: usize, out: &mut [f32], at: usize) -> usize

@@ -9,12 +9,12 @@ ghost use Rattle.reading.specs.Grammar.{channels};
 ghost use Rattle.ground.specs.Lists.{tab};
 ghost use Rattle.ground.specs.Write.{Written};
 ghost use Rattle.reading.specs.Inner.{Whole, Lent};
-use ground::bytes;
 use crate::decode;
 use crate::text;
 use correction::pass;
 use correction::pass::Answer;
 use detectors::config::Settings;
+use ground::bytes;
 
 // The pass on a decoded case.
 fn run(

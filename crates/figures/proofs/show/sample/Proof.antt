@@ -17,24 +17,6 @@ no-nan nan h = absurd (true≢false h)
 no-nan (inf s) h = tt
 no-nan (fin s m e) h = tt
 
-returns : tie.Need-returns
-returns c = search needs
-
-slice-aggregate-text : tie.Need-slice-aggregate-text
-slice-aggregate-text c = search needs
-
-text-requires : tie.Need-text-requires
-text-requires c κs = search needs
-
-returns-2 : tie.Need-returns-2
-returns-2 c = search needs
-
-slice-aggregate-text-2 : tie.Need-slice-aggregate-text-2
-slice-aggregate-text-2 c = search needs
-
-text-requires-2 : tie.Need-text-requires-2
-text-requires-2 c κs = search needs
-
 float-to-bits-print-hex : tie.Need-float-to-bits-print-hex
 float-to-bits-print-hex c = no-nan _ (c .before .before .if2 .left)
 
@@ -44,23 +26,8 @@ cast-print-hex c =
     let l : toBits binary32 (s .args .v) < 4294967296 = toBits-lt binary32 (s .args .v) (subst T (sym (s .good .1 .0 .1)) tt) in
     omega arith
 
-print-hex-requires : tie.Need-print-hex-requires
-print-hex-requires c κs = search needs
-
-returns-3 : tie.Need-returns-3
-returns-3 c = search needs
-
 pub sample-spec : {M : Type 1} → statement M
 sample-spec =
     tie.close
-    (tie.spec
-    returns
-    slice-aggregate-text
-    text-requires
-    returns-2
-    slice-aggregate-text-2
-    text-requires-2
-    float-to-bits-print-hex
-    cast-print-hex
-    print-hex-requires
-    returns-3)
+    (tie.spec (λ c. search needs) (λ c. search needs) (λ c κs. search needs) (λ c. search needs) (λ c. search needs) (λ c κs. search needs) float-to-bits-print-hex cast-print-hex (λ c κs. search needs)
+    (λ c. search needs))

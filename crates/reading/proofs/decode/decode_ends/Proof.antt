@@ -35,33 +35,23 @@ abbrev μ-loop : tie.MeasureT-loop
 loop-holds : tie.Need-loop-holds Inv-loop μ-loop
 loop-holds c = record { within = omega arith; there = start-zero _; count = before-zero _; len = refl; written = tab-none _ 0 _ }
 
-field-at-requires : tie.Need-field-at-requires Inv-loop μ-loop
-field-at-requires c κs = search needs
-
 add-last : tie.Need-add-last Inv-loop μ-loop
 add-last c =
+    let start = c .before .before .before .before .before .before in
     let l = c .before .before .before .loop .inv in
-    let z = contour-inside (c .before .before .before .before .before .before .pre .0) (l .there) (c .before .before .loop-test .taken) in
-    let e = ap (λ x. x / 17) (contour-told (c .before .before .before .before .before .before .pre .0) (l .there) (c .before .before .loop-test .taken) (c .before .field-at .ensures) .0) in
-    omega (arith, z .1, l .count, c .before .before .before .before .before .before .pre .0 .sparse)
-
-mul-out : tie.Need-mul-out Inv-loop μ-loop
-mul-out c = omega arith
+    let z = contour-inside (start .pre .0) (l .there) (c .before .before .loop-test .taken) in
+    let e = ap (λ x. x / 17) (contour-told (start .pre .0) (l .there) (c .before .before .loop-test .taken) (c .before .field-at .ensures) .0) in
+    omega (arith, z .1, l .count, start .pre .0 .sparse)
 
 slice-write-out : tie.Need-slice-write-out Inv-loop μ-loop
 slice-write-out c = omega (arith, c .before .before .before .loop .inv .len)
 
-add-i : tie.Need-add-i Inv-loop μ-loop
-add-i c = omega arith
-
-loop-less : tie.Need-loop-less Inv-loop μ-loop
-loop-less c = omega arith
-
 loop-again : tie.Need-loop-again Inv-loop μ-loop
 loop-again c =
+    let start = c .before .before .before .before .before .before in
     let l = c .before .before .before .loop in
-    let s = now (c .before .before .before .before .before .before .args .s) in
-    let told = contour-told (c .before .before .before .before .before .before .pre .0) (l .inv .there) (c .before .before .loop-test .taken) (c .before .field-at .ensures) in
+    let s = now (start .args .s) in
+    let told = contour-told (start .pre .0) (l .inv .there) (c .before .before .loop-test .taken) (c .before .field-at .ensures) in
     let e = told .0 in
     let w : l .last + c .before .field-at .result .len / 17 ≡ before s (l .i + 1) = rw (l .inv .count) (count-next s (l .i) (l .inv .there) e) in
     record {
@@ -72,9 +62,6 @@ loop-again c =
       written = tab-next (l .i) (ends s) _ (l .inv .written) w;
     }
 
-same-length : tie.Need-same-length Inv-loop μ-loop
-same-length c = c .before .loop .inv .len
-
 returns : tie.Need-returns Inv-loop μ-loop
 unfolding endsOf
 returns c = let z : c .before .loop .i ≡ c .before .before .before .before .args .k = omega arith in (written-to _ z (tab-all (contours (now (c .before .before .before .before .args .s))) (ends (now (c .before .before .before .before .args .s))) (c .before .loop .inv .written) (z ∙ c .before .before .before .before .pre .0 .count)), refl)
@@ -82,16 +69,4 @@ returns c = let z : c .before .loop .i ≡ c .before .before .before .before .ar
 pub decode-ends-spec : {M : Type 1} → statement M
 decode-ends-spec =
     tie.close
-    (tie.spec
-    Inv-loop
-    μ-loop
-    loop-holds
-    field-at-requires
-    add-last
-    mul-out
-    slice-write-out
-    add-i
-    loop-less
-    loop-again
-    same-length
-    returns)
+    (tie.spec Inv-loop μ-loop loop-holds (λ c κs. search needs) add-last (λ c. omega arith) slice-write-out (λ c. omega arith) (λ c. omega arith) loop-again (λ c. c .before .loop .inv .len) returns)

@@ -27,41 +27,8 @@ abbrev μ-loop : tie.MeasureT-loop
 loop-holds : tie.Need-loop-holds Inv-loop μ-loop
 loop-holds c = (omega arith, refl, written-to _ (sym (add-zero _)) (tab-none _ _ _))
 
-add-f32-at : tie.Need-add-f32-at Inv-loop μ-loop
-add-f32-at c = omega arith
-
-mul-f32-at : tie.Need-mul-f32-at Inv-loop μ-loop
-mul-f32-at c = omega arith
-
-add-f32-at-2 : tie.Need-add-f32-at-2 Inv-loop μ-loop
-add-f32-at-2 c = omega arith
-
-f32-at-requires : tie.Need-f32-at-requires Inv-loop μ-loop
-f32-at-requires c κs = omega arith
-
-add-out : tie.Need-add-out Inv-loop μ-loop
-add-out c = omega arith
-
-mul-out : tie.Need-mul-out Inv-loop μ-loop
-mul-out c = omega arith
-
-slice-write-out : tie.Need-slice-write-out Inv-loop μ-loop
-slice-write-out c = omega arith
-
-add-j : tie.Need-add-j Inv-loop μ-loop
-add-j c = omega arith
-
-loop-less : tie.Need-loop-less Inv-loop μ-loop
-loop-less c = omega arith
-
 loop-again : tie.Need-loop-again Inv-loop μ-loop
 loop-again c = (omega arith, simp length-set (c .before .before .loop .inv .1), written-to _ (add-assoc _ _ 1) (tab-next _ _ _ (c .before .before .loop .inv .2) (c .f32-at .ensures)))
-
-add-result : tie.Need-add-result Inv-loop μ-loop
-add-result c = omega arith
-
-same-length : tie.Need-same-length Inv-loop μ-loop
-same-length c = c .before .loop .inv .1
 
 returns : tie.Need-returns Inv-loop μ-loop
 unfolding rowSamples
@@ -70,20 +37,5 @@ returns c = let z : c .before .loop .j ≡ c .before .before .before .before .ar
 pub decode-row-spec : {M : Type 1} → statement M
 decode-row-spec =
     tie.close
-    (tie.spec
-    Inv-loop
-    μ-loop
-    loop-holds
-    add-f32-at
-    mul-f32-at
-    add-f32-at-2
-    f32-at-requires
-    add-out
-    mul-out
-    slice-write-out
-    add-j
-    loop-less
-    loop-again
-    add-result
-    same-length
-    returns)
+    (tie.spec Inv-loop μ-loop loop-holds (λ c. omega arith) (λ c. omega arith) (λ c. omega arith) (λ c κs. tt) (λ c. omega arith) (λ c. omega arith) (λ c. omega arith) (λ c. omega arith)
+    (λ c. omega arith) loop-again (λ c. omega arith) (λ c. c .before .loop .inv .1) returns)

@@ -44,19 +44,19 @@ decode-row-requires : tie.Need-decode-row-requires Inv-loop μ-loop
 decode-row-requires c κs = (fits (c .before .before .loop .inv) (c .before .loop-test .taken) (c .before .before .before .before .before .pre .0) (c .before .before .before .before .before .pre .1))
 
 mul-place : tie.Need-mul-place Inv-loop μ-loop
-mul-place c = omega (arith, (fits (c .before .before .before .before .before .loop .inv) (c .before .before .before .before .loop-test .taken) (c .before .before .before .before .before .before .before .before .pre .0) (c .before .before .before .before .before .before .before .before .pre .1)))
+mul-place c =
+    let start = c .before .before .before .before .before .before .before .before in
+    omega (arith, (fits (c .before .before .before .before .before .loop .inv) (c .before .before .before .before .loop-test .taken) (start .pre .0) (start .pre .1)))
 
 add-place : tie.Need-add-place Inv-loop μ-loop
-add-place c = omega (arith, (fits (c .before .before .before .before .before .loop .inv) (c .before .before .before .before .loop-test .taken) (c .before .before .before .before .before .before .before .before .pre .0) (c .before .before .before .before .before .before .before .before .pre .1)))
+add-place c =
+    let start = c .before .before .before .before .before .before .before .before in
+    omega (arith, (fits (c .before .before .before .before .before .loop .inv) (c .before .before .before .before .loop-test .taken) (start .pre .0) (start .pre .1)))
 
 add-place-2 : tie.Need-add-place-2 Inv-loop μ-loop
-add-place-2 c = omega (arith, (fits (c .before .before .before .before .before .loop .inv) (c .before .before .before .before .loop-test .taken) (c .before .before .before .before .before .before .before .before .pre .0) (c .before .before .before .before .before .before .before .before .pre .1)))
-
-add-y : tie.Need-add-y Inv-loop μ-loop
-add-y c = omega arith
-
-loop-less : tie.Need-loop-less Inv-loop μ-loop
-loop-less c = omega arith
+add-place-2 c =
+    let start = c .before .before .before .before .before .before .before .before in
+    omega (arith, (fits (c .before .before .before .before .before .loop .inv) (c .before .before .before .before .loop-test .taken) (start .pre .0) (start .pre .1)))
 
 loop-again : tie.Need-loop-again Inv-loop μ-loop
 loop-again c =
@@ -71,25 +71,9 @@ loop-again c =
       written = joined-next _ (row (now (d .s)) (d .from) (d .n)) (i .written) (written-as (row (now (d .s)) (d .from) (d .n) (c .before .before .before .before .before .loop .y)) (ap (λ (p : ℕ). rowSamples (now (d .s)) p (d .n)) (i .there)) w);
     }
 
-same-length : tie.Need-same-length Inv-loop μ-loop
-same-length c = c .before .loop .inv .len
-
 returns : tie.Need-returns Inv-loop μ-loop
 returns c = let z : c .before .loop .y ≡ c .before .before .before .before .args .h = omega arith in (joined-all _ (row _ _ _) (c .before .loop .inv .written) (omega arith), c .before .loop .inv .count ∙ ap (λ x. x * c .before .before .before .before .args .n) z)
 
 pub decode-samples-spec : {M : Type 1} → statement M
 decode-samples-spec =
-    tie.close
-    (tie.spec
-    Inv-loop
-    μ-loop
-    loop-holds
-    decode-row-requires
-    mul-place
-    add-place
-    add-place-2
-    add-y
-    loop-less
-    loop-again
-    same-length
-    returns)
+    tie.close (tie.spec Inv-loop μ-loop loop-holds decode-row-requires mul-place add-place add-place-2 (λ c. omega arith) (λ c. omega arith) loop-again (λ c. c .before .loop .inv .len) returns)

@@ -9,12 +9,6 @@ use Rattle.reading.proofs.fields.Stages.{stepped-on, stepped-broken, sa
 use Rattle.reading.proofs.fields.settings.Statement.{statement}
 use Rattle.reading.proofs.fields.settings.Tie as tie
 
-field-breach-requires : tie.Need-field-breach-requires
-field-breach-requires c κs = search needs
-
-broken-requires : tie.Need-broken-requires
-broken-requires c κs = search needs
-
 returns : tie.Need-returns
 returns c =
     let m = c .before .before .before .before .pre .1 .measured in
@@ -38,10 +32,4 @@ returns-2 c =
     })
 
 pub settings-spec : {M : Type 1} → statement M
-settings-spec =
-    tie.close
-    (tie.spec
-    field-breach-requires
-    broken-requires
-    returns
-    returns-2)
+settings-spec = tie.close (tie.spec (λ c κs. search needs) (λ c κs. search needs) returns returns-2)

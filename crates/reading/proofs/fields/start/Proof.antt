@@ -7,9 +7,6 @@ use Rattle.reading.proofs.fields.Layouts.{read-found, breach-long}
 use Rattle.reading.proofs.fields.start.Statement.{statement}
 use Rattle.reading.proofs.fields.start.Tie as tie
 
-broken-requires : tie.Need-broken-requires
-broken-requires c κs = search needs
-
 returns : tie.Need-returns
 unfolding Stage
 returns c = rw (c .broken .ensures .0) (read-found _ (c .broken .ensures .1 ∙ sym (breach-long _ (c .before .if1 .taken))) (λ z. omega (arith, c .broken .ensures .1)))
@@ -19,9 +16,4 @@ unfolding Stage
 returns-2 c = record { short = c .if1 .left; first = refl }
 
 pub start-spec : {M : Type 1} → statement M
-start-spec =
-    tie.close
-    (tie.spec
-    broken-requires
-    returns
-    returns-2)
+start-spec = tie.close (tie.spec (λ c κs. search needs) returns returns-2)
