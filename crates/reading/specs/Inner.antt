@@ -5,6 +5,8 @@ use mathlib.Core.List.{List}
 use lib.ListN.{length, getD}
 use lib.Ieee.{Float}
 use Rattle.reading.specs.Grammar.{fine, lengthAt, start, before, contoursFrom, contours, rowSize, sizeBreach, fieldBreach, outlineBreach, rowsBreach, endAt, width, height, channels, breach}
+use Rattle.reading.specs.Case.{coloursOf, coordsOf, endsOf}
+use Rattle.ground.specs.Write.{Written}
 use Rattle.reading.specs.declared.reader.Field.{Field}
 use Rattle.reading.specs.declared.fields.Layout.{Layout}
 
@@ -112,3 +114,9 @@ pub record Lent (xs : List Float) (st cs : List ℕ) (ps : List Float) (es : Lis
   pub colours : 256 ≤ length cs
   pub coords : 512 ≤ length ps
   pub ends : 64 ≤ length es
+
+-- the colours, the coordinates and the ends of k contours with n segments stand in front of what was lent for them
+pub record Decoded (s : List ℕ) (k n : ℕ) (cs₀ cs : List ℕ) (ps₀ ps : List Float) (es₀ es : List ℕ) : Type 0 where
+  pub colours : Written cs₀ 0 (coloursOf s) n cs
+  pub coords : Written ps₀ 0 (coordsOf s) (2 * n) ps
+  pub ends : Written es₀ 0 (endsOf s) k es

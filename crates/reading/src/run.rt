@@ -90,9 +90,7 @@ pub fn answer_case(
     let ch = s[7] as usize;
     let a = decode::decode_samples(s, rows, h, w * ch, samples);
     let b = clear(stencil, w * h);
-    let c = decode::decode_colours(s, rows, k, n, colours);
-    let d = decode::decode_coords(s, rows, k, n, coords);
-    let e = decode::decode_ends(s, rows, k, n, ends);
+    decode::decode_outline(s, rows, k, n, colours, coords, ends);
     run(
         out,
         w,
@@ -102,8 +100,8 @@ pub fn answer_case(
         &mut stencil[..b],
         s[11],
         settings(s),
-        &colours[..c],
-        &coords[..d],
-        &ends[..e],
+        &colours[..n],
+        &coords[..2 * n],
+        &ends[..k],
     )
 }

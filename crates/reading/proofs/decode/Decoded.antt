@@ -6,18 +6,20 @@ use native.Mathlib.Nat.{le-refl, le-trans, zero-add, le-mul-of-pos-right}
 use native.Mathlib.Numerals.{add-one-le}
 use native.Mathlib.Omega.{arith}
 use lib.Ieee.{Float}
-use lib.ListN.{length, length-append}
+use lib.ListN.{length, set, length-append}
 use Rattle.correction.specs.Checks.{input}
 use Rattle.detectors.specs.declared.config.Settings.{Settings}
 use Rattle.reading.specs.Answer.{settingsOf, caseOf}
-use Rattle.reading.specs.Case.{modeOf, rowSamples, contourColours, contourCoords, samplesOf, coloursOf, coordsOf, endsOf}
-use Rattle.reading.specs.Grammar.{lengthAt, start, before, width, height, channels, rowsAt}
+use Rattle.reading.specs.Case.{modeOf, segments, rowSamples, contourColours, contourCoords, samplesOf, coloursOf, coordsOf, endsOf}
+use Rattle.reading.specs.Grammar.{lengthAt, start, before, contours, width, height, channels, rowsAt}
 use Rattle.ground.specs.Lists.{joined, tab}
-use Rattle.reading.specs.Inner.{Told, Outlined, Whole}
+use Rattle.reading.specs.Inner.{Told, Outlined, Whole, Decoded}
 use Rattle.reading.specs.declared.reader.Field.{Field}
 use Rattle.reading.proofs.fields.Layouts.{samples-by-rows}
 use Rattle.reading.proofs.fields.Outlines.{start-next, before-next}
 use Rattle.ground.proofs.Laws.Fill.{tab-length}
+use Rattle.ground.proofs.Laws.Write.{written-as, written-to, written-length, tab-none, tab-next, tab-all, joined-none, joined-next, joined-all}
+use Rattle.ground.specs.Write.{Written}
 
 -- a row, and the colours and the coordinates of a contour, are as long as their numbers say
 pub row-length : (s : List ℕ) (from n : ℕ) → length (rowSamples s from n) ≡ n
@@ -74,15 +76,66 @@ contour-told {s} {end} {k} {n} {i} {place} o e l t =
 pub count-next : (s : List ℕ) (i : ℕ) {place len : ℕ} → place ≡ start s i → len ≡ lengthAt s place → before s i + len / 17 ≡ before s (i + 1)
 count-next s i {place} {len} e d = ap (λ (m : ℕ). before s i + m / 17) (d ∙ ap (lengthAt s) e) ∙ sym (before-next s i)
 
--- the first contour starts after the settings
-pub start-zero : (s : List ℕ) → 44 ≡ start s 0
-unfolding start
-start-zero s = refl
+-- ---- the loop through the contours
 
--- no segment stands before the first contour
-pub before-zero : (s : List ℕ) → 0 ≡ before s 0
-unfolding before
-before-zero s = refl
+-- contour i is written: a piece of a list that has one for each contour
+contour-next : {A : Type 0} {s : List ℕ} (p : List ℕ → ℕ → ℕ → List A) (i : ℕ) {out mid after : List A} {place len at next : ℕ} → place ≡ start s i → len ≡ lengthAt s place → Written out 0 (joined i (λ j. p s (start s j) (segments s j))) at mid → Written mid at (p s place (len / 17)) next after → Written out 0 (joined (i + 1) (λ j. p s (start s j) (segments s j))) next after
+contour-next {s = s} p i e d w v = joined-next i (λ j. p s (start s j) (segments s j)) w (written-as (p s (start s i) (segments s i)) (rw (d, e)) v)
+
+-- before contour i those below it are decoded
+pub record Decoding (s : List ℕ) (k : ℕ) (cs₀ cs : List ℕ) (ps₀ ps : List Float) (es₀ es : List ℕ) (last at place i : ℕ) : Type 0 where
+  pub within : i ≤ k
+  pub there : place ≡ start s i
+  pub count : last ≡ before s i
+  pub twice : at ≡ 2 * before s i
+  pub colours : Written cs₀ 0 (joined i (λ j. contourColours s (start s j) (segments s j))) last cs
+  pub coords : Written ps₀ 0 (joined i (λ j. contourCoords s (start s j) (segments s j))) at ps
+  pub ends : Written es₀ 0 (tab i (λ j. before s (j + 1))) i es
+
+pub decoding-none : (s : List ℕ) (k : ℕ) (cs : List ℕ) (ps : List Float) (es : List ℕ) → Decoding s k cs cs ps ps es es 0 0 44 0
+unfolding start before
+decoding-none s k cs ps es = record { within = omega arith; there = refl; count = refl; twice = refl; colours = joined-none cs 0 _; coords = joined-none ps 0 _; ends = tab-none es 0 _ }
+
+module _ {s : List ℕ} {end k n : ℕ} (o : Outlined s end k n) {cs₀ cs : List ℕ} {ps₀ ps : List Float} {es₀ es : List ℕ} {last at place i : ℕ} (d : Decoding s k cs₀ cs ps₀ ps es₀ es last at place i) where
+  -- contour i is inside, and there is room for it
+  pub decoding-room : i < k → n ≤ length cs₀ → 2 * n ≤ length ps₀ → {f : Field} → Told s place f → (place + 3 + 17 * (f .len / 17) ≤ length s) × (last + f .len / 17 ≤ length cs) × (at + 2 * (f .len / 17) ≤ length ps)
+  decoding-room l a b {f} t =
+      let z = contour-inside o (d .there) l in
+      let e = ap (λ (x : ℕ). x / 17) (contour-told o (d .there) l t .0) in
+      let v = t .sized (omega arith) in (
+        omega (arith, z .0, v),
+        omega (arith, z .1, e, d .count, written-length (d .colours)),
+        omega (arith, z .1, e, d .twice, written-length (d .coords)),
+      )
+
+  -- one more is decoded
+  pub decoding-more : i < k → {f : Field} → Told s place f → {cs' : List ℕ} {ps' : List Float} {next more : ℕ} → Written cs last (contourColours s place (f .len / 17)) next cs' → Written ps at (contourCoords s place (f .len / 17)) more ps' → Decoding s k cs₀ cs' ps₀ ps' es₀ (set es i next) next more (f .next) (i + 1)
+  decoding-more l {f} t {next = next} p q =
+      let told = contour-told o (d .there) l t in
+      let e = count-next s i (d .there) (told .0) in
+      let w : next ≡ before s (i + 1) = omega (arith, p .to, d .count, colours-length s place (f .len / 17), e) in
+      record {
+        within = omega arith;
+        there = told .1;
+        count = w;
+        twice = omega (arith, q .to, d .twice, coords-length s place (f .len / 17), e);
+        colours = contour-next contourColours i (d .there) (told .0) (d .colours) p;
+        coords = contour-next contourCoords i (d .there) (told .0) (d .coords) q;
+        ends = tab-next i (λ j. before s (j + 1)) next (d .ends) w;
+      }
+
+  -- all are
+  pub decoding-all : k ≤ i → Decoded s k n cs₀ cs ps₀ ps es₀ es
+  unfolding coloursOf coordsOf endsOf
+  decoding-all l =
+      let z : i ≡ k = omega (arith, d .within) in
+      let y = z ∙ o .count in
+      let x : before s i ≡ n = ap (before s) z ∙ sym (o .segments) in
+      record {
+        colours = written-to n (d .count ∙ x) (joined-all (contours s) _ (d .colours) y);
+        coords = written-to (2 * n) (d .twice ∙ ap (λ (m : ℕ). 2 * m) x) (joined-all (contours s) _ (d .coords) y);
+        ends = written-to k z (tab-all (contours s) _ (d .ends) y);
+      }
 
 -- ---- what a well formed input's sizes allow, read as w and h
 
