@@ -43,7 +43,6 @@ fn run(
 
 // The settings field.
 fn settings(s: &[u8]) -> Settings
-    requires { ⌜ 44 ≤ length (now s) ⌝ }
     ensures { λ r. ⌜ r ≡ Answers.settingsOf (now (s .entry)) ⌝ }
 {
     Settings {

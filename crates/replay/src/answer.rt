@@ -45,8 +45,7 @@ pub fn are_samples(list: &[u8], at: usize, xs: &[f32]) -> bool
     true
 }
 
-pub fn are_cells(list: &[u8], at: usize, cells: &[u8]) -> bool
-{
+pub fn are_cells(list: &[u8], at: usize, cells: &[u8]) -> bool {
     let mut i = 0usize;
     while i < cells.len() {
         if bytes::byte_from(list, at, i) != cells[i] {

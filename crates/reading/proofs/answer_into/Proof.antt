@@ -31,14 +31,13 @@ answer-case-requires : tie.Need-answer-case-requires
 answer-case-requires c κs =
     let at-if2 = c .before .before .before .before .before .before in
     let at-if1 = at-if2 .before .before in
-    let at-read = at-if1 .before .before in
-    (
-  (at-read .read .ensures .whole (at-if1 .if1 .left)),
-  (
-    (at-read .before .before .before .pre, some _ (at-if2 .if2 .left)),
-    record { samples = le-refl 12288; cells = le-refl 12288; colours = le-refl 256; coords = le-refl 512; ends = le-refl 64 },
-  ),
-)
+    let at-read = at-if1 .before .before in (
+      (at-read .read .ensures .whole (at-if1 .if1 .left)),
+      (
+        (at-read .before .before .before .pre, some _ (at-if2 .if2 .left)),
+        record { samples = le-refl 12288; cells = le-refl 12288; colours = le-refl 256; coords = le-refl 512; ends = le-refl 64 },
+      ),
+    )
 
 returns-3 : tie.Need-returns-3
 returns-3 c =

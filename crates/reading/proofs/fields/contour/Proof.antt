@@ -1,10 +1,8 @@
 -- `reading::fields::contour` meets its contract. Assumes nothing.
-use mathlib.Core.Path.{sym, subst, _∙_, refl}
-use Prim.Native.Nat.{_+_, _/_}
+use mathlib.Core.Path.{sym, _∙_, refl}
 use native.Mathlib.Omega.{arith}
 use borrow.Author.Needs.{needs}
-use Rattle.reading.specs.Grammar.{lengthAt}
-use Rattle.reading.specs.Inner.{Stage, Reached}
+use Rattle.reading.specs.Inner.{Stage}
 use Rattle.reading.proofs.fields.Layouts.{breach-outline}
 use Rattle.reading.proofs.fields.Outlines.{reached-more, outlined-broken}
 use Rattle.reading.proofs.fields.Stages.{stepped-on, stepped-broken, next-contour, told-contour}

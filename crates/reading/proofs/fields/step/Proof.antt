@@ -28,18 +28,17 @@ returns-3 c = stepped-as _ _ _ (omega arith) (c .before .before .before .before 
 
 row-requires : tie.Need-row-requires
 row-requires c κs =
-    let start = c .before .before .before .before .before .before .before in
-    (
-  (start .pre .0),
-  ⊎-elim
-      (λ w.
-      let o = outlining-due _ _ _ (w .0 .taken) (start .pre .1) in
-      let i = o .reached .inside in
-      let m = o .measured .short in
-      rowing-first _ (told-other _ m _ (start .pre .0) (omega arith) (eqb-false _ _ (w .2 .left))) o)
-      (λ w. rowing-due _ _ _ _ (start .pre .2) (c .before .before .before .before .if1 .left) (c .before .before .if2 .left) (w .left) (start .pre .1))
-      (c .if3 .came),
-)
+    let start = c .before .before .before .before .before .before .before in (
+      (start .pre .0),
+      ⊎-elim
+          (λ w.
+          let o = outlining-due _ _ _ (w .0 .taken) (start .pre .1) in
+          let i = o .reached .inside in
+          let m = o .measured .short in
+          rowing-first _ (told-other _ m _ (start .pre .0) (omega arith) (eqb-false _ _ (w .2 .left))) o)
+          (λ w. rowing-due _ _ _ _ (start .pre .2) (c .before .before .before .before .if1 .left) (c .before .before .if2 .left) (w .left) (start .pre .1))
+          (c .if3 .came),
+    )
 
 returns-4 : tie.Need-returns-4
 returns-4 c = stepped-as _ _ _ (omega arith) (c .before .before .before .before .before .before .before .before .pre .2) (c .row .ensures)

@@ -143,6 +143,6 @@ answer-case-spec =
     tie.close
     (tie.spec (λ c κs. search needs) (λ c κs. search needs) (λ c. search needs) (λ c. omega (arith, c .shared-slice-known2 .given 7)) mul-decode-samples decode-samples-requires mul-clear
     (λ c κs. cells-few (sized (c .before .before .before))) decode-outline-requires slice-relend-prefix-run slice-aggregate-run slice-relend-prefix-run-2 slice-aggregate-run-2
-    (λ c. omega (arith, begun (c .before .before .before .before) .pre .0 .headed)) (λ c κs. begun (c .before .before .before .before) .pre .0 .headed) slice-reshare-prefix-run slice-aggregate-run-3
+    (λ c. omega (arith, begun (c .before .before .before .before) .pre .0 .headed)) (λ c κs. search needs) slice-reshare-prefix-run slice-aggregate-run-3
     (λ c. omega (arith, begun (c .before .before .before .before .before .before) .pre .0 .outlined .sparse)) slice-reshare-prefix-run-2 slice-aggregate-run-4 slice-reshare-prefix-run-3 slice-aggregate-run-5
     run-requires (λ c. search needs) same-length-2 same-length-3 (λ c. search needs) (λ c. search needs) (λ c. search needs) returns)
