@@ -8,6 +8,7 @@ use native.Mathlib.Omega.{arith}
 use lib.Dec.{eqb}
 use lib.ListN.{length}
 use borrow.Author.Tests.{eq-eqb, ne-eqb, eqb-true}
+use Rattle.ground.proofs.Laws.Join.{joined-length}
 use Rattle.correction.specs.Checks.{Input, accepted, refusalNumber, refusalPlace, placeOf, outlinePlace, sizeRefusal, badChannels}
 use Rattle.correction.specs.Collapse.{cellMedian}
 use Rattle.correction.specs.Pass.{answer, passStencil, protectedCount, errorCount, countsOf}
@@ -20,7 +21,6 @@ use Rattle.reading.proofs.run.Answered.{sized, stencil-length}
 use Rattle.reading.proofs.decode.Decoded.{row-length}
 use Rattle.reading.proofs.Laws.Bounds.{breach-short, breach-le, refusal-number-le, refusal-place-le, protected-le, error-le, ends-le, colours-le}
 use Rattle.reading.proofs.fields.Layouts.{breach-small, samples-by-rows}
-use Rattle.ground.proofs.Laws.Join.{joined-length}
 use Rattle.reading.proofs.text.Lengths.{bad-length, refused-length, accepted-length}
 
 -- a breach is printed

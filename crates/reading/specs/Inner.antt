@@ -4,9 +4,9 @@ use Prim.Native.Nat.{ℕ, zero, suc, _+_, _-_, _*_, _≤_, _<_}
 use mathlib.Core.List.{List}
 use lib.ListN.{length, getD}
 use lib.Ieee.{Float}
+use Rattle.ground.specs.Write.{Written}
 use Rattle.reading.specs.Grammar.{fine, lengthAt, start, before, contoursFrom, contours, rowSize, sizeBreach, fieldBreach, outlineBreach, rowsBreach, endAt, width, height, channels, breach}
 use Rattle.reading.specs.Case.{coloursOf, coordsOf, endsOf}
-use Rattle.ground.specs.Write.{Written}
 use Rattle.reading.specs.declared.reader.Field.{Field}
 use Rattle.reading.specs.declared.fields.Layout.{Layout}
 

@@ -5,9 +5,9 @@ use mathlib.Core.List.{List, [], _∷_, _++_}
 use lib.ListN.{getD}
 use lib.Dec.{ltb}
 use lib.Ieee.{Float, binary32, toBits}
+use Rattle.ground.specs.Lists.{joined, tab}
 use Rattle.correction.specs.Bitmap.{isProtected, isError}
 use Rattle.reading.specs.Decimal.{decimal}
-use Rattle.ground.specs.Lists.{joined, tab}
 
 -- ---- numbers
 

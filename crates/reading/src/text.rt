@@ -4,10 +4,10 @@ ghost use Prim.Native.Nat.{_+_, _*_, _≤_, _<_};
 ghost use mathlib.Core.List.{[], _∷_};
 ghost use lib.ListN.{length, getD};
 ghost use lib.Ieee.{nan};
-ghost use Rattle.reading.specs.Decimal.{decimal};
 ghost use Rattle.ground.specs.Lists.{joined};
-ghost use Rattle.reading.specs.Text as Text;
 ghost use Rattle.ground.specs.Write.{Written};
+ghost use Rattle.reading.specs.Decimal.{decimal};
+ghost use Rattle.reading.specs.Text as Text;
 use ground::bytes;
 
 fn put(out: &mut [u8], at: usize, b: u8) -> usize

@@ -9,17 +9,17 @@ use lib.Dec.{eqb, ltb, leb}
 use lib.Ieee.{Float}
 use lib.ListN.{length, getD, length-append}
 use borrow.Author.Tests.{eqb-true, ltb-true, ltb-false, leb-false}
+use Rattle.ground.specs.Lists.{joined}
+use Rattle.ground.proofs.Laws.Count.{count-small}
+use Rattle.ground.proofs.Laws.Fill.{tab-length}
+use Rattle.ground.proofs.Laws.Search.{first-le}
 use Rattle.correction.specs.Checks.{Input, badLength, badSide, badChannels, badOutlines, badEnds, sizeRefusal, settingsPlace, samplesPlace, endsPlace, segmentsPlace, outlineRefusal, outlinePlace, placeOf, refusalNumber, refusalPlace}
 use Rattle.detectors.specs.declared.config.Settings.{Settings}
-use Rattle.ground.proofs.Laws.Count.{count-small}
-use Rattle.ground.proofs.Laws.Search.{first-le}
 use Rattle.correction.specs.Pass.{protectedCount, errorCount}
 use Rattle.reading.specs.Case.{segments, contourColours, coloursOf, endsOf}
 use Rattle.reading.specs.Grammar.{fine, orElse, lengthAt, headBreach, bodyBreach, fieldBreach, sizeBreach, settingsBreach, contourBreach, start, before, goodContour, contoursFrom, contours, isContour, rowsAt, outlineBreach, rowSize, rowsBreach, endAt, endBreach, breach, width, height, channels}
-use Rattle.ground.specs.Lists.{joined}
 use Rattle.reading.proofs.fields.Breaches.{test-fine, both-fine}
 use Rattle.reading.proofs.decode.Decoded.{colours-length}
-use Rattle.ground.proofs.Laws.Fill.{tab-length}
 
 -- a choice is small where both are
 cond-le : (m : ℕ) (t : Bool) (x y : ℕ) → (t ≡ true → x ≤ m) → (t ≡ false → y ≤ m) → cond t x y ≤ m

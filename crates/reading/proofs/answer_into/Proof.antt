@@ -1,7 +1,7 @@
 -- `reading::answer_into` meets its contract: the grammar, the pass and the text put together. Assumes nothing.
 use native.Mathlib.Nat.{le-refl, le-trans}
-use Rattle.reading.proofs.Printed.{some, printed-bad, printed-case, no-channels, printed-fits}
 use Rattle.ground.proofs.Laws.Write.{written-as, written-front}
+use Rattle.reading.proofs.Printed.{some, printed-bad, printed-case, no-channels, printed-fits}
 use Rattle.reading.specs.Answer.{printed}
 use Rattle.reading.specs.Text.{badText}
 use denote.Ref.{now}

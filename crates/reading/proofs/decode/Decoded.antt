@@ -1,4 +1,4 @@
--- How long the decoded lists are, and where the contours lie. Assumes nothing.
+-- How long the decoded lists are, where the contours lie, and how far the loop that decodes them has come. Assumes nothing.
 use mathlib.Core.List.{List}
 use mathlib.Core.Path.{_≡_, refl, sym, ap, subst, _∙_}
 use Prim.Native.Nat.{ℕ, zero, suc, _+_, _-_, _*_, _/_, _≤_, _<_}
@@ -7,19 +7,19 @@ use native.Mathlib.Numerals.{add-one-le}
 use native.Mathlib.Omega.{arith}
 use lib.Ieee.{Float}
 use lib.ListN.{length, set, length-append}
+use Rattle.ground.specs.Lists.{joined, tab}
+use Rattle.ground.specs.Write.{Written}
+use Rattle.ground.proofs.Laws.Fill.{tab-length}
+use Rattle.ground.proofs.Laws.Write.{written-as, written-to, written-length, tab-none, tab-next, tab-all, joined-none, joined-next, joined-all}
 use Rattle.correction.specs.Checks.{input}
 use Rattle.detectors.specs.declared.config.Settings.{Settings}
 use Rattle.reading.specs.Answer.{settingsOf, caseOf}
 use Rattle.reading.specs.Case.{modeOf, segments, rowSamples, contourColours, contourCoords, samplesOf, coloursOf, coordsOf, endsOf}
 use Rattle.reading.specs.Grammar.{lengthAt, start, before, contours, width, height, channels, rowsAt}
-use Rattle.ground.specs.Lists.{joined, tab}
 use Rattle.reading.specs.Inner.{Told, Outlined, Whole, Decoded}
 use Rattle.reading.specs.declared.reader.Field.{Field}
 use Rattle.reading.proofs.fields.Layouts.{samples-by-rows}
 use Rattle.reading.proofs.fields.Outlines.{start-next, before-next}
-use Rattle.ground.proofs.Laws.Fill.{tab-length}
-use Rattle.ground.proofs.Laws.Write.{written-as, written-to, written-length, tab-none, tab-next, tab-all, joined-none, joined-next, joined-all}
-use Rattle.ground.specs.Write.{Written}
 
 -- a row, and the colours and the coordinates of a contour, are as long as their numbers say
 pub row-length : (s : List ℕ) (from n : ℕ) → length (rowSamples s from n) ≡ n

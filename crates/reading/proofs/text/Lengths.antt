@@ -7,12 +7,12 @@ use native.Mathlib.Nat.{add-mul, lt-of-le-of-lt, mod-le, div-le-self}
 use native.Mathlib.Omega.{arith}
 use lib.Ieee.{Float, binary32, toBits}
 use lib.ListN.{length, getD, length-append}
-use Rattle.correction.specs.Bitmap.{isError}
 use Rattle.ground.specs.Lists.{joined}
-use Rattle.reading.specs.Text.{hexPair, hex, numbered, badText, refusedText, sizeText, countsText, marksText, rowText, rowsText, texelText, flaggedText, acceptedText}
-use Rattle.reading.proofs.Laws.Decimal.{decimal-length, decimal-length-u64}
 use Rattle.ground.proofs.Laws.Fill.{tab-length}
 use Rattle.ground.proofs.Laws.Join.{joined-length}
+use Rattle.correction.specs.Bitmap.{isError}
+use Rattle.reading.specs.Text.{hexPair, hex, numbered, badText, refusedText, sizeText, countsText, marksText, rowText, rowsText, texelText, flaggedText, acceptedText}
+use Rattle.reading.proofs.Laws.Decimal.{decimal-length, decimal-length-u64}
 
 cond-length : (t : Bool) (m : ℕ) (l : List ℕ) → length l ≤ m → length (cond t l []) ≤ m
 cond-length true m l h = h

@@ -6,10 +6,10 @@ use native.Mathlib.Nat.{add-zero, add-assoc}
 use native.Mathlib.Omega.{arith}
 use lib.ListN.{length, getD, length-set}
 use denote.Ref.{now}
-use Rattle.reading.specs.Case.{segmentAt, contourColours}
 use Rattle.ground.specs.Lists.{tab}
 use Rattle.ground.specs.Write.{Written}
 use Rattle.ground.proofs.Laws.Write.{tab-none, tab-next, tab-all, written-to}
+use Rattle.reading.specs.Case.{segmentAt, contourColours}
 use Rattle.reading.proofs.decode.contour_colours.Statement.{statement}
 use Rattle.reading.proofs.decode.contour_colours.Tie as tie
 

@@ -6,11 +6,11 @@ use native.Mathlib.Omega.{arith}
 use lib.Ieee.{Float}
 use lib.ListN.{length}
 use denote.Ref.{now}
-use Rattle.ground.specs.Bytes.{f64At}
-use Rattle.reading.specs.Case.{segmentAt, contourCoords}
 use Rattle.ground.specs.Lists.{joined}
+use Rattle.ground.specs.Bytes.{f64At}
 use Rattle.ground.specs.Write.{Written}
 use Rattle.ground.proofs.Laws.Write.{joined-none, joined-next, joined-all, written-length}
+use Rattle.reading.specs.Case.{segmentAt, contourCoords}
 use Rattle.reading.proofs.decode.contour_coords.Statement.{statement}
 use Rattle.reading.proofs.decode.contour_coords.Tie as tie
 

@@ -2,8 +2,8 @@
 use Prim.Native.Nat.{_-_}
 use native.Mathlib.Omega.{arith}
 use borrow.Author.Needs.{needs}
-use Rattle.reading.proofs.decode.Decoded.{Decoding, decoding-none, decoding-room, decoding-more, decoding-all}
 use Rattle.ground.proofs.Laws.Write.{written-length}
+use Rattle.reading.proofs.decode.Decoded.{Decoding, decoding-none, decoding-room, decoding-more, decoding-all}
 use Rattle.reading.proofs.decode.decode_outline.Statement.{statement}
 use Rattle.reading.proofs.decode.decode_outline.Tie as tie
 

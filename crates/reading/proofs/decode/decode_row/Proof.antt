@@ -6,11 +6,11 @@ use native.Mathlib.Nat.{add-zero, add-assoc}
 use native.Mathlib.Omega.{arith}
 use lib.Ieee.{Float}
 use lib.ListN.{length, length-set}
-use Rattle.ground.specs.Bytes.{f32At}
-use Rattle.reading.specs.Case.{rowSamples}
 use Rattle.ground.specs.Lists.{tab}
+use Rattle.ground.specs.Bytes.{f32At}
 use Rattle.ground.specs.Write.{Written}
 use Rattle.ground.proofs.Laws.Write.{written-to, tab-all, tab-none, tab-next}
+use Rattle.reading.specs.Case.{rowSamples}
 use Rattle.reading.proofs.decode.decode_row.Statement.{statement}
 use Rattle.reading.proofs.decode.decode_row.Tie as tie
 

@@ -7,12 +7,12 @@ use native.Mathlib.Omega.{arith}
 use lib.Ieee.{Float}
 use lib.ListN.{length}
 use denote.Ref.{now}
-use Rattle.reading.specs.Case.{rowSamples}
 use Rattle.ground.specs.Lists.{joined}
 use Rattle.ground.specs.Write.{Written}
+use Rattle.ground.proofs.Laws.Write.{joined-none, joined-next, joined-all, written-as, written-length}
+use Rattle.reading.specs.Case.{rowSamples}
 use Rattle.reading.proofs.decode.Decoded.{row-length}
 use Rattle.reading.proofs.fields.Sizes.{next-row, row-within}
-use Rattle.ground.proofs.Laws.Write.{joined-none, joined-next, joined-all, written-as, written-length}
 use Rattle.reading.proofs.decode.decode_samples.Statement.{statement}
 use Rattle.reading.proofs.decode.decode_samples.Tie as tie
 

@@ -7,8 +7,8 @@ use lib.ListN.{length, getD}
 use lib.Seq.{length-front}
 use denote.Ref.{now}
 use borrow.Author.Needs.{needs}
-use Rattle.correction.specs.Pass.{answer}
 use Rattle.ground.proofs.Laws.Write.{written-fits, front, front-length, written-as}
+use Rattle.correction.specs.Pass.{answer}
 use Rattle.reading.specs.Answer.{answerText}
 use Rattle.reading.proofs.decode.Decoded.{decoded-samples, decoded-case, whole-samples, whole-cells, whole-rows}
 use Rattle.reading.proofs.fields.Sizes.{row-fits, pair-fits}

@@ -4,9 +4,9 @@ use native.Mathlib.Nat.{mul-comm, mul-add}
 use native.Mathlib.Omega.{arith}
 use denote.Ref.{now}
 use borrow.Author.Needs.{needs}
+use Rattle.ground.proofs.Laws.Write.{written-then, written-room}
 use Rattle.reading.specs.Text.{acceptedText}
 use Rattle.reading.proofs.text.Lengths.{size-length, counts-length, rows-length}
-use Rattle.ground.proofs.Laws.Write.{written-then, written-room}
 use Rattle.reading.proofs.text.put_accepted.Statement.{statement}
 use Rattle.reading.proofs.text.put_accepted.Tie as tie
 

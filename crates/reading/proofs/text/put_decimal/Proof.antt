@@ -5,9 +5,9 @@ use native.Mathlib.Omega.{arith}
 use lib.ListN.{length, set, length-set}
 use lib.Seq.{sets}
 use borrow.Author.Needs.{needs}
+use Rattle.ground.proofs.Laws.Write.{sets-last}
 use Rattle.reading.specs.Decimal.{decimal}
 use Rattle.reading.proofs.Laws.Decimal.{decimal-one, decimal-more, length-more, decimal-some}
-use Rattle.ground.proofs.Laws.Write.{sets-last}
 use Rattle.reading.proofs.text.put_decimal.Statement.{statement}
 use Rattle.reading.proofs.text.put_decimal.Tie as tie
 

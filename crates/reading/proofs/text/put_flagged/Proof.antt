@@ -7,10 +7,10 @@ use lib.ListN.{getD}
 use denote.Ref.{now}
 use borrow.Author.Needs.{needs}
 use borrow.Author.Tests.{eq-eqb, ne-eqb}
+use Rattle.ground.proofs.Laws.Write.{written-as, written-none}
 use Rattle.correction.specs.Bitmap.{isError}
 use Rattle.reading.specs.Text.{texelText, flaggedText}
 use Rattle.reading.proofs.text.Lengths.{cell-short}
-use Rattle.ground.proofs.Laws.Write.{written-as, written-none}
 use Rattle.reading.proofs.text.put_flagged.Statement.{statement}
 use Rattle.reading.proofs.text.put_flagged.Tie as tie
 

@@ -3,8 +3,8 @@ use Prim.Native.Nat.{_-_}
 use native.Mathlib.Omega.{arith}
 use lib.ListN.{length-set}
 use borrow.Author.Needs.{needs}
-use Rattle.reading.specs.Text.{hexPair}
 use Rattle.ground.proofs.Laws.Write.{written-two}
+use Rattle.reading.specs.Text.{hexPair}
 use Rattle.reading.proofs.text.put_hex_pair.Statement.{statement}
 use Rattle.reading.proofs.text.put_hex_pair.Tie as tie
 

@@ -7,9 +7,9 @@ use native.Mathlib.Omega.{arith}
 use lib.ListN.{length, getD, length-set}
 use denote.Ref.{now}
 use Rattle.ground.specs.Lists.{tab}
-use Rattle.reading.specs.Text.{mark, marksText}
 use Rattle.ground.specs.Write.{Written}
 use Rattle.ground.proofs.Laws.Write.{tab-none, tab-next, tab-all, written-to}
+use Rattle.reading.specs.Text.{mark, marksText}
 use Rattle.reading.proofs.text.put_marks.Statement.{statement}
 use Rattle.reading.proofs.text.put_marks.Tie as tie
 

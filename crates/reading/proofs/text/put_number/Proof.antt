@@ -4,9 +4,9 @@ use Prim.Native.Nat.{_-_}
 use native.Mathlib.Omega.{arith}
 use lib.ListN.{length, length-append}
 use borrow.Author.Needs.{needs}
+use Rattle.ground.proofs.Laws.Write.{written-then, written-room}
 use Rattle.reading.specs.Decimal.{decimal}
 use Rattle.reading.specs.Text.{numbered}
-use Rattle.ground.proofs.Laws.Write.{written-then, written-room}
 use Rattle.reading.proofs.text.put_number.Statement.{statement}
 use Rattle.reading.proofs.text.put_number.Tie as tie
 

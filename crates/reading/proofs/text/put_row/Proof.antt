@@ -3,9 +3,9 @@ use Prim.Native.Nat.{_-_, _*_}
 use native.Mathlib.Omega.{arith}
 use denote.Ref.{now}
 use borrow.Author.Needs.{needs}
+use Rattle.ground.proofs.Laws.Write.{written-then, written-room}
 use Rattle.reading.specs.Text.{rowText}
 use Rattle.reading.proofs.text.Lengths.{marks-length}
-use Rattle.ground.proofs.Laws.Write.{written-then, written-room}
 use Rattle.reading.proofs.text.put_row.Statement.{statement}
 use Rattle.reading.proofs.text.put_row.Tie as tie
 

@@ -6,11 +6,11 @@ use native.Mathlib.Omega.{arith}
 use lib.ListN.{length}
 use denote.Ref.{now}
 use Rattle.ground.specs.Lists.{joined}
-use Rattle.reading.specs.Text.{rowText, rowsText}
 use Rattle.ground.specs.Write.{Written}
+use Rattle.ground.proofs.Laws.Write.{joined-none, joined-next, joined-all, written-length}
+use Rattle.reading.specs.Text.{rowText, rowsText}
 use Rattle.reading.proofs.text.Lengths.{row-length}
 use Rattle.reading.proofs.fields.Sizes.{next-row, row-within}
-use Rattle.ground.proofs.Laws.Write.{joined-none, joined-next, joined-all, written-length}
 use Rattle.reading.proofs.text.put_rows.Statement.{statement}
 use Rattle.reading.proofs.text.put_rows.Tie as tie
 

@@ -2,9 +2,9 @@
 use Prim.Native.Nat.{_-_}
 use native.Mathlib.Omega.{arith}
 use borrow.Author.Needs.{needs}
+use Rattle.ground.proofs.Laws.Write.{written-then, written-room}
 use Rattle.reading.specs.Text.{texelText}
 use Rattle.reading.proofs.text.Lengths.{numbered-short, hex-length}
-use Rattle.ground.proofs.Laws.Write.{written-then, written-room}
 use Rattle.reading.proofs.text.put_texel.Statement.{statement}
 use Rattle.reading.proofs.text.put_texel.Tie as tie
 

@@ -6,11 +6,11 @@ use lib.Ieee.{nan}
 use lib.ListN.{length, getD}
 use denote.Ref.{now}
 use Rattle.ground.specs.Lists.{joined}
-use Rattle.reading.specs.Text.{flaggedText}
 use Rattle.ground.specs.Write.{Written}
+use Rattle.ground.proofs.Laws.Write.{joined-none, joined-next, joined-all, written-length}
+use Rattle.reading.specs.Text.{flaggedText}
 use Rattle.reading.proofs.text.Lengths.{flagged-length}
 use Rattle.reading.proofs.fields.Sizes.{row-within}
-use Rattle.ground.proofs.Laws.Write.{joined-none, joined-next, joined-all, written-length}
 use Rattle.reading.proofs.text.put_texels.Statement.{statement}
 use Rattle.reading.proofs.text.put_texels.Tie as tie
 
