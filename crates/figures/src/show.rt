@@ -1,5 +1,6 @@
 // How a figure is printed: its name, the answer, the rows from the bottom, and the samples of flagged texels as bits.
 use correction::pass::Answer;
+use ground::bytes;
 use libc::STDOUT_FILENO;
 
 fn text(s: &[u8]) {
@@ -66,7 +67,7 @@ fn sample(flagged: bool, v: f32) {
         return;
     }
     text(b" ");
-    io::print_hex(STDOUT_FILENO, f32::to_bits(v) as u64, 8);
+    io::print_hex(STDOUT_FILENO, bytes::bits_of_float32(v) as u64, 8);
 }
 
 fn samples(stencil: &[u8], xs: &[f32], ch: usize) {

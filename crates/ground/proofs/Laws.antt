@@ -1,7 +1,10 @@
--- What the crates above may know of lists, searches, tests, checks and NaN patterns.
+-- What the crates above may know of lists, searches, tests, checks, NaN patterns and writing, and that each promise determines its answer.
 pub mod Bools
 pub mod Search
 pub mod Count
 pub mod Fill
 pub mod Nan
 pub mod Refuse
+pub mod Join
+pub mod Write
+pub mod Alike

@@ -8,6 +8,7 @@ use native.Mathlib.Omega.{arith}
 use lib.Dec.{eqb}
 use lib.ListN.{length}
 use borrow.Author.Tests.{eq-eqb, ne-eqb, eqb-true}
+use Rattle.ground.proofs.Laws.Join.{joined-length}
 use Rattle.correction.specs.Checks.{Input, accepted, refusalNumber, refusalPlace, placeOf, outlinePlace, sizeRefusal, badChannels}
 use Rattle.correction.specs.Collapse.{cellMedian}
 use Rattle.correction.specs.Pass.{answer, passStencil, protectedCount, errorCount, countsOf}
@@ -16,11 +17,11 @@ use Rattle.reading.specs.Answer.{caseOf, answerText, printed}
 use Rattle.reading.specs.Case.{rowSamples, samplesOf}
 use Rattle.reading.specs.Grammar.{breach, width, height, channels, rowAt, rowSize}
 use Rattle.reading.specs.Text.{badText, refusedText}
-use Rattle.reading.proofs.Answered.{sized, stencil-length}
-use Rattle.reading.proofs.Decoded.{row-length}
+use Rattle.reading.proofs.run.Answered.{sized, stencil-length}
+use Rattle.reading.proofs.decode.Decoded.{row-length}
 use Rattle.reading.proofs.Laws.Bounds.{breach-short, breach-le, refusal-number-le, refusal-place-le, protected-le, error-le, ends-le, colours-le}
-use Rattle.reading.proofs.Layouts.{breach-small, samples-by-rows}
-use Rattle.reading.proofs.Lengths.{joined-length, bad-length, refused-length, accepted-length}
+use Rattle.reading.proofs.fields.Layouts.{breach-small, samples-by-rows}
+use Rattle.reading.proofs.text.Lengths.{bad-length, refused-length, accepted-length}
 
 -- a breach is printed
 pub printed-bad : (s : List ℕ) → (breach s ≡ 65537 → ⊥) → badText (breach s) ≡ printed s

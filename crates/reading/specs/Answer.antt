@@ -3,13 +3,13 @@ use Prim.Native.Nat.{ℕ, _*_}
 use mathlib.Core.Bool.{cond}
 use mathlib.Core.List.{List, []}
 use lib.Dec.{eqb, leb}
+use Rattle.ground.specs.Lists.{tab}
 use Rattle.detectors.specs.declared.config.Settings.{Settings}
 use Rattle.correction.specs.declared.pass.Answer.{Answer}
 use Rattle.correction.specs.declared.pass.Answer.the-variants.{Accepted, Refused}
 use Rattle.correction.specs.Checks.{Input, input}
 use Rattle.correction.specs.Collapse.{cellMedian}
 use Rattle.correction.specs.Pass.{answer, passStencil}
-use Rattle.reading.specs.Lists.{listed}
 use Rattle.reading.specs.Grammar.{fine, width, height, channels, breach}
 use Rattle.reading.specs.Case.{modeOf, ratioOf, horizontalOf, verticalOf, diagonalOf, coloursOf, coordsOf, endsOf, samplesOf}
 use Rattle.reading.specs.Text.{badText, refusedText, acceptedText}
@@ -20,7 +20,7 @@ settingsOf s = record { ratio = ratioOf s; horizontal = horizontalOf s; vertical
 -- what the pass is given: the stencil has a cell, 0, for each texel
 abbrev pub caseOf : List ℕ → Input
 caseOf s =
-    input (width s) (height s) (channels s) (samplesOf s) (listed (width s * height s) (λ k. 0)) (modeOf s) (settingsOf s) (coloursOf s) (coordsOf s) (endsOf s)
+    input (width s) (height s) (channels s) (samplesOf s) (tab (width s * height s) (λ k. 0)) (modeOf s) (settingsOf s) (coloursOf s) (coordsOf s) (endsOf s)
 
 -- the text of the pass's answer
 unfoldable pub answerText : Input → Answer → List ℕ

@@ -3,8 +3,8 @@ use Prim.Native.Nat.{ℕ, _+_, _*_, _/_}
 use mathlib.Core.List.{List, [], _∷_}
 use lib.ListN.{getD}
 use lib.Ieee.{Float}
-use Rattle.reading.specs.Lists.{joined, listed}
-use Rattle.reading.specs.Bytes.{f32At, f64At}
+use Rattle.ground.specs.Lists.{joined, tab}
+use Rattle.ground.specs.Bytes.{f32At, f64At}
 use Rattle.reading.specs.Grammar.{start, before, contours, lengthAt, height, rowSize, rowAt}
 
 -- the settings field: mode, ratio and the three lengths
@@ -34,7 +34,7 @@ segmentAt at j = at + 3 + 17 * j
 
 -- the colours and the coordinates of the n segments of the contour at a place
 unfoldable pub contourColours : List ℕ → ℕ → ℕ → List ℕ
-contourColours s at n = listed n (λ j. getD s (segmentAt at j) 0)
+contourColours s at n = tab n (λ j. getD s (segmentAt at j) 0)
 
 unfoldable pub contourCoords : List ℕ → ℕ → ℕ → List Float
 contourCoords s at n = joined n (λ j. f64At s (segmentAt at j + 1) ∷ f64At s (segmentAt at j + 9) ∷ [])
@@ -47,13 +47,13 @@ coordsOf s = joined (contours s) (λ k. contourCoords s (start s k) (segments s 
 
 -- an end is the number of segments up to there
 unfoldable pub endsOf : List ℕ → List ℕ
-endsOf s = listed (contours s) (λ k. before s (k + 1))
+endsOf s = tab (contours s) (λ k. before s (k + 1))
 
 -- ---- rows
 
 -- the n samples of the row at a place
 unfoldable pub rowSamples : List ℕ → ℕ → ℕ → List Float
-rowSamples s at n = listed n (λ j. f32At s (at + 3 + 4 * j))
+rowSamples s at n = tab n (λ j. f32At s (at + 3 + 4 * j))
 
 unfoldable pub samplesOf : List ℕ → List Float
 samplesOf s = joined (height s) (λ y. rowSamples s (rowAt s y) (rowSize s))

@@ -5,7 +5,7 @@ use mathlib.Core.Bool.{Bool, cond, not, _&&_}
 use mathlib.Core.List.{List}
 use lib.ListN.{length, getD}
 use lib.Dec.{eqb, ltb, leb}
-use Rattle.reading.specs.Bytes.{be16}
+use Rattle.ground.specs.Bytes.{be16}
 
 -- A breach is its place, `bad input AT`; 65537, which is no place, says that there is none.
 abbrev pub fine : ℕ

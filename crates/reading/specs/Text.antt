@@ -5,9 +5,9 @@ use mathlib.Core.List.{List, [], _∷_, _++_}
 use lib.ListN.{getD}
 use lib.Dec.{ltb}
 use lib.Ieee.{Float, binary32, toBits}
+use Rattle.ground.specs.Lists.{joined, tab}
 use Rattle.correction.specs.Stencil.{isProtected, isError}
 use Rattle.reading.specs.Decimal.{decimal}
-use Rattle.reading.specs.Lists.{joined, listed}
 
 -- ---- numbers
 
@@ -52,7 +52,7 @@ mark v = cond (isProtected v) (cond (isError v) 66 80) (cond (isError v) 69 46)
 
 -- the marks of w cells from one on
 unfoldable pub marksText : ℕ → List ℕ → ℕ → List ℕ
-marksText w st from = listed w (λ x. mark (getD st (from + x) 0))
+marksText w st from = tab w (λ x. mark (getD st (from + x) 0))
 
 -- row y, and the rows from the bottom
 unfoldable pub rowText : ℕ → List ℕ → ℕ → List ℕ

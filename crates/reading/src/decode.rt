@@ -3,12 +3,13 @@ ghost use mathlib.Core.Path.{_≡_};
 ghost use Prim.Native.Nat.{_+_, _*_, _≤_, _<_};
 ghost use mathlib.Core.List.{[], _∷_};
 ghost use lib.ListN.{length};
-ghost use Rattle.reading.specs.Bytes.{f64At};
+ghost use Rattle.ground.specs.Lists.{joined};
+ghost use Rattle.ground.specs.Bytes.{f64At};
+ghost use Rattle.ground.specs.Write.{Written};
 ghost use Rattle.reading.specs.Case as Case;
-ghost use Rattle.reading.specs.Lists.{joined};
-ghost use Rattle.reading.specs.Written.{Written, Outlined};
-use crate::bytes;
+ghost use Rattle.reading.specs.Inner.{Outlined, Decoded};
 use crate::reader;
+use ground::bytes;
 
 // The n samples of the row at a place.
 fn decode_row(s: &[u8], from: usize, n: usize, out: &mut [f32], at: usize) -> usize
@@ -76,57 +77,30 @@ fn contour_coords(s: &[u8], from: usize, n: usize, out: &mut [f64], at: usize) -
     next
 }
 
-// The colours of all k contours, whose n segments end at a place.
-pub fn decode_colours(s: &[u8], end: usize, k: usize, n: usize, out: &mut [u8]) -> usize
+// The colours, the coordinates and the ends of all k contours, whose n segments end at a place.
+pub fn decode_outline(
+    s: &[u8],
+    end: usize,
+    k: usize,
+    n: usize,
+    colours: &mut [u8],
+    coords: &mut [f64],
+    ends: &mut [usize],
+)
     requires { ⌜ Outlined (now s) end k n ⌝ }
-    requires { ⌜ n ≤ length (now out) ⌝ }
-    ensures { λ r. ⌜ Written (now (out .entry)) 0 (Case.coloursOf (now (s .entry))) r (now (out .exit)) × (r ≡ n) ⌝ }
-{
-    let mut at = 0usize;
-    let mut place = 44usize;
-    let mut i = 0usize;
-    while i < k {
-        let f = reader::field_at(s, place);
-        at = contour_colours(s, place, f.len / 17, out, at);
-        place = f.next;
-        i += 1;
-    }
-    at
-}
-
-// The coordinates of all contours.
-pub fn decode_coords(s: &[u8], end: usize, k: usize, n: usize, out: &mut [f64]) -> usize
-    requires { ⌜ Outlined (now s) end k n ⌝ }
-    requires { ⌜ 2 * n ≤ length (now out) ⌝ }
-    ensures { λ r. ⌜ Written (now (out .entry)) 0 (Case.coordsOf (now (s .entry))) r (now (out .exit)) × (r ≡ 2 * n) ⌝ }
-{
-    let mut at = 0usize;
-    let mut place = 44usize;
-    let mut i = 0usize;
-    while i < k {
-        let f = reader::field_at(s, place);
-        at = contour_coords(s, place, f.len / 17, out, at);
-        place = f.next;
-        i += 1;
-    }
-    at
-}
-
-// The contours' ends.
-pub fn decode_ends(s: &[u8], end: usize, k: usize, n: usize, out: &mut [usize]) -> usize
-    requires { ⌜ Outlined (now s) end k n ⌝ }
-    requires { ⌜ k ≤ length (now out) ⌝ }
-    ensures { λ r. ⌜ Written (now (out .entry)) 0 (Case.endsOf (now (s .entry))) r (now (out .exit)) × (r ≡ k) ⌝ }
+    requires { ⌜ (n ≤ length (now colours)) × (2 * n ≤ length (now coords)) × (k ≤ length (now ends)) ⌝ }
+    ensures { λ _. ⌜ Decoded (now (s .entry)) k n (now (colours .entry)) (now (colours .exit)) (now (coords .entry)) (now (coords .exit)) (now (ends .entry)) (now (ends .exit)) ⌝ }
 {
     let mut last = 0usize;
+    let mut at = 0usize;
     let mut place = 44usize;
     let mut i = 0usize;
     while i < k {
         let f = reader::field_at(s, place);
-        last = last + f.len / 17;
-        out[i] = last;
+        last = contour_colours(s, place, f.len / 17, colours, last);
+        at = contour_coords(s, place, f.len / 17, coords, at);
+        ends[i] = last;
         place = f.next;
         i += 1;
     }
-    k
 }

@@ -3,10 +3,10 @@ ghost use mathlib.Core.Path.{_≡_};
 ghost use Prim.Native.Nat.{_+_, _≤_, _<_};
 ghost use lib.ListN.{length};
 ghost use Rattle.reading.specs.Grammar as Grammar;
-ghost use Rattle.reading.specs.Written.{Told, Begun, Sized, Outlining, Rowing, Walked, Stepped, Read};
-use crate::bytes;
+ghost use Rattle.reading.specs.Inner.{Told, Begun, Sized, Outlining, Rowing, Walked, Stepped, Read};
 use crate::reader;
 use crate::reader::Field;
+use ground::bytes;
 
 // No breach.
 pub const FINE: usize = 65537;

@@ -5,7 +5,6 @@ ghost use mathlib.Core.List.{_++_};
 ghost use lib.ListN.{length, drop};
 ghost use Rattle.reading.specs.Answer.{printed, written};
 
-mod bytes;
 mod decode;
 mod fields;
 mod reader;

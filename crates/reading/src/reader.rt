@@ -2,8 +2,8 @@
 // It tells the field at its place and moves on behind it, and `fields::read` makes one and walks it through the whole input.
 // Each function over a reader is proved by hand, so these three and that loop are all: whatever judges or decodes a field takes the slice and the field that was told.
 ghost use mathlib.Core.Path.{_≡_};
-ghost use Rattle.reading.specs.Written.{Told};
-use crate::bytes;
+ghost use Rattle.reading.specs.Inner.{Told};
+use ground::bytes;
 
 pub struct Reader<'a> {
     pub src: &'a [u8],

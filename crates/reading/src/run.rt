@@ -2,18 +2,19 @@
 ghost use mathlib.Core.Path.{_≡_};
 ghost use Prim.Native.Nat.{_≤_, _<_};
 ghost use lib.ListN.{length};
+ghost use Rattle.ground.specs.Lists.{tab};
+ghost use Rattle.ground.specs.Write.{Written};
 ghost use Rattle.correction.specs.Checks.{input};
 ghost use Rattle.correction.specs.Pass as Pass;
 ghost use Rattle.reading.specs.Answer as Answers;
 ghost use Rattle.reading.specs.Grammar.{channels};
-ghost use Rattle.reading.specs.Lists.{listed};
-ghost use Rattle.reading.specs.Written.{Written, Whole, Lent};
-use crate::bytes;
+ghost use Rattle.reading.specs.Inner.{Whole, Lent};
 use crate::decode;
 use crate::text;
 use correction::pass;
 use correction::pass::Answer;
 use detectors::config::Settings;
+use ground::bytes;
 
 // The pass on a decoded case.
 fn run(
@@ -42,7 +43,6 @@ fn run(
 
 // The settings field.
 fn settings(s: &[u8]) -> Settings
-    requires { ⌜ 44 ≤ length (now s) ⌝ }
     ensures { λ r. ⌜ r ≡ Answers.settingsOf (now (s .entry)) ⌝ }
 {
     Settings {
@@ -56,7 +56,7 @@ fn settings(s: &[u8]) -> Settings
 // Zeros in the first n cells.
 fn clear(out: &mut [u8], n: usize) -> usize
     requires { ⌜ n ≤ length (now out) ⌝ }
-    ensures { λ r. ⌜ Written (now (out .entry)) 0 (listed n (λ k. 0)) r (now (out .exit)) × (r ≡ n) ⌝ }
+    ensures { λ r. ⌜ Written (now (out .entry)) 0 (tab n (λ k. 0)) r (now (out .exit)) × (r ≡ n) ⌝ }
 {
     let mut i = 0usize;
     while i < n {
@@ -89,9 +89,7 @@ pub fn answer_case(
     let ch = s[7] as usize;
     let a = decode::decode_samples(s, rows, h, w * ch, samples);
     let b = clear(stencil, w * h);
-    let c = decode::decode_colours(s, rows, k, n, colours);
-    let d = decode::decode_coords(s, rows, k, n, coords);
-    let e = decode::decode_ends(s, rows, k, n, ends);
+    decode::decode_outline(s, rows, k, n, colours, coords, ends);
     run(
         out,
         w,
@@ -101,8 +99,8 @@ pub fn answer_case(
         &mut stencil[..b],
         s[11],
         settings(s),
-        &colours[..c],
-        &coords[..d],
-        &ends[..e],
+        &colours[..n],
+        &coords[..2 * n],
+        &ends[..k],
     )
 }

@@ -1,17 +1,17 @@
 // What the pass answers and leaves, held to the list.
 ghost use Prim.Native.Nat.{_+_, _*_, _<_};
 ghost use lib.ListN.{length};
-use crate::number;
 use correction::pass::Answer;
+use ground::bytes;
 
 // Refusal, place and both counts; what an answer lacks is 0.
 pub fn is_answer(list: &[u8], at: usize, a: Answer) -> bool
     requires { ⌜ at < 800000 ⌝ }
 {
-    let number = number::byte(list, at);
-    let place = number::word(list, at + 1);
-    let protected = number::word(list, at + 9);
-    let error = number::word(list, at + 17);
+    let number = bytes::byte_from(list, at, 0);
+    let place = bytes::be64(list, at + 1);
+    let protected = bytes::be64(list, at + 9);
+    let error = bytes::be64(list, at + 17);
     match a {
         Answer::Accepted(c) => {
             number == 0
@@ -26,9 +26,10 @@ pub fn is_answer(list: &[u8], at: usize, a: Answer) -> bool
 // The same bits, or a NaN on both sides.
 pub fn is_sample(bits: u32, x: f32) -> bool {
     if x != x {
-        return number::is_nan(bits);
+        let y = bytes::float_of_bits32(bits);
+        return y != y;
     }
-    bits == f32::to_bits(x)
+    bits == bytes::bits_of_float32(x)
 }
 
 pub fn are_samples(list: &[u8], at: usize, xs: &[f32]) -> bool
@@ -36,7 +37,7 @@ pub fn are_samples(list: &[u8], at: usize, xs: &[f32]) -> bool
 {
     let mut i = 0usize;
     while i < xs.len() {
-        if !is_sample(number::half(list, at + 4 * i), xs[i]) {
+        if !is_sample(bytes::be32(list, at + 4 * i), xs[i]) {
             return false;
         }
         i += 1;
@@ -44,12 +45,10 @@ pub fn are_samples(list: &[u8], at: usize, xs: &[f32]) -> bool
     true
 }
 
-pub fn are_cells(list: &[u8], at: usize, cells: &[u8]) -> bool
-    requires { ⌜ at + length (now cells) < 900000 ⌝ }
-{
+pub fn are_cells(list: &[u8], at: usize, cells: &[u8]) -> bool {
     let mut i = 0usize;
     while i < cells.len() {
-        if number::byte(list, at + i) != cells[i] {
+        if bytes::byte_from(list, at, i) != cells[i] {
             return false;
         }
         i += 1;

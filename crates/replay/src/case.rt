@@ -9,6 +9,7 @@ use crate::number;
 use correction::pass;
 use correction::pass::Answer;
 use detectors::config::Settings;
+use ground::bytes;
 
 // Where a case begins, and how many samples, cells, colours, coordinates and ends it holds.
 pub struct Case {
@@ -22,10 +23,9 @@ pub struct Case {
 
 // A number of things; one more than there is room for stands for all that are larger.
 fn count(list: &[u8], at: usize) -> usize
-    requires { ⌜ at ≤ 300000 ⌝ }
     ensures { λ r. ⌜ r ≤ 65 ⌝ }
 {
-    let n = number::word(list, at);
+    let n = bytes::be64(list, at);
     if n > 64 {
         return 65;
     }
@@ -131,10 +131,10 @@ fn settings(list: &[u8], at: usize) -> Settings
     requires { ⌜ at ≤ 300000 ⌝ }
 {
     Settings {
-        ratio: number::float(list, at + 25),
-        horizontal: number::float(list, at + 33),
-        vertical: number::float(list, at + 41),
-        diagonal: number::float(list, at + 49),
+        ratio: bytes::f64_at(list, at + 25),
+        horizontal: bytes::f64_at(list, at + 33),
+        vertical: bytes::f64_at(list, at + 41),
+        diagonal: bytes::f64_at(list, at + 49),
     }
 }
 
@@ -170,10 +170,10 @@ fn correct(
 ) -> Answer
     requires { ⌜ at ≤ 262144 ⌝ }
 {
-    let width = number::word(list, at) as usize;
-    let height = number::word(list, at + 8) as usize;
-    let channels = number::word(list, at + 16) as usize;
-    let mode = number::byte(list, at + 24);
+    let width = bytes::be64(list, at) as usize;
+    let height = bytes::be64(list, at + 8) as usize;
+    let channels = bytes::be64(list, at + 16) as usize;
+    let mode = bytes::byte_from(list, at, 24);
     let s = settings(list, at);
     pass::msdf_error_correction(
         width,

@@ -6,6 +6,7 @@ mod answer;
 mod case;
 mod number;
 
+use ground::bytes;
 use libc::STDIN_FILENO;
 use libc::STDOUT_FILENO;
 
@@ -43,7 +44,7 @@ fn total(cases: u64, differ: u64) {
 fn said(list: &[u8]) -> u64
     ensures { λ r. ⌜ r ≤ 262144 ⌝ }
 {
-    let n = number::word(list, 0);
+    let n = bytes::be64(list, 0);
     if n > 262144 {
         return 262144;
     }

@@ -2,7 +2,7 @@
 -- `Post κs a z e` is the promise as it is read from the source: of the arguments a, the result z and the arguments at exit e. Assumes nothing.
 use mathlib.Core.Path.{_≡_}
 use denote.Ref.{now}
-use Rattle.numbers.proofs.Laws.Alike.{alike}
+use Rattle.ground.proofs.Laws.Alike.{alike}
 use Rattle.reading.proofs.answer.Reads as answer
 
 -- Two answers are the same,

@@ -9,16 +9,17 @@ use lib.Dec.{eqb, ltb, leb}
 use lib.Ieee.{Float}
 use lib.ListN.{length, getD, length-append}
 use borrow.Author.Tests.{eqb-true, ltb-true, ltb-false, leb-false}
+use Rattle.ground.specs.Lists.{joined}
+use Rattle.ground.proofs.Laws.Count.{count-small}
+use Rattle.ground.proofs.Laws.Fill.{tab-length}
+use Rattle.ground.proofs.Laws.Search.{first-le}
 use Rattle.correction.specs.Checks.{Input, badLength, badSide, badChannels, badOutlines, badEnds, sizeRefusal, settingsPlace, samplesPlace, endsPlace, segmentsPlace, outlineRefusal, outlinePlace, placeOf, refusalNumber, refusalPlace}
 use Rattle.detectors.specs.declared.config.Settings.{Settings}
-use Rattle.ground.specs.Lists.{count, first}
 use Rattle.correction.specs.Pass.{protectedCount, errorCount}
 use Rattle.reading.specs.Case.{segments, contourColours, coloursOf, endsOf}
 use Rattle.reading.specs.Grammar.{fine, orElse, lengthAt, headBreach, bodyBreach, fieldBreach, sizeBreach, settingsBreach, contourBreach, start, before, goodContour, contoursFrom, contours, isContour, rowsAt, outlineBreach, rowSize, rowsBreach, endAt, endBreach, breach, width, height, channels}
-use Rattle.reading.specs.Lists.{joined}
-use Rattle.reading.proofs.Breaches.{test-fine, both-fine}
-use Rattle.reading.proofs.Decoded.{colours-length}
-use Rattle.reading.proofs.Writes.{listed-length}
+use Rattle.reading.proofs.fields.Breaches.{test-fine, both-fine}
+use Rattle.reading.proofs.decode.Decoded.{colours-length}
 
 -- a choice is small where both are
 cond-le : (m : ℕ) (t : Bool) (x y : ℕ) → (t ≡ true → x ≤ m) → (t ≡ false → y ≤ m) → cond t x y ≤ m
@@ -111,12 +112,6 @@ refusal-number-le i =
     cond-le 9 (not (eqb n 0)) n _ (λ a. size-refusal-le (i .width) (i .height) (i .channels) (length (i .samples)) (length (i .stencil)))
     (λ a. cond-le 9 (ltb (settingsPlace (i .mode) (i .settings)) 5) _ _ (λ b. omega arith) (λ b. cond-le 9 (ltb (samplesPlace (i .samples)) (length (i .samples))) _ _ (λ c. omega arith) (λ c. outline-refusal-le (i .colours) (i .coords) (i .ends))))
 
--- a search goes no further than its end
-first-le : (n : ℕ) (f : ℕ → Bool) → first n f ≤ n
-unfolding first
-first-le zero f = omega arith
-first-le (suc n) f = cond-le (suc n) (f zero) _ _ (λ e. omega arith) (λ e. omega (arith, first-le n (λ k. f (suc k))))
-
 settings-place-le : (mode : ℕ) (s : Settings) → settingsPlace mode s ≤ 5
 unfolding settingsPlace
 settings-place-le mode s =
@@ -125,15 +120,15 @@ settings-place-le mode s =
 
 samples-place-le : (xs : List Float) → samplesPlace xs ≤ length xs
 unfolding samplesPlace
-samples-place-le xs = first-le (length xs) _
+samples-place-le xs = first-le _ (length xs)
 
 ends-place-le : (ends : List ℕ) (n : ℕ) → endsPlace ends n ≤ length ends
 unfolding endsPlace
-ends-place-le ends n = first-le (length ends) _
+ends-place-le ends n = first-le _ (length ends)
 
 segments-place-le : (colours : List ℕ) (coords : List Float) → segmentsPlace colours coords ≤ length colours
 unfolding segmentsPlace
-segments-place-le colours coords = first-le (length colours) _
+segments-place-le colours coords = first-le _ (length colours)
 
 -- its place is one of the settings, or at most the number of samples, of ends or of segments
 pub refusal-place-le : (i : Input) (m : ℕ) → 5 ≤ m → length (i .samples) ≤ m → length (i .ends) ≤ m → length (i .colours) ≤ m → refusalPlace i ≤ m
@@ -145,20 +140,14 @@ refusal-place-le i m l p q r =
 
 -- ---- the counts
 
--- of no more numbers than there are
-count-le : (n : ℕ) (f : ℕ → Bool) → count n f ≤ n
-unfolding count
-count-le zero f = omega arith
-count-le (suc n) f = omega (arith, count-le n f, cond-le 1 (f n) 1 0 (λ e. omega arith) (λ e. omega arith))
-
 -- no more cells are protected, or have an error, than there are
 pub protected-le : (st : List ℕ) → protectedCount st ≤ length st
 unfolding protectedCount
-protected-le st = count-le (length st) _
+protected-le st = count-small _ (length st)
 
 pub error-le : (st : List ℕ) → errorCount st ≤ length st
 unfolding errorCount
-error-le st = count-le (length st) _
+error-le st = count-small _ (length st)
 
 -- ---- the contours and the segments of an input
 
@@ -170,7 +159,7 @@ from-le (suc room) s k = cond-le (k + suc room) (goodContour s k) _ _ (λ e. ome
 -- at most 64 contours
 pub ends-le : (s : List ℕ) → length (endsOf s) ≤ 64
 unfolding endsOf contours
-ends-le s = omega (arith, listed-length (contours s) (λ k. before s (k + 1)), from-le 64 s 0)
+ends-le s = omega (arith, tab-length (contours s) (λ k. before s (k + 1)), from-le 64 s 0)
 
 -- as many colours as segments
 colours-before : (s : List ℕ) (n : ℕ) → length (joined n (λ k. contourColours s (start s k) (segments s k))) ≡ before s n

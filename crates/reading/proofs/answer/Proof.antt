@@ -22,14 +22,8 @@ enough n s h = ap (λ (b : Bool). cond b (printed s) []) (is-true (leb 98304 n) 
 returns : tie.Need-returns
 returns c = rw (short _ _ (c .if1 .taken)) (refl, refl)
 
-answer-into-requires : tie.Need-answer-into-requires
-answer-into-requires c κs = search needs
-
-same-length : tie.Need-same-length
-same-length c = search needs
-
 returns-2 : tie.Need-returns-2
 returns-2 c = rw (enough _ _ (c .before .before .before .before .if1 .left)) (c .before .before .answer-into .ensures)
 
 pub answer-spec : {M : Type 1} → statement M
-answer-spec = tie.close (tie.spec returns answer-into-requires same-length returns-2)
+answer-spec = tie.close (tie.spec returns (λ c κs. search needs) (λ c. search needs) returns-2)

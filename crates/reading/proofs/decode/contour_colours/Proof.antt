@@ -6,10 +6,10 @@ use native.Mathlib.Nat.{add-zero, add-assoc}
 use native.Mathlib.Omega.{arith}
 use lib.ListN.{length, getD, length-set}
 use denote.Ref.{now}
+use Rattle.ground.specs.Lists.{tab}
+use Rattle.ground.specs.Write.{Written}
+use Rattle.ground.proofs.Laws.Write.{tab-none, tab-next, tab-all, written-to}
 use Rattle.reading.specs.Case.{segmentAt, contourColours}
-use Rattle.reading.specs.Lists.{listed}
-use Rattle.reading.specs.Written.{Written}
-use Rattle.reading.proofs.Writes.{listed-none, listed-next, listed-all, written-to}
 use Rattle.reading.proofs.decode.contour_colours.Statement.{statement}
 use Rattle.reading.proofs.decode.contour_colours.Tie as tie
 
@@ -18,67 +18,23 @@ abbrev colour : List ℕ → ℕ → ℕ → ℕ
 colour s from j = getD s (segmentAt from j) 0
 
 abbrev Inv-loop : tie.InvT-loop
-Inv-loop s from n out₀ at j₀ out j = (j ≤ n) × (length out ≡ length out₀) × Written out₀ at (listed j (colour s from)) (at + j) out
+Inv-loop s from n out₀ at j₀ out j = (j ≤ n) × (length out ≡ length out₀) × Written out₀ at (tab j (colour s from)) (at + j) out
 
 abbrev μ-loop : tie.MeasureT-loop
 μ-loop s from n out₀ at j₀ out j = n - j
 
 loop-holds : tie.Need-loop-holds Inv-loop μ-loop
-loop-holds c = (omega arith, refl, written-to _ (sym (add-zero _)) (listed-none _ _ _))
-
-add-out : tie.Need-add-out Inv-loop μ-loop
-add-out c = omega arith
-
-mul-out : tie.Need-mul-out Inv-loop μ-loop
-mul-out c = omega arith
-
-add-out-2 : tie.Need-add-out-2 Inv-loop μ-loop
-add-out-2 c = omega arith
-
-shared-slice-read-out : tie.Need-shared-slice-read-out Inv-loop μ-loop
-shared-slice-read-out c = omega arith
-
-add-out-3 : tie.Need-add-out-3 Inv-loop μ-loop
-add-out-3 c = omega arith
-
-slice-write-out : tie.Need-slice-write-out Inv-loop μ-loop
-slice-write-out c = omega arith
-
-add-j : tie.Need-add-j Inv-loop μ-loop
-add-j c = omega arith
-
-loop-less : tie.Need-loop-less Inv-loop μ-loop
-loop-less c = omega arith
+loop-holds c = (omega arith, refl, written-to _ (sym (add-zero _)) (tab-none _ _ _))
 
 loop-again : tie.Need-loop-again Inv-loop μ-loop
-loop-again c = (omega arith, simp length-set (c .before .before .loop .inv .1), written-to _ (add-assoc _ _ 1) (listed-next _ (colour (now (c .before .before .before .args .s)) (c .before .before .before .args .from)) _ (c .before .before .loop .inv .2) refl))
-
-add-result : tie.Need-add-result Inv-loop μ-loop
-add-result c = omega arith
-
-same-length : tie.Need-same-length Inv-loop μ-loop
-same-length c = c .before .loop .inv .1
+loop-again c = (omega arith, simp length-set (c .before .before .loop .inv .1), written-to _ (add-assoc _ _ 1) (tab-next _ (colour (now (c .before .before .before .args .s)) (c .before .before .before .args .from)) _ (c .before .before .loop .inv .2) refl))
 
 returns : tie.Need-returns Inv-loop μ-loop
 unfolding contourColours
-returns c = let z : c .before .loop .j ≡ c .before .before .args .n = omega arith in written-to _ (ap (λ x. c .before .before .args .at + x) z) (listed-all _ (colour (now (c .before .before .args .s)) (c .before .before .args .from)) (c .before .loop .inv .2) z)
+returns c = let z : c .before .loop .j ≡ c .before .before .args .n = omega arith in written-to _ (ap (λ x. c .before .before .args .at + x) z) (tab-all _ (colour (now (c .before .before .args .s)) (c .before .before .args .from)) (c .before .loop .inv .2) z)
 
 pub contour-colours-spec : {M : Type 1} → statement M
 contour-colours-spec =
     tie.close
-    (tie.spec
-    Inv-loop
-    μ-loop
-    loop-holds
-    add-out
-    mul-out
-    add-out-2
-    shared-slice-read-out
-    add-out-3
-    slice-write-out
-    add-j
-    loop-less
-    loop-again
-    add-result
-    same-length
-    returns)
+    (tie.spec Inv-loop μ-loop loop-holds (λ c. omega arith) (λ c. omega arith) (λ c. omega arith) (λ c. omega arith) (λ c. omega arith) (λ c. omega arith) (λ c. omega arith) (λ c. omega arith) loop-again
+    (λ c. omega arith) (λ c. c .before .loop .inv .1) returns)

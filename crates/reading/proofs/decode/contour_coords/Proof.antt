@@ -6,11 +6,11 @@ use native.Mathlib.Omega.{arith}
 use lib.Ieee.{Float}
 use lib.ListN.{length}
 use denote.Ref.{now}
-use Rattle.reading.specs.Bytes.{f64At}
+use Rattle.ground.specs.Lists.{joined}
+use Rattle.ground.specs.Bytes.{f64At}
+use Rattle.ground.specs.Write.{Written}
+use Rattle.ground.proofs.Laws.Write.{joined-none, joined-next, joined-all, written-length}
 use Rattle.reading.specs.Case.{segmentAt, contourCoords}
-use Rattle.reading.specs.Lists.{joined}
-use Rattle.reading.specs.Written.{Written}
-use Rattle.reading.proofs.Writes.{joined-none, joined-next, joined-all, written-length}
 use Rattle.reading.proofs.decode.contour_coords.Statement.{statement}
 use Rattle.reading.proofs.decode.contour_coords.Tie as tie
 
@@ -27,23 +27,8 @@ abbrev μ-loop : tie.MeasureT-loop
 loop-holds : tie.Need-loop-holds Inv-loop μ-loop
 loop-holds c = (omega arith, refl, omega arith, joined-none _ _ _)
 
-add-segment-coords : tie.Need-add-segment-coords Inv-loop μ-loop
-add-segment-coords c = omega arith
-
-mul-segment-coords : tie.Need-mul-segment-coords Inv-loop μ-loop
-mul-segment-coords c = omega arith
-
-add-segment-coords-2 : tie.Need-add-segment-coords-2 Inv-loop μ-loop
-add-segment-coords-2 c = omega arith
-
 segment-coords-requires : tie.Need-segment-coords-requires Inv-loop μ-loop
 segment-coords-requires c κs = (omega arith, omega arith)
-
-add-j : tie.Need-add-j Inv-loop μ-loop
-add-j c = omega arith
-
-loop-less : tie.Need-loop-less Inv-loop μ-loop
-loop-less c = omega arith
 
 loop-again : tie.Need-loop-again Inv-loop μ-loop
 loop-again c =
@@ -52,9 +37,6 @@ loop-again c =
     let w = c .before .before .segment-coords .ensures in
     (omega arith, written-length w ∙ i .1, omega (arith, w .to, i .2), joined-next _ (pair (now (d .s)) (d .from)) (i .3) w)
 
-same-length : tie.Need-same-length Inv-loop μ-loop
-same-length c = c .before .loop .inv .1
-
 returns : tie.Need-returns Inv-loop μ-loop
 unfolding contourCoords
 returns c = joined-all _ (pair _ _) (c .before .loop .inv .3) (omega arith)
@@ -62,16 +44,5 @@ returns c = joined-all _ (pair _ _) (c .before .loop .inv .3) (omega arith)
 pub contour-coords-spec : {M : Type 1} → statement M
 contour-coords-spec =
     tie.close
-    (tie.spec
-    Inv-loop
-    μ-loop
-    loop-holds
-    add-segment-coords
-    mul-segment-coords
-    add-segment-coords-2
-    segment-coords-requires
-    add-j
-    loop-less
-    loop-again
-    same-length
+    (tie.spec Inv-loop μ-loop loop-holds (λ c. omega arith) (λ c. omega arith) (λ c. omega arith) segment-coords-requires (λ c. omega arith) (λ c. omega arith) loop-again (λ c. c .before .loop .inv .1)
     returns)

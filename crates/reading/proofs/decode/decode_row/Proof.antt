@@ -6,11 +6,11 @@ use native.Mathlib.Nat.{add-zero, add-assoc}
 use native.Mathlib.Omega.{arith}
 use lib.Ieee.{Float}
 use lib.ListN.{length, length-set}
-use Rattle.reading.specs.Bytes.{f32At}
+use Rattle.ground.specs.Lists.{tab}
+use Rattle.ground.specs.Bytes.{f32At}
+use Rattle.ground.specs.Write.{Written}
+use Rattle.ground.proofs.Laws.Write.{written-to, tab-all, tab-none, tab-next}
 use Rattle.reading.specs.Case.{rowSamples}
-use Rattle.reading.specs.Lists.{listed}
-use Rattle.reading.specs.Written.{Written}
-use Rattle.reading.proofs.Writes.{written-to, listed-all, listed-none, listed-next}
 use Rattle.reading.proofs.decode.decode_row.Statement.{statement}
 use Rattle.reading.proofs.decode.decode_row.Tie as tie
 
@@ -19,71 +19,23 @@ abbrev sample : List ℕ → ℕ → ℕ → Float
 sample s from j = f32At s (from + 3 + 4 * j)
 
 abbrev Inv-loop : tie.InvT-loop
-Inv-loop s from n out₀ at j₀ out j = (j ≤ n) × (length out ≡ length out₀) × Written out₀ at (listed j (sample s from)) (at + j) out
+Inv-loop s from n out₀ at j₀ out j = (j ≤ n) × (length out ≡ length out₀) × Written out₀ at (tab j (sample s from)) (at + j) out
 
 abbrev μ-loop : tie.MeasureT-loop
 μ-loop s from n out₀ at j₀ out j = n - j
 
 loop-holds : tie.Need-loop-holds Inv-loop μ-loop
-loop-holds c = (omega arith, refl, written-to _ (sym (add-zero _)) (listed-none _ _ _))
-
-add-f32-at : tie.Need-add-f32-at Inv-loop μ-loop
-add-f32-at c = omega arith
-
-mul-f32-at : tie.Need-mul-f32-at Inv-loop μ-loop
-mul-f32-at c = omega arith
-
-add-f32-at-2 : tie.Need-add-f32-at-2 Inv-loop μ-loop
-add-f32-at-2 c = omega arith
-
-f32-at-requires : tie.Need-f32-at-requires Inv-loop μ-loop
-f32-at-requires c κs = omega arith
-
-add-out : tie.Need-add-out Inv-loop μ-loop
-add-out c = omega arith
-
-mul-out : tie.Need-mul-out Inv-loop μ-loop
-mul-out c = omega arith
-
-slice-write-out : tie.Need-slice-write-out Inv-loop μ-loop
-slice-write-out c = omega arith
-
-add-j : tie.Need-add-j Inv-loop μ-loop
-add-j c = omega arith
-
-loop-less : tie.Need-loop-less Inv-loop μ-loop
-loop-less c = omega arith
+loop-holds c = (omega arith, refl, written-to _ (sym (add-zero _)) (tab-none _ _ _))
 
 loop-again : tie.Need-loop-again Inv-loop μ-loop
-loop-again c = (omega arith, simp length-set (c .before .before .loop .inv .1), written-to _ (add-assoc _ _ 1) (listed-next _ _ _ (c .before .before .loop .inv .2) (c .f32-at .ensures)))
-
-add-result : tie.Need-add-result Inv-loop μ-loop
-add-result c = omega arith
-
-same-length : tie.Need-same-length Inv-loop μ-loop
-same-length c = c .before .loop .inv .1
+loop-again c = (omega arith, simp length-set (c .before .before .loop .inv .1), written-to _ (add-assoc _ _ 1) (tab-next _ _ _ (c .before .before .loop .inv .2) (c .f32-at .ensures)))
 
 returns : tie.Need-returns Inv-loop μ-loop
 unfolding rowSamples
-returns c = let z : c .before .loop .j ≡ c .before .before .before .before .args .n = omega arith in written-to _ (ap (λ x. c .before .before .before .before .args .at + x) z) (listed-all _ (sample _ _) (c .before .loop .inv .2) z)
+returns c = let z : c .before .loop .j ≡ c .before .before .before .before .args .n = omega arith in written-to _ (ap (λ x. c .before .before .before .before .args .at + x) z) (tab-all _ (sample _ _) (c .before .loop .inv .2) z)
 
 pub decode-row-spec : {M : Type 1} → statement M
 decode-row-spec =
     tie.close
-    (tie.spec
-    Inv-loop
-    μ-loop
-    loop-holds
-    add-f32-at
-    mul-f32-at
-    add-f32-at-2
-    f32-at-requires
-    add-out
-    mul-out
-    slice-write-out
-    add-j
-    loop-less
-    loop-again
-    add-result
-    same-length
-    returns)
+    (tie.spec Inv-loop μ-loop loop-holds (λ c. omega arith) (λ c. omega arith) (λ c. omega arith) (λ c κs. tt) (λ c. omega arith) (λ c. omega arith) (λ c. omega arith) (λ c. omega arith)
+    (λ c. omega arith) loop-again (λ c. omega arith) (λ c. c .before .loop .inv .1) returns)

@@ -7,12 +7,12 @@ use native.Mathlib.Omega.{arith}
 use lib.Ieee.{Float}
 use lib.ListN.{length}
 use denote.Ref.{now}
+use Rattle.ground.specs.Lists.{joined}
+use Rattle.ground.specs.Write.{Written}
+use Rattle.ground.proofs.Laws.Write.{joined-none, joined-next, joined-all, written-as, written-length}
 use Rattle.reading.specs.Case.{rowSamples}
-use Rattle.reading.specs.Lists.{joined}
-use Rattle.reading.specs.Written.{Written}
-use Rattle.reading.proofs.Decoded.{row-length}
-use Rattle.reading.proofs.Sizes.{next-row, row-within}
-use Rattle.reading.proofs.Writes.{joined-none, joined-next, joined-all, written-as, written-length}
+use Rattle.reading.proofs.decode.Decoded.{row-length}
+use Rattle.reading.proofs.fields.Sizes.{next-row, row-within}
 use Rattle.reading.proofs.decode.decode_samples.Statement.{statement}
 use Rattle.reading.proofs.decode.decode_samples.Tie as tie
 
@@ -41,55 +41,32 @@ loop-holds : tie.Need-loop-holds Inv-loop μ-loop
 loop-holds c = record { within = omega arith; there = omega (arith, zero-mul (3 + 4 * c .before .before .args .n)); count = omega (arith, zero-mul (c .before .before .args .n)); len = refl; written = joined-none _ _ _ }
 
 decode-row-requires : tie.Need-decode-row-requires Inv-loop μ-loop
-decode-row-requires c κs = (fits (c .before .before .loop .inv) (c .before .loop-test .taken) (c .before .before .before .before .before .pre .0) (c .before .before .before .before .before .pre .1))
+decode-row-requires c κs = let start = c .before .before .before .before .before in fits (c .before .before .loop .inv) (c .before .loop-test .taken) (start .pre .0) (start .pre .1)
 
-mul-place : tie.Need-mul-place Inv-loop μ-loop
-mul-place c = omega (arith, (fits (c .before .before .before .before .before .loop .inv) (c .before .before .before .before .loop-test .taken) (c .before .before .before .before .before .before .before .before .pre .0) (c .before .before .before .before .before .before .before .before .pre .1)))
-
-add-place : tie.Need-add-place Inv-loop μ-loop
-add-place c = omega (arith, (fits (c .before .before .before .before .before .loop .inv) (c .before .before .before .before .loop-test .taken) (c .before .before .before .before .before .before .before .before .pre .0) (c .before .before .before .before .before .before .before .before .pre .1)))
-
-add-place-2 : tie.Need-add-place-2 Inv-loop μ-loop
-add-place-2 c = omega (arith, (fits (c .before .before .before .before .before .loop .inv) (c .before .before .before .before .loop-test .taken) (c .before .before .before .before .before .before .before .before .pre .0) (c .before .before .before .before .before .before .before .before .pre .1)))
-
-add-y : tie.Need-add-y Inv-loop μ-loop
-add-y c = omega arith
-
-loop-less : tie.Need-loop-less Inv-loop μ-loop
-loop-less c = omega arith
+-- behind the row its end is still inside
+inside : (c : tie.After-slice-known2 Inv-loop μ-loop) → c .before .before .before .before .before .loop .place + 3 + 4 * c .before .before .before .before .before .before .before .before .args .n ≤ length (now (c .before .before .before .before .before .before .before .before .args .s))
+inside c =
+    let at-loop = c .before .before .before .before .before in
+    let start = at-loop .before .before .before in
+    fits (at-loop .loop .inv) (c .before .before .before .before .loop-test .taken) (start .pre .0) (start .pre .1) .0
 
 loop-again : tie.Need-loop-again Inv-loop μ-loop
 loop-again c =
-    let i = c .before .before .before .before .before .loop .inv in
+    let l = c .before .before .before .before .before .loop in
+    let i = l .inv in
     let d = c .before .before .before .before .before .before .before .before .args in
     let w = c .before .before .decode-row .ensures in
     record {
       within = omega arith;
-      there = omega (arith, i .there, next-row (3 + 4 * d .n) (c .before .before .before .before .before .loop .y));
-      count = omega (arith, i .count, next-row (d .n) (c .before .before .before .before .before .loop .y), w .to, row-length (now (d .s)) (c .before .before .before .before .before .loop .place) (d .n));
+      there = omega (arith, i .there, next-row (3 + 4 * d .n) (l .y));
+      count = omega (arith, i .count, next-row (d .n) (l .y), w .to, row-length (now (d .s)) (l .place) (d .n));
       len = written-length w ∙ i .len;
-      written = joined-next _ (row (now (d .s)) (d .from) (d .n)) (i .written) (written-as (row (now (d .s)) (d .from) (d .n) (c .before .before .before .before .before .loop .y)) (ap (λ (p : ℕ). rowSamples (now (d .s)) p (d .n)) (i .there)) w);
+      written = joined-next _ (row (now (d .s)) (d .from) (d .n)) (i .written) (written-as (row (now (d .s)) (d .from) (d .n) (l .y)) (ap (λ (p : ℕ). rowSamples (now (d .s)) p (d .n)) (i .there)) w);
     }
-
-same-length : tie.Need-same-length Inv-loop μ-loop
-same-length c = c .before .loop .inv .len
 
 returns : tie.Need-returns Inv-loop μ-loop
 returns c = let z : c .before .loop .y ≡ c .before .before .before .before .args .h = omega arith in (joined-all _ (row _ _ _) (c .before .loop .inv .written) (omega arith), c .before .loop .inv .count ∙ ap (λ x. x * c .before .before .before .before .args .n) z)
 
 pub decode-samples-spec : {M : Type 1} → statement M
 decode-samples-spec =
-    tie.close
-    (tie.spec
-    Inv-loop
-    μ-loop
-    loop-holds
-    decode-row-requires
-    mul-place
-    add-place
-    add-place-2
-    add-y
-    loop-less
-    loop-again
-    same-length
-    returns)
+    tie.close (tie.spec Inv-loop μ-loop loop-holds decode-row-requires (λ c. omega (arith, inside c)) (λ c. omega (arith, inside c)) (λ c. omega (arith, inside c)) (λ c. omega arith) (λ c. omega arith) loop-again (λ c. c .before .loop .inv .len) returns)

@@ -9,12 +9,6 @@ use Rattle.reading.specs.Grammar.{bodyBreach}
 use Rattle.reading.proofs.fields.body_breach.Statement.{statement}
 use Rattle.reading.proofs.fields.body_breach.Tie as tie
 
-sub-if1 : tie.Need-sub-if1
-sub-if1 c = search needs
-
-sub-if1-2 : tie.Need-sub-if1-2
-sub-if1-2 c = search needs
-
 returns : tie.Need-returns
 unfolding bodyBreach
 returns c = simp (lt-ltb (length (now (c .before .before .before .args .s))) (c .before .before .before .args .f .at + 3 + c .before .before .before .args .f .len) (omega arith))
@@ -24,10 +18,4 @@ unfolding bodyBreach
 returns-2 c = simp (le-ltb (length (now (c .before .before .before .args .s))) (c .before .before .before .args .f .at + 3 + c .before .before .before .args .f .len) (omega arith))
 
 pub body-breach-spec : {M : Type 1} → statement M
-body-breach-spec =
-    tie.close
-    (tie.spec
-    sub-if1
-    sub-if1-2
-    returns
-    returns-2)
+body-breach-spec = tie.close (tie.spec (λ c. search needs) (λ c. search needs) returns returns-2)

@@ -1,21 +1,13 @@
 -- `reading::fields::contour` meets its contract. Assumes nothing.
-use mathlib.Core.Path.{sym, subst, _∙_, refl}
-use Prim.Native.Nat.{_+_, _/_}
+use mathlib.Core.Path.{sym, _∙_, refl}
 use native.Mathlib.Omega.{arith}
 use borrow.Author.Needs.{needs}
-use Rattle.reading.specs.Grammar.{lengthAt}
-use Rattle.reading.specs.Written.{Stage, Reached}
-use Rattle.reading.proofs.Layouts.{breach-outline}
-use Rattle.reading.proofs.Outlines.{reached-more, outlined-broken}
-use Rattle.reading.proofs.Stages.{stepped-on, stepped-broken, next-contour, told-contour}
+use Rattle.reading.specs.Inner.{Stage}
+use Rattle.reading.proofs.fields.Layouts.{breach-outline}
+use Rattle.reading.proofs.fields.Outlines.{reached-more, outlined-broken}
+use Rattle.reading.proofs.fields.Stages.{stepped-on, stepped-broken, next-contour, told-contour}
 use Rattle.reading.proofs.fields.contour.Statement.{statement}
 use Rattle.reading.proofs.fields.contour.Tie as tie
-
-contour-breach-requires : tie.Need-contour-breach-requires
-contour-breach-requires c κs = search needs
-
-broken-requires : tie.Need-broken-requires
-broken-requires c κs = search needs
 
 returns : tie.Need-returns
 returns c =
@@ -26,21 +18,16 @@ returns c =
     let b = e ∙ sym (outlined-broken _ (m .short) _ _ _ (o .reached) here (λ z. c .before .if1 .taken (e ∙ z))) in
     stepped-broken _ _ _ (omega arith) (omega arith) (c .broken .ensures) (b ∙ sym (breach-outline _ (m .short) (m .sized) (o .set) (λ z. c .before .if1 .taken (b ∙ z)))) (c .before .if1 .taken)
 
-add-l : tie.Need-add-l
-add-l c = search needs
-
-add-l-2 : tie.Need-add-l-2
-add-l-2 c = search needs
-
 returns-2 : tie.Need-returns-2
 unfolding Stage
 returns-2 c =
-    let o = c .before .before .before .before .before .before .pre .1 in
+    let start = c .before .before .before .before .before .before in
+    let o = start .pre .1 in
     let m = o .measured in
     let fine = sym (c .before .before .before .before .contour-breach .ensures) ∙ c .before .before .before .if1 .left in
-    let n = next-contour _ (m .short) _ (c .before .before .before .before .before .before .pre .0) (omega arith) _ _ fine in
+    let n = next-contour _ (m .short) _ (start .pre .0) (omega arith) _ _ fine in
     stepped-on _ _ _ (omega arith) (omega arith) (omega arith)
-    (rw (c .before .before .before .before .before .before .pre .3)
+    (rw (start .pre .3)
     (record {
       measured = m;
       all = o .all;
@@ -50,12 +37,4 @@ returns-2 c =
     }))
 
 pub contour-spec : {M : Type 1} → statement M
-contour-spec =
-    tie.close
-    (tie.spec
-    contour-breach-requires
-    broken-requires
-    returns
-    add-l
-    add-l-2
-    returns-2)
+contour-spec = tie.close (tie.spec (λ c κs. search needs) (λ c κs. search needs) returns (λ c. search needs) (λ c. search needs) returns-2)

@@ -4,16 +4,10 @@ use native.Mathlib.Omega.{arith}
 use borrow.Author.Needs.{needs}
 use borrow.Author.Tests.{lt-ltb, le-ltb}
 use Rattle.reading.specs.Grammar.{endBreach}
-use Rattle.reading.proofs.Breaches.{found, passed}
-use Rattle.reading.proofs.Stages.{stepped-end, stepped-broken, end-decides, whole-read}
+use Rattle.reading.proofs.fields.Breaches.{found, passed}
+use Rattle.reading.proofs.fields.Stages.{stepped-end, stepped-broken, end-decides, whole-read}
 use Rattle.reading.proofs.fields.end.Statement.{statement}
 use Rattle.reading.proofs.fields.end.Tie as tie
-
-field-breach-requires : tie.Need-field-breach-requires
-field-breach-requires c κs = search needs
-
-broken-requires : tie.Need-broken-requires
-broken-requires c κs = search needs
 
 returns : tie.Need-returns
 unfolding endBreach
@@ -21,20 +15,12 @@ returns c =
     let e = c .before .before .field-breach .ensures in
     stepped-broken _ _ _ (omega arith) (omega arith) (c .broken .ensures) (e ∙ sym (end-decides _ (c .before .before .before .before .pre .1) (c .before .before .before .before .pre .2) ∙ found _ _ (λ z. c .before .if1 .taken (e ∙ z)))) (c .before .if1 .taken)
 
-add-if2 : tie.Need-add-if2
-add-if2 c = search needs
-
-add-broken : tie.Need-add-broken
-add-broken c = search needs
-
-broken-requires-2 : tie.Need-broken-requires-2
-broken-requires-2 c κs = search needs
-
 returns-2 : tie.Need-returns-2
 unfolding endBreach
 returns-2 c =
+    let start = c .before .before .before .before .before .before .before in
     let fine = sym (c .before .before .before .before .before .field-breach .ensures) ∙ c .before .before .before .before .if1 .left in
-    stepped-broken _ _ _ (omega arith) (omega arith) (c .broken2 .ensures) (sym (end-decides _ (c .before .before .before .before .before .before .before .pre .1) (c .before .before .before .before .before .before .before .pre .2) ∙ passed _ _ fine ∙ simp (lt-ltb _ _ (c .before .before .if2 .taken)))) (λ z. omega arith)
+    stepped-broken _ _ _ (omega arith) (omega arith) (c .broken2 .ensures) (sym (end-decides _ (start .pre .1) (start .pre .2) ∙ passed _ _ fine ∙ simp (lt-ltb _ _ (c .before .before .if2 .taken)))) (λ z. omega arith)
 
 returns-3 : tie.Need-returns-3
 unfolding endBreach
@@ -47,14 +33,4 @@ returns-3 c =
     })
 
 pub end-spec : {M : Type 1} → statement M
-end-spec =
-    tie.close
-    (tie.spec
-    field-breach-requires
-    broken-requires
-    returns
-    add-if2
-    add-broken
-    broken-requires-2
-    returns-2
-    returns-3)
+end-spec = tie.close (tie.spec (λ c κs. search needs) (λ c κs. search needs) returns (λ c. search needs) (λ c. search needs) (λ c κs. search needs) returns-2 returns-3)

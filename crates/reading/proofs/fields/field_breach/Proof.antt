@@ -3,12 +3,9 @@ use mathlib.Core.Path.{sym, _∙_}
 use borrow.Author.Needs.{needs}
 use borrow.Author.Tests.{eq-eqb, ne-eqb}
 use Rattle.reading.specs.Grammar.{fieldBreach}
-use Rattle.reading.proofs.Breaches.{found, passed, head-fine}
+use Rattle.reading.proofs.fields.Breaches.{found, passed, head-fine}
 use Rattle.reading.proofs.fields.field_breach.Statement.{statement}
 use Rattle.reading.proofs.fields.field_breach.Tie as tie
-
-head-breach-requires : tie.Need-head-breach-requires
-head-breach-requires c κs = search needs
 
 returns : tie.Need-returns
 unfolding fieldBreach
@@ -27,16 +24,10 @@ body-breach-requires c κs = head-fine _ (c .before .before .before .before .bef
 returns-3 : tie.Need-returns-3
 unfolding fieldBreach
 returns-3 c =
+    let start = c .before .before .before .before .before .before in
     let fine = sym (c .before .before .before .before .head-breach .ensures) ∙ c .before .before .before .if1 .left in
-    let there = head-fine _ (c .before .before .before .before .before .before .pre .1) _ _ (c .before .before .before .before .before .before .pre .2) fine .1 in
-    c .body-breach .ensures ∙ rw (c .before .if2 .left) (sym (passed _ _ fine ∙ simp (eq-eqb _ _ (sym (c .before .before .before .before .before .before .pre .0 .sized there) ∙ c .before .if2 .left))))
+    let there = head-fine _ (start .pre .1) _ _ (start .pre .2) fine .1 in
+    c .body-breach .ensures ∙ rw (c .before .if2 .left) (sym (passed _ _ fine ∙ simp (eq-eqb _ _ (sym (start .pre .0 .sized there) ∙ c .before .if2 .left))))
 
 pub field-breach-spec : {M : Type 1} → statement M
-field-breach-spec =
-    tie.close
-    (tie.spec
-    head-breach-requires
-    returns
-    returns-2
-    body-breach-requires
-    returns-3)
+field-breach-spec = tie.close (tie.spec (λ c κs. search needs) returns returns-2 body-breach-requires returns-3)

@@ -18,23 +18,17 @@ returns-2 : tie.Need-returns-2
 unfolding headBreach
 returns-2 c = simp (lt-leb _ _ (c .before .before .if1 .left), ne-eqb _ _ (λ z. c .if2 .taken (c .before .before .before .before .pre .tagged (c .before .before .if1 .left) ∙ z)))
 
-sub-if3 : tie.Need-sub-if3
-sub-if3 c = search needs
-
 returns-3 : tie.Need-returns-3
 unfolding headBreach
-returns-3 c = simp (lt-leb _ _ (c .before .before .before .before .if1 .left), eq-eqb _ _ (sym (c .before .before .before .before .before .before .pre .tagged (c .before .before .before .before .if1 .left)) ∙ c .before .before .if2 .left), lt-ltb (length (now (c .before .before .before .before .before .before .args .s))) (c .before .before .before .before .before .before .args .f .at + 3) (omega arith))
+returns-3 c =
+    let start = c .before .before .before .before .before .before in
+    simp (lt-leb _ _ (c .before .before .before .before .if1 .left), eq-eqb _ _ (sym (start .pre .tagged (c .before .before .before .before .if1 .left)) ∙ c .before .before .if2 .left), lt-ltb (length (now (start .args .s))) (start .args .f .at + 3) (omega arith))
 
 returns-4 : tie.Need-returns-4
 unfolding headBreach
-returns-4 c = simp (lt-leb _ _ (c .before .before .before .before .if1 .left), eq-eqb _ _ (sym (c .before .before .before .before .before .before .pre .tagged (c .before .before .before .before .if1 .left)) ∙ c .before .before .if2 .left), le-ltb (length (now (c .before .before .before .before .before .before .args .s))) (c .before .before .before .before .before .before .args .f .at + 3) (omega arith))
+returns-4 c =
+    let start = c .before .before .before .before .before .before in
+    simp (lt-leb _ _ (c .before .before .before .before .if1 .left), eq-eqb _ _ (sym (start .pre .tagged (c .before .before .before .before .if1 .left)) ∙ c .before .before .if2 .left), le-ltb (length (now (start .args .s))) (start .args .f .at + 3) (omega arith))
 
 pub head-breach-spec : {M : Type 1} → statement M
-head-breach-spec =
-    tie.close
-    (tie.spec
-    returns
-    returns-2
-    sub-if3
-    returns-3
-    returns-4)
+head-breach-spec = tie.close (tie.spec returns returns-2 (λ c. search needs) returns-3 returns-4)

@@ -47,11 +47,11 @@ use denote.Triple.Walked.{says, Stays, stay-none-slice, walkOf, goes-none-slice,
 use denote.Exit.{yes}
 use denote.Triple.Clauses.{ensured, lasts}
 use borrow.Author.Tests.{lt-ltb, le-ltb}
-use Rattle.reading.specs.Written.{Told, Walked, turns, Stepped, Read}
+use Rattle.reading.specs.Inner.{Told, Walked, turns, Stepped, Read}
 use Rattle.reading.specs.declared.reader.Reader.{Reader}
 use Rattle.reading.specs.declared.reader.Field.{Field}
 use Rattle.reading.specs.declared.fields.Layout.{Layout}
-use Rattle.reading.proofs.Stages.{read-due, told-here}
+use Rattle.reading.proofs.fields.Stages.{read-due, told-here}
 use Rattle.reading.proofs.reader.Reader as T
 use Rattle.reading.proofs.reader.Reader.Laws as T′
 use Rattle.reading.proofs.reader.Field as F

@@ -2,18 +2,12 @@
 use mathlib.Core.Path.{sym, _∙_, refl}
 use native.Mathlib.Omega.{arith}
 use borrow.Author.Needs.{needs}
-use Rattle.reading.specs.Written.{Stage}
-use Rattle.reading.proofs.Layouts.{breach-settings}
-use Rattle.reading.proofs.Outlines.{reached-none}
-use Rattle.reading.proofs.Stages.{stepped-on, stepped-broken, same-field, next-field}
+use Rattle.reading.specs.Inner.{Stage}
+use Rattle.reading.proofs.fields.Layouts.{breach-settings}
+use Rattle.reading.proofs.fields.Outlines.{reached-none}
+use Rattle.reading.proofs.fields.Stages.{stepped-on, stepped-broken, same-field, next-field}
 use Rattle.reading.proofs.fields.settings.Statement.{statement}
 use Rattle.reading.proofs.fields.settings.Tie as tie
-
-field-breach-requires : tie.Need-field-breach-requires
-field-breach-requires c κs = search needs
-
-broken-requires : tie.Need-broken-requires
-broken-requires c κs = search needs
 
 returns : tie.Need-returns
 returns c =
@@ -38,10 +32,4 @@ returns-2 c =
     })
 
 pub settings-spec : {M : Type 1} → statement M
-settings-spec =
-    tie.close
-    (tie.spec
-    field-breach-requires
-    broken-requires
-    returns
-    returns-2)
+settings-spec = tie.close (tie.spec (λ c κs. search needs) (λ c κs. search needs) returns returns-2)

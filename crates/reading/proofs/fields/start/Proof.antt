@@ -2,13 +2,10 @@
 use mathlib.Core.Path.{sym, _∙_, refl}
 use native.Mathlib.Omega.{arith}
 use borrow.Author.Needs.{needs}
-use Rattle.reading.specs.Written.{Stage}
-use Rattle.reading.proofs.Layouts.{read-found, breach-long}
+use Rattle.reading.specs.Inner.{Stage}
+use Rattle.reading.proofs.fields.Layouts.{read-found, breach-long}
 use Rattle.reading.proofs.fields.start.Statement.{statement}
 use Rattle.reading.proofs.fields.start.Tie as tie
-
-broken-requires : tie.Need-broken-requires
-broken-requires c κs = search needs
 
 returns : tie.Need-returns
 unfolding Stage
@@ -19,9 +16,4 @@ unfolding Stage
 returns-2 c = record { short = c .if1 .left; first = refl }
 
 pub start-spec : {M : Type 1} → statement M
-start-spec =
-    tie.close
-    (tie.spec
-    broken-requires
-    returns
-    returns-2)
+start-spec = tie.close (tie.spec (λ c κs. search needs) returns returns-2)

@@ -42,7 +42,7 @@ use denote.Triple.Table.{entered, cited}
 use denote.Triple.Walked.{says, Stays, stay-none, walkOf, goes-none, Walks, ends-at, walked, walk-meets}
 use denote.Exit.{yes}
 use denote.Triple.Clauses.{ensured, lasts}
-use Rattle.reading.specs.Written.{Told}
+use Rattle.reading.specs.Inner.{Told}
 use Rattle.reading.specs.declared.reader.Reader.{Reader}
 use Rattle.reading.specs.declared.reader.Field.{Field}
 use Rattle.reading.proofs.reader.Reader as T

@@ -1,154 +1,148 @@
 -- `reading::run::answer_case` meets its contract: each slice's front is what was decoded into it. Assumes nothing.
 use mathlib.Core.Path.{_∙_, ap}
-use Prim.Native.Nat.{_<_}
+use Prim.Native.Nat.{_*_, _<_, _≤_}
 use native.Mathlib.Nat.{le-trans}
 use native.Mathlib.Omega.{arith}
-use lib.ListN.{getD}
+use lib.ListN.{length, getD}
 use lib.Seq.{length-front}
 use denote.Ref.{now}
 use borrow.Author.Needs.{needs}
+use Rattle.ground.proofs.Laws.Write.{written-fits, front, front-length, written-as}
 use Rattle.correction.specs.Pass.{answer}
 use Rattle.reading.specs.Answer.{answerText}
-use Rattle.reading.proofs.Decoded.{decoded-samples, decoded-case, whole-samples, whole-cells, whole-rows}
-use Rattle.reading.proofs.Sizes.{row-fits, pair-fits}
-use Rattle.reading.proofs.Writes.{written-fits, front, front-length, written-as}
+use Rattle.reading.proofs.decode.Decoded.{decoded-samples, decoded-case, whole-samples, whole-cells, whole-rows}
+use Rattle.reading.proofs.fields.Sizes.{row-fits, pair-fits}
 use Rattle.reading.proofs.run.answer_case.Statement.{statement}
 use Rattle.reading.proofs.run.answer_case.Tie as tie
 
-be16-requires : tie.Need-be16-requires
-be16-requires c κs = search needs
+-- ---- places of the code, each from the next
 
-be16-requires-2 : tie.Need-be16-requires-2
-be16-requires-2 c κs = search needs
+abbrev start : tie.After-be162 → tie.Start
+start c = c .before .before .before .before .before .before .before .before .before
 
-shared-slice-read-ch : tie.Need-shared-slice-read-ch
-shared-slice-read-ch c = search needs
+abbrev sized : tie.After-decode-samples → tie.After-be162
+sized c = c .before .before .before
 
-cast-ch : tie.Need-cast-ch
-cast-ch c = omega (arith, c .shared-slice-known2 .given 7)
+abbrev sampled : tie.After-clear → tie.After-decode-samples
+sampled c = c .before .before .before .before
+
+abbrev cleared : tie.After-decode-outline → tie.After-clear
+cleared c = c .before .before .before .before .before .before
+
+abbrev decoded : tie.After-slice-known11 → tie.After-decode-outline
+decoded c = c .before .before .before .before .before .before
+
+-- ---- what was decoded fits what is lent
+
+samples-few : (c : tie.After-decode-samples) → c .decode-samples .result ≤ 12288
+samples-few c = omega (arith, c .decode-samples .ensures .1, whole-samples (start (sized c) .pre .0) (sized c .before .be16 .ensures .0) (sized c .be162 .ensures .0))
+
+samples-fit : (c : tie.After-decode-samples) → c .decode-samples .result ≤ length (now (start (sized c) .args .samples))
+samples-fit c = le-trans (samples-few c) (start (sized c) .pre .1 .1 .samples)
+
+cells-few : (c : tie.After-be162) → c .before .be16 .result * c .be162 .result ≤ length (now (start c .args .stencil))
+cells-few c = le-trans (whole-cells (start c .pre .0) (c .before .be16 .ensures .0) (c .be162 .ensures .0) (start c .pre .1 .0 .1)) (start c .pre .1 .1 .cells)
+
+cells-fit : (c : tie.After-clear) → c .clear .result ≤ length (now (start (sized (sampled c)) .args .stencil))
+cells-fit c = omega (arith, c .clear .ensures .1, cells-few (sized (sampled c)))
+
+outline-fits : (c : tie.Start) → (c .args .n ≤ length (now (c .args .colours))) × (2 * c .args .n ≤ length (now (c .args .coords))) × (c .args .k ≤ length (now (c .args .ends)))
+outline-fits c =
+    let o = c .pre .0 .outlined in
+    let l = c .pre .1 .1 in
+    (omega (arith, o .sparse, l .colours), omega (arith, o .sparse, l .coords), omega (arith, o .few, l .ends))
+
+abbrev begun : tie.After-slice-known11 → tie.Start
+begun c = start (sized (sampled (cleared (decoded c))))
+
+-- ---- the needs
 
 mul-decode-samples : tie.Need-mul-decode-samples
-mul-decode-samples c = let k : getD (now (c .before .before .before .before .before .before .before .before .before .before .args .s)) 7 0 < 256 = omega (arith, c .shared-slice-known2 .given 7) in omega (arith, row-fits _ _ (c .before .before .be16 .ensures .1) k)
+mul-decode-samples c =
+    let k : getD (now (start (c .before) .args .s)) 7 0 < 256 = omega (arith, c .shared-slice-known2 .given 7) in
+    omega (arith, row-fits _ _ (c .before .before .be16 .ensures .1) k)
 
 decode-samples-requires : tie.Need-decode-samples-requires
-decode-samples-requires c κs = (whole-rows (c .before .before .before .before .before .before .before .before .before .before .before .pre .0) (c .before .before .before .be16 .ensures .0) (c .before .before .be162 .ensures .0), le-trans (whole-samples (c .before .before .before .before .before .before .before .before .before .before .before .pre .0) (c .before .before .before .be16 .ensures .0) (c .before .before .be162 .ensures .0)) (c .before .before .before .before .before .before .before .before .before .before .before .pre .1 .1 .samples))
+decode-samples-requires c κs =
+    let m = c .before .before in
+    let w = start m .pre .0 in
+    (whole-rows w (m .before .be16 .ensures .0) (m .be162 .ensures .0), le-trans (whole-samples w (m .before .be16 .ensures .0) (m .be162 .ensures .0)) (start m .pre .1 .1 .samples))
 
 mul-clear : tie.Need-mul-clear
-mul-clear c = omega (arith, pair-fits _ _ (c .before .before .before .before .before .before .before .be16 .ensures .1) (c .before .before .before .before .before .before .be162 .ensures .1))
+mul-clear c = let m = sized (c .before .before .before) in omega (arith, pair-fits _ _ (m .before .be16 .ensures .1) (m .be162 .ensures .1))
 
-clear-requires : tie.Need-clear-requires
-clear-requires c κs = le-trans (whole-cells (c .before .before .before .before .before .before .before .before .before .before .before .before .before .before .before .pre .0) (c .before .before .before .before .before .before .before .be16 .ensures .0) (c .before .before .before .before .before .before .be162 .ensures .0) (c .before .before .before .before .before .before .before .before .before .before .before .before .before .before .before .pre .1 .0 .1)) (c .before .before .before .before .before .before .before .before .before .before .before .before .before .before .before .pre .1 .1 .cells)
-
-decode-colours-requires : tie.Need-decode-colours-requires
-decode-colours-requires c κs = ((c .before .before .before .before .before .before .before .before .before .before .before .before .before .before .before .before .before .before .before .pre .0) .outlined, omega (arith, (c .before .before .before .before .before .before .before .before .before .before .before .before .before .before .before .before .before .before .before .pre .0) .outlined .sparse, c .before .before .before .before .before .before .before .before .before .before .before .before .before .before .before .before .before .before .before .pre .1 .1 .colours))
-
-decode-coords-requires : tie.Need-decode-coords-requires
-decode-coords-requires c κs = ((c .before .before .before .before .before .before .before .before .before .before .before .before .before .before .before .before .before .before .before .before .before .before .before .pre .0) .outlined, omega (arith, (c .before .before .before .before .before .before .before .before .before .before .before .before .before .before .before .before .before .before .before .before .before .before .before .pre .0) .outlined .sparse, c .before .before .before .before .before .before .before .before .before .before .before .before .before .before .before .before .before .before .before .before .before .before .before .pre .1 .1 .coords))
-
-decode-ends-requires : tie.Need-decode-ends-requires
-decode-ends-requires c κs = ((c .before .before .before .before .before .before .before .before .before .before .before .before .before .before .before .before .before .before .before .before .before .before .before .before .before .before .before .pre .0) .outlined, omega (arith, (c .before .before .before .before .before .before .before .before .before .before .before .before .before .before .before .before .before .before .before .before .before .before .before .before .before .before .before .pre .0) .outlined .few, c .before .before .before .before .before .before .before .before .before .before .before .before .before .before .before .before .before .before .before .before .before .before .before .before .before .before .before .pre .1 .1 .ends))
+decode-outline-requires : tie.Need-decode-outline-requires
+decode-outline-requires c κs = let s = start (sized (sampled (c .before .before .before .before .before))) in (s .pre .0 .outlined, outline-fits s)
 
 slice-relend-prefix-run : tie.Need-slice-relend-prefix-run
-slice-relend-prefix-run c = written-fits (c .before .before .before .before .before .before .before .before .before .before .before .before .before .before .before .before .before .before .before .decode-samples .ensures .0) (omega (arith, (c .before .before .before .before .before .before .before .before .before .before .before .before .before .before .before .before .before .before .before .decode-samples .ensures .1), whole-samples (c .before .before .before .before .before .before .before .before .before .before .before .before .before .before .before .before .before .before .before .before .before .before .before .before .before .before .before .before .before .before .before .pre .0) (c .before .before .before .before .before .before .before .before .before .before .before .before .before .before .before .before .before .before .before .before .before .before .before .be16 .ensures .0) (c .before .before .before .before .before .before .before .before .before .before .before .before .before .before .before .before .before .before .before .before .before .before .be162 .ensures .0), c .before .before .before .before .before .before .before .before .before .before .before .before .before .before .before .before .before .before .before .before .before .before .before .before .before .before .before .before .before .before .before .pre .1 .1 .samples))
+slice-relend-prefix-run c = let d = sampled (cleared (decoded (c .before))) in written-fits (d .decode-samples .ensures .0) (samples-fit d)
 
 slice-aggregate-run : tie.Need-slice-aggregate-run
-slice-aggregate-run c = front-length (c .before .before .before .before .before .before .before .before .before .before .before .before .before .before .before .before .before .before .before .before .decode-samples .ensures .0) (omega (arith, (c .before .before .before .before .before .before .before .before .before .before .before .before .before .before .before .before .before .before .before .before .decode-samples .ensures .1), whole-samples (c .before .before .before .before .before .before .before .before .before .before .before .before .before .before .before .before .before .before .before .before .before .before .before .before .before .before .before .before .before .before .before .before .pre .0) (c .before .before .before .before .before .before .before .before .before .before .before .before .before .before .before .before .before .before .before .before .before .before .before .before .be16 .ensures .0) (c .before .before .before .before .before .before .before .before .before .before .before .before .before .before .before .before .before .before .before .before .before .before .before .be162 .ensures .0), c .before .before .before .before .before .before .before .before .before .before .before .before .before .before .before .before .before .before .before .before .before .before .before .before .before .before .before .before .before .before .before .before .pre .1 .1 .samples))
+slice-aggregate-run c = let d = sampled (cleared (decoded (c .before .before))) in front-length (d .decode-samples .ensures .0) (samples-fit d)
 
 slice-relend-prefix-run-2 : tie.Need-slice-relend-prefix-run-2
-slice-relend-prefix-run-2 c = written-fits (c .before .before .before .before .before .before .before .before .before .before .before .before .before .before .before .before .clear .ensures .0) (omega (arith, (c .before .before .before .before .before .before .before .before .before .before .before .before .before .before .before .before .clear .ensures .1), whole-cells (c .before .before .before .before .before .before .before .before .before .before .before .before .before .before .before .before .before .before .before .before .before .before .before .before .before .before .before .before .before .before .before .before .pre .0) (c .before .before .before .before .before .before .before .before .before .before .before .before .before .before .before .before .before .before .before .before .before .before .before .before .be16 .ensures .0) (c .before .before .before .before .before .before .before .before .before .before .before .before .before .before .before .before .before .before .before .before .before .before .before .be162 .ensures .0) (c .before .before .before .before .before .before .before .before .before .before .before .before .before .before .before .before .before .before .before .before .before .before .before .before .before .before .before .before .before .before .before .before .pre .1 .0 .1), c .before .before .before .before .before .before .before .before .before .before .before .before .before .before .before .before .before .before .before .before .before .before .before .before .before .before .before .before .before .before .before .before .pre .1 .1 .cells))
+slice-relend-prefix-run-2 c = let d = cleared (decoded (c .before .before)) in written-fits (d .clear .ensures .0) (cells-fit d)
 
 slice-aggregate-run-2 : tie.Need-slice-aggregate-run-2
-slice-aggregate-run-2 c = front-length (c .before .before .before .before .before .before .before .before .before .before .before .before .before .before .before .before .before .clear .ensures .0) (omega (arith, (c .before .before .before .before .before .before .before .before .before .before .before .before .before .before .before .before .before .clear .ensures .1), whole-cells (c .before .before .before .before .before .before .before .before .before .before .before .before .before .before .before .before .before .before .before .before .before .before .before .before .before .before .before .before .before .before .before .before .before .pre .0) (c .before .before .before .before .before .before .before .before .before .before .before .before .before .before .before .before .before .before .before .before .before .before .before .before .before .be16 .ensures .0) (c .before .before .before .before .before .before .before .before .before .before .before .before .before .before .before .before .before .before .before .before .before .before .before .before .be162 .ensures .0) (c .before .before .before .before .before .before .before .before .before .before .before .before .before .before .before .before .before .before .before .before .before .before .before .before .before .before .before .before .before .before .before .before .before .pre .1 .0 .1), c .before .before .before .before .before .before .before .before .before .before .before .before .before .before .before .before .before .before .before .before .before .before .before .before .before .before .before .before .before .before .before .before .before .pre .1 .1 .cells))
-
-shared-slice-read-run : tie.Need-shared-slice-read-run
-shared-slice-read-run c = omega (arith, (c .before .before .before .before .before .before .before .before .before .before .before .before .before .before .before .before .before .before .before .before .before .before .before .before .before .before .before .before .before .before .before .before .before .before .pre .0) .headed)
-
-settings-requires : tie.Need-settings-requires
-settings-requires c κs = (c .before .before .before .before .before .before .before .before .before .before .before .before .before .before .before .before .before .before .before .before .before .before .before .before .before .before .before .before .before .before .before .before .before .before .pre .0) .headed
+slice-aggregate-run-2 c = let d = cleared (decoded (c .before .before .before)) in front-length (d .clear .ensures .0) (cells-fit d)
 
 slice-reshare-prefix-run : tie.Need-slice-reshare-prefix-run
-slice-reshare-prefix-run c = written-fits (c .before .before .before .before .before .before .before .before .before .before .before .before .before .before .before .decode-colours .ensures .0) (omega (arith, (c .before .before .before .before .before .before .before .before .before .before .before .before .before .before .before .decode-colours .ensures .1), (c .before .before .before .before .before .before .before .before .before .before .before .before .before .before .before .before .before .before .before .before .before .before .before .before .before .before .before .before .before .before .before .before .before .before .before .pre .0) .outlined .sparse, c .before .before .before .before .before .before .before .before .before .before .before .before .before .before .before .before .before .before .before .before .before .before .before .before .before .before .before .before .before .before .before .before .before .before .before .pre .1 .1 .colours))
+slice-reshare-prefix-run c = let d = c .before .before .before .before .before in written-fits (decoded d .decode-outline .ensures .colours) (outline-fits (begun d) .0)
 
 slice-aggregate-run-3 : tie.Need-slice-aggregate-run-3
-slice-aggregate-run-3 c = front-length (c .before .before .before .before .before .before .before .before .before .before .before .before .before .before .before .before .decode-colours .ensures .0) (omega (arith, (c .before .before .before .before .before .before .before .before .before .before .before .before .before .before .before .before .decode-colours .ensures .1), (c .before .before .before .before .before .before .before .before .before .before .before .before .before .before .before .before .before .before .before .before .before .before .before .before .before .before .before .before .before .before .before .before .before .before .before .before .pre .0) .outlined .sparse, c .before .before .before .before .before .before .before .before .before .before .before .before .before .before .before .before .before .before .before .before .before .before .before .before .before .before .before .before .before .before .before .before .before .before .before .before .pre .1 .1 .colours))
+slice-aggregate-run-3 c = let d = c .before .before .before .before .before .before in front-length (decoded d .decode-outline .ensures .colours) (outline-fits (begun d) .0)
 
 slice-reshare-prefix-run-2 : tie.Need-slice-reshare-prefix-run-2
-slice-reshare-prefix-run-2 c = written-fits (c .before .before .before .before .before .before .before .before .before .before .before .before .decode-coords .ensures .0) (omega (arith, (c .before .before .before .before .before .before .before .before .before .before .before .before .decode-coords .ensures .1), (c .before .before .before .before .before .before .before .before .before .before .before .before .before .before .before .before .before .before .before .before .before .before .before .before .before .before .before .before .before .before .before .before .before .before .before .before .pre .0) .outlined .sparse, c .before .before .before .before .before .before .before .before .before .before .before .before .before .before .before .before .before .before .before .before .before .before .before .before .before .before .before .before .before .before .before .before .before .before .before .before .pre .1 .1 .coords))
+slice-reshare-prefix-run-2 c = let d = c .before .before .before .before .before .before in written-fits (decoded d .decode-outline .ensures .coords) (outline-fits (begun d) .1)
 
 slice-aggregate-run-4 : tie.Need-slice-aggregate-run-4
-slice-aggregate-run-4 c = front-length (c .before .before .before .before .before .before .before .before .before .before .before .before .before .decode-coords .ensures .0) (omega (arith, (c .before .before .before .before .before .before .before .before .before .before .before .before .before .decode-coords .ensures .1), (c .before .before .before .before .before .before .before .before .before .before .before .before .before .before .before .before .before .before .before .before .before .before .before .before .before .before .before .before .before .before .before .before .before .before .before .before .before .pre .0) .outlined .sparse, c .before .before .before .before .before .before .before .before .before .before .before .before .before .before .before .before .before .before .before .before .before .before .before .before .before .before .before .before .before .before .before .before .before .before .before .before .before .pre .1 .1 .coords))
+slice-aggregate-run-4 c = let d = c .before .before .before .before .before .before .before in front-length (decoded d .decode-outline .ensures .coords) (outline-fits (begun d) .1)
 
 slice-reshare-prefix-run-3 : tie.Need-slice-reshare-prefix-run-3
-slice-reshare-prefix-run-3 c = written-fits (c .before .before .before .before .before .before .before .before .before .decode-ends .ensures .0) (omega (arith, (c .before .before .before .before .before .before .before .before .before .decode-ends .ensures .1), (c .before .before .before .before .before .before .before .before .before .before .before .before .before .before .before .before .before .before .before .before .before .before .before .before .before .before .before .before .before .before .before .before .before .before .before .before .before .pre .0) .outlined .few, c .before .before .before .before .before .before .before .before .before .before .before .before .before .before .before .before .before .before .before .before .before .before .before .before .before .before .before .before .before .before .before .before .before .before .before .before .before .pre .1 .1 .ends))
+slice-reshare-prefix-run-3 c = let d = c .before .before .before .before .before .before .before in written-fits (decoded d .decode-outline .ensures .ends) (outline-fits (begun d) .2)
 
 slice-aggregate-run-5 : tie.Need-slice-aggregate-run-5
-slice-aggregate-run-5 c = front-length (c .before .before .before .before .before .before .before .before .before .before .decode-ends .ensures .0) (omega (arith, (c .before .before .before .before .before .before .before .before .before .before .decode-ends .ensures .1), (c .before .before .before .before .before .before .before .before .before .before .before .before .before .before .before .before .before .before .before .before .before .before .before .before .before .before .before .before .before .before .before .before .before .before .before .before .before .before .pre .0) .outlined .few, c .before .before .before .before .before .before .before .before .before .before .before .before .before .before .before .before .before .before .before .before .before .before .before .before .before .before .before .before .before .before .before .before .before .before .before .before .before .before .pre .1 .1 .ends))
+slice-aggregate-run-5 c = let d = c .before .before .before .before .before .before .before .before in front-length (decoded d .decode-outline .ensures .ends) (outline-fits (begun d) .2)
 
 run-requires : tie.Need-run-requires
-run-requires c κs = (c .before .before .before .before .before .before .before .before .before .before .before .before .before .before .before .before .before .before .before .before .before .before .before .before .before .before .before .before .before .before .before .before .before .before .before .before .before .before .pre .1 .0 .0, omega (arith, front-length (c .before .before .before .before .before .before .before .before .before .before .before .before .before .before .before .before .before .before .before .before .before .before .before .before .before .before .decode-samples .ensures .0) (omega (arith, (c .before .before .before .before .before .before .before .before .before .before .before .before .before .before .before .before .before .before .before .before .before .before .before .before .before .before .decode-samples .ensures .1), whole-samples (c .before .before .before .before .before .before .before .before .before .before .before .before .before .before .before .before .before .before .before .before .before .before .before .before .before .before .before .before .before .before .before .before .before .before .before .before .before .before .pre .0) (c .before .before .before .before .before .before .before .before .before .before .before .before .before .before .before .before .before .before .before .before .before .before .before .before .before .before .before .before .before .before .be16 .ensures .0) (c .before .before .before .before .before .before .before .before .before .before .before .before .before .before .before .before .before .before .before .before .before .before .before .before .before .before .before .before .before .be162 .ensures .0), c .before .before .before .before .before .before .before .before .before .before .before .before .before .before .before .before .before .before .before .before .before .before .before .before .before .before .before .before .before .before .before .before .before .before .before .before .before .before .pre .1 .1 .samples)), (c .before .before .before .before .before .before .before .before .before .before .before .before .before .before .before .before .before .before .before .before .before .before .before .before .before .before .decode-samples .ensures .1), whole-samples (c .before .before .before .before .before .before .before .before .before .before .before .before .before .before .before .before .before .before .before .before .before .before .before .before .before .before .before .before .before .before .before .before .before .before .before .before .before .before .pre .0) (c .before .before .before .before .before .before .before .before .before .before .before .before .before .before .before .before .before .before .before .before .before .before .before .before .before .before .before .before .before .before .be16 .ensures .0) (c .before .before .before .before .before .before .before .before .before .before .before .before .before .before .before .before .before .before .before .before .before .before .before .before .before .before .before .before .before .be162 .ensures .0)))
-
-same-length : tie.Need-same-length
-same-length c = search needs
+run-requires c κs =
+    let d = sampled (cleared (decoded (c .before .before .before .before .before .before .before .before))) in
+    (start (sized d) .pre .1 .0 .0, omega (arith, front-length (d .decode-samples .ensures .0) (samples-fit d), samples-few d))
 
 same-length-2 : tie.Need-same-length-2
-same-length-2 c = length-front (c .before .before .before .before .before .before .before .before .before .before .before .before .before .before .before .before .before .before .before .before .before .before .before .before .before .before .before .before .before .before .before .before .before .decode-samples .last .1 .1 .1 .1 .0) (c .before .before .before .before .before .before .run .last .1 .1 .1 .1 .0) (c .before .before .before .before .before .before .before .before .before .before .before .before .before .before .before .before .before .before .before .before .before .before .before .before .before .before .before .before .before .before .before .before .before .decode-samples .result) (c .before .before .before .before .before .before .run .kept .1 .1 .1 .1 .0) ∙ c .before .before .before .before .before .before .before .before .before .before .before .before .before .before .before .before .before .before .before .before .before .before .before .before .before .before .before .before .before .before .before .before .before .decode-samples .kept .1 .1 .1 .1 .0
+same-length-2 c =
+    let at-run = c .before .before .before .before .before .before in
+    let d = sampled (cleared (decoded (at-run .before .before .before .before .before .before .before .before .before))) .decode-samples in
+    length-front (d .last .1 .1 .1 .1 .0) (at-run .run .last .1 .1 .1 .1 .0) (d .result) (at-run .run .kept .1 .1 .1 .1 .0) ∙ d .kept .1 .1 .1 .1 .0
 
 same-length-3 : tie.Need-same-length-3
-same-length-3 c = length-front (c .before .before .before .before .before .before .before .before .before .before .before .before .before .before .before .before .before .before .before .before .before .before .before .before .before .before .before .before .before .clear .last .0) (c .before .before .before .before .before .before .run .last .1 .1 .1 .1 .1 .0) (c .before .before .before .before .before .before .before .before .before .before .before .before .before .before .before .before .before .before .before .before .before .before .before .before .before .before .before .before .before .clear .result) (c .before .before .before .before .before .before .run .kept .1 .1 .1 .1 .1 .0) ∙ c .before .before .before .before .before .before .before .before .before .before .before .before .before .before .before .before .before .before .before .before .before .before .before .before .before .before .before .before .before .clear .kept .0
-
-same-length-4 : tie.Need-same-length-4
-same-length-4 c = search needs
-
-same-length-5 : tie.Need-same-length-5
-same-length-5 c = search needs
-
-same-length-6 : tie.Need-same-length-6
-same-length-6 c = search needs
+same-length-3 c =
+    let at-run = c .before .before .before .before .before .before in
+    let d = cleared (decoded (at-run .before .before .before .before .before .before .before .before .before)) .clear in
+    length-front (d .last .0) (at-run .run .last .1 .1 .1 .1 .1 .0) (d .result) (at-run .run .kept .1 .1 .1 .1 .1 .0) ∙ d .kept .0
 
 returns : tie.Need-returns
 returns c =
+    let at-settings = c .before .before .before .before .before .before .before .before .before .before in
+    let d = at-settings .before .before .before .before .before in
+    let o = decoded d .decode-outline .ensures in
+    let z = cleared (decoded d) in
+    let x = sampled z in
+    let m = sized x in
+    let s = start m in
+    let w = m .before .be16 .ensures .0 in
+    let h = m .be162 .ensures .0 in
+    let f = outline-fits s in
     let e =
-    decoded-case (c .before .before .before .before .before .before .before .before .before .before .before .before .before .before .before .before .before .before .before .before .before .before .before .before .before .before .before .before .before .before .before .before .before .before .before .before .before .before .before .before .before .before .before .before .before .pre .0) (c .before .before .before .before .before .before .before .before .before .before .before .before .before .before .before .before .before .before .before .before .before .before .before .before .before .before .before .before .before .before .before .before .before .before .before .before .before .be16 .ensures .0) (c .before .before .before .before .before .before .before .before .before .before .before .before .before .before .before .before .before .before .before .before .before .before .before .before .before .before .before .before .before .before .before .before .before .before .before .before .be162 .ensures .0)
-    ((front (c .before .before .before .before .before .before .before .before .before .before .before .before .before .before .before .before .before .before .before .before .before .before .before .before .before .before .before .before .before .before .before .before .before .decode-samples .ensures .0) (omega (arith, (c .before .before .before .before .before .before .before .before .before .before .before .before .before .before .before .before .before .before .before .before .before .before .before .before .before .before .before .before .before .before .before .before .before .decode-samples .ensures .1), whole-samples (c .before .before .before .before .before .before .before .before .before .before .before .before .before .before .before .before .before .before .before .before .before .before .before .before .before .before .before .before .before .before .before .before .before .before .before .before .before .before .before .before .before .before .before .before .before .pre .0) (c .before .before .before .before .before .before .before .before .before .before .before .before .before .before .before .before .before .before .before .before .before .before .before .before .before .before .before .before .before .before .before .before .before .before .before .before .before .be16 .ensures .0) (c .before .before .before .before .before .before .before .before .before .before .before .before .before .before .before .before .before .before .before .before .before .before .before .before .before .before .before .before .before .before .before .before .before .before .before .before .be162 .ensures .0), c .before .before .before .before .before .before .before .before .before .before .before .before .before .before .before .before .before .before .before .before .before .before .before .before .before .before .before .before .before .before .before .before .before .before .before .before .before .before .before .before .before .before .before .before .before .pre .1 .1 .samples))) ∙ decoded-samples (c .before .before .before .before .before .before .before .before .before .before .before .before .before .before .before .before .before .before .before .before .before .before .before .before .before .before .before .before .before .before .before .before .before .before .before .before .before .before .before .before .before .before .before .before .before .pre .0) (c .before .before .before .before .before .before .before .before .before .before .before .before .before .before .before .before .before .before .before .before .before .before .before .before .before .before .before .before .before .before .before .before .before .before .before .before .before .be16 .ensures .0) (c .before .before .before .before .before .before .before .before .before .before .before .before .before .before .before .before .before .before .before .before .before .before .before .before .before .before .before .before .before .before .before .before .before .before .before .before .be162 .ensures .0))
-    (front (c .before .before .before .before .before .before .before .before .before .before .before .before .before .before .before .before .before .before .before .before .before .before .before .before .before .before .before .before .before .clear .ensures .0) (omega (arith, (c .before .before .before .before .before .before .before .before .before .before .before .before .before .before .before .before .before .before .before .before .before .before .before .before .before .before .before .before .before .clear .ensures .1), whole-cells (c .before .before .before .before .before .before .before .before .before .before .before .before .before .before .before .before .before .before .before .before .before .before .before .before .before .before .before .before .before .before .before .before .before .before .before .before .before .before .before .before .before .before .before .before .before .pre .0) (c .before .before .before .before .before .before .before .before .before .before .before .before .before .before .before .before .before .before .before .before .before .before .before .before .before .before .before .before .before .before .before .before .before .before .before .before .before .be16 .ensures .0) (c .before .before .before .before .before .before .before .before .before .before .before .before .before .before .before .before .before .before .before .before .before .before .before .before .before .before .before .before .before .before .before .before .before .before .before .before .be162 .ensures .0) (c .before .before .before .before .before .before .before .before .before .before .before .before .before .before .before .before .before .before .before .before .before .before .before .before .before .before .before .before .before .before .before .before .before .before .before .before .before .before .before .before .before .before .before .before .before .pre .1 .0 .1), c .before .before .before .before .before .before .before .before .before .before .before .before .before .before .before .before .before .before .before .before .before .before .before .before .before .before .before .before .before .before .before .before .before .before .before .before .before .before .before .before .before .before .before .before .before .pre .1 .1 .cells)))
-    (c .before .before .before .before .before .before .before .before .before .before .settings .ensures)
-    (front (c .before .before .before .before .before .before .before .before .before .before .before .before .before .before .before .before .before .before .before .before .before .before .before .before .before .decode-colours .ensures .0) (omega (arith, (c .before .before .before .before .before .before .before .before .before .before .before .before .before .before .before .before .before .before .before .before .before .before .before .before .before .decode-colours .ensures .1), (c .before .before .before .before .before .before .before .before .before .before .before .before .before .before .before .before .before .before .before .before .before .before .before .before .before .before .before .before .before .before .before .before .before .before .before .before .before .before .before .before .before .before .before .before .before .pre .0) .outlined .sparse, c .before .before .before .before .before .before .before .before .before .before .before .before .before .before .before .before .before .before .before .before .before .before .before .before .before .before .before .before .before .before .before .before .before .before .before .before .before .before .before .before .before .before .before .before .before .pre .1 .1 .colours)))
-    (front (c .before .before .before .before .before .before .before .before .before .before .before .before .before .before .before .before .before .before .before .before .before .decode-coords .ensures .0) (omega (arith, (c .before .before .before .before .before .before .before .before .before .before .before .before .before .before .before .before .before .before .before .before .before .decode-coords .ensures .1), (c .before .before .before .before .before .before .before .before .before .before .before .before .before .before .before .before .before .before .before .before .before .before .before .before .before .before .before .before .before .before .before .before .before .before .before .before .before .before .before .before .before .before .before .before .before .pre .0) .outlined .sparse, c .before .before .before .before .before .before .before .before .before .before .before .before .before .before .before .before .before .before .before .before .before .before .before .before .before .before .before .before .before .before .before .before .before .before .before .before .before .before .before .before .before .before .before .before .before .pre .1 .1 .coords)))
-    (front (c .before .before .before .before .before .before .before .before .before .before .before .before .before .before .before .before .before .decode-ends .ensures .0) (omega (arith, (c .before .before .before .before .before .before .before .before .before .before .before .before .before .before .before .before .before .decode-ends .ensures .1), (c .before .before .before .before .before .before .before .before .before .before .before .before .before .before .before .before .before .before .before .before .before .before .before .before .before .before .before .before .before .before .before .before .before .before .before .before .before .before .before .before .before .before .before .before .before .pre .0) .outlined .few, c .before .before .before .before .before .before .before .before .before .before .before .before .before .before .before .before .before .before .before .before .before .before .before .before .before .before .before .before .before .before .before .before .before .before .before .before .before .before .before .before .before .before .before .before .before .pre .1 .1 .ends))) in
+    decoded-case (s .pre .0) w h (front (x .decode-samples .ensures .0) (samples-fit x) ∙ decoded-samples (s .pre .0) w h) (front (z .clear .ensures .0) (cells-fit z)) (at-settings .settings .ensures)
+    (front (o .colours) (f .0)) (front (o .coords) (f .1)) (front (o .ends) (f .2)) in
     written-as _ (ap (λ i. answerText i (answer i)) e) (c .before .before .before .before .before .before .run .ensures)
 
 pub answer-case-spec : {M : Type 1} → statement M
 answer-case-spec =
     tie.close
-    (tie.spec
-    be16-requires
-    be16-requires-2
-    shared-slice-read-ch
-    cast-ch
-    mul-decode-samples
-    decode-samples-requires
-    mul-clear
-    clear-requires
-    decode-colours-requires
-    decode-coords-requires
-    decode-ends-requires
-    slice-relend-prefix-run
-    slice-aggregate-run
-    slice-relend-prefix-run-2
-    slice-aggregate-run-2
-    shared-slice-read-run
-    settings-requires
-    slice-reshare-prefix-run
-    slice-aggregate-run-3
-    slice-reshare-prefix-run-2
-    slice-aggregate-run-4
-    slice-reshare-prefix-run-3
-    slice-aggregate-run-5
-    run-requires
-    same-length
-    same-length-2
-    same-length-3
-    same-length-4
-    same-length-5
-    same-length-6
-    returns)
+    (tie.spec (λ c κs. search needs) (λ c κs. search needs) (λ c. search needs) (λ c. omega (arith, c .shared-slice-known2 .given 7)) mul-decode-samples decode-samples-requires mul-clear
+    (λ c κs. cells-few (sized (c .before .before .before))) decode-outline-requires slice-relend-prefix-run slice-aggregate-run slice-relend-prefix-run-2 slice-aggregate-run-2
+    (λ c. omega (arith, begun (c .before .before .before .before) .pre .0 .headed)) (λ c κs. search needs) slice-reshare-prefix-run slice-aggregate-run-3
+    (λ c. omega (arith, begun (c .before .before .before .before .before .before) .pre .0 .outlined .sparse)) slice-reshare-prefix-run-2 slice-aggregate-run-4 slice-reshare-prefix-run-3 slice-aggregate-run-5
+    run-requires (λ c. search needs) same-length-2 same-length-3 (λ c. search needs) (λ c. search needs) (λ c. search needs) returns)

@@ -14,14 +14,8 @@ Inv-loop n count₀ m₀ count m = count + length (decimal m) ≡ length (decima
 abbrev μ-loop : tie.MeasureT-loop
 μ-loop n count₀ m₀ count m = m
 
-loop-holds : tie.Need-loop-holds Inv-loop μ-loop
-loop-holds c = omega arith
-
 add-count : tie.Need-add-count Inv-loop μ-loop
 add-count c = omega (arith, decimal-length-u64 (c .before .before .args .n) (omega arith))
-
-loop-less : tie.Need-loop-less Inv-loop μ-loop
-loop-less c = omega arith
 
 loop-again : tie.Need-loop-again Inv-loop μ-loop
 loop-again c = omega (arith, length-more (c .before .loop .m) (c .loop-test .taken))
@@ -30,5 +24,4 @@ returns : tie.Need-returns Inv-loop μ-loop
 returns c = omega (arith, length-one (c .before .loop .m) (c .loop-test .left))
 
 pub digits-spec : {M : Type 1} → statement M
-digits-spec =
-    tie.close (tie.spec Inv-loop μ-loop loop-holds add-count loop-less loop-again returns)
+digits-spec = tie.close (tie.spec Inv-loop μ-loop (λ c. omega arith) add-count (λ c. omega arith) loop-again returns)

@@ -7,8 +7,8 @@ use native.Mathlib.Omega.{arith}
 use lib.ListN.{take, length, length-set}
 use lib.Seq.{take-suc, take-all}
 use denote.Ref.{now}
-use Rattle.reading.specs.Written.{Written}
-use Rattle.reading.proofs.Writes.{written-none, written-one, written-then, written-as, written-to}
+use Rattle.ground.specs.Write.{Written}
+use Rattle.ground.proofs.Laws.Write.{written-none, written-one, written-then, written-as, written-to}
 use Rattle.reading.proofs.text.put_all.Statement.{statement}
 use Rattle.reading.proofs.text.put_all.Tie as tie
 
@@ -21,21 +21,6 @@ abbrev μ-loop : tie.MeasureT-loop
 loop-holds : tie.Need-loop-holds Inv-loop μ-loop
 loop-holds c = (omega arith, refl, written-to _ (sym (add-zero _)) (written-none _ _))
 
-shared-slice-read-out : tie.Need-shared-slice-read-out Inv-loop μ-loop
-shared-slice-read-out c = omega arith
-
-add-out : tie.Need-add-out Inv-loop μ-loop
-add-out c = omega arith
-
-slice-write-out : tie.Need-slice-write-out Inv-loop μ-loop
-slice-write-out c = omega arith
-
-add-j : tie.Need-add-j Inv-loop μ-loop
-add-j c = omega arith
-
-loop-less : tie.Need-loop-less Inv-loop μ-loop
-loop-less c = omega arith
-
 loop-again : tie.Need-loop-again Inv-loop μ-loop
 loop-again c =
     let l = c .before .before .loop in
@@ -47,28 +32,10 @@ loop-again c =
           (written-then (l .inv .2) (written-one _ _ _))),
     )
 
-add-result : tie.Need-add-result Inv-loop μ-loop
-add-result c = omega arith
-
-same-length : tie.Need-same-length Inv-loop μ-loop
-same-length c = c .before .loop .inv .1
-
 returns : tie.Need-returns Inv-loop μ-loop
 returns c = written-as (now (c .before .before .args .t)) (take-all _ _ (c .loop-test .left)) (c .before .loop .inv .2)
 
 pub put-all-spec : {M : Type 1} → statement M
 put-all-spec =
     tie.close
-    (tie.spec
-    Inv-loop
-    μ-loop
-    loop-holds
-    shared-slice-read-out
-    add-out
-    slice-write-out
-    add-j
-    loop-less
-    loop-again
-    add-result
-    same-length
-    returns)
+    (tie.spec Inv-loop μ-loop loop-holds (λ c. omega arith) (λ c. omega arith) (λ c. omega arith) (λ c. omega arith) (λ c. omega arith) loop-again (λ c. omega arith) (λ c. c .before .loop .inv .1) returns)

@@ -2,31 +2,20 @@
 use Prim.Native.Nat.{_-_}
 use native.Mathlib.Omega.{arith}
 use borrow.Author.Needs.{needs}
+use Rattle.ground.proofs.Laws.Write.{written-then, written-room}
 use Rattle.reading.specs.Text.{badText}
-use Rattle.reading.proofs.Lengths.{numbered-length}
-use Rattle.reading.proofs.Writes.{written-then, written-room}
+use Rattle.reading.proofs.text.Lengths.{numbered-length}
 use Rattle.reading.proofs.text.put_bad.Statement.{statement}
 use Rattle.reading.proofs.text.put_bad.Tie as tie
-
-slice-aggregate-put-all : tie.Need-slice-aggregate-put-all
-slice-aggregate-put-all c = search needs
-
-put-all-requires : tie.Need-put-all-requires
-put-all-requires c κs = search needs
 
 put-number-requires : tie.Need-put-number-requires
 put-number-requires c κs =
     let r1 = written-room 10 21 (c .before .before .before .put-all .ensures) (omega arith) (omega arith) in
     omega (arith, r1, numbered-length (c .before .before .before .before .before .before .before .args .place) 10 (omega arith))
 
-same-length : tie.Need-same-length
-same-length c = search needs
-
 returns : tie.Need-returns
 unfolding badText
 returns c = written-then (c .before .before .before .before .before .before .put-all .ensures) (c .before .before .put-number .ensures)
 
 pub put-bad-spec : {M : Type 1} → statement M
-put-bad-spec =
-    tie.close
-    (tie.spec slice-aggregate-put-all put-all-requires put-number-requires same-length returns)
+put-bad-spec = tie.close (tie.spec (λ c. search needs) (λ c κs. search needs) put-number-requires (λ c. search needs) returns)

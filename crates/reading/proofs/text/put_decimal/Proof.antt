@@ -5,9 +5,9 @@ use native.Mathlib.Omega.{arith}
 use lib.ListN.{length, set, length-set}
 use lib.Seq.{sets}
 use borrow.Author.Needs.{needs}
+use Rattle.ground.proofs.Laws.Write.{sets-last}
 use Rattle.reading.specs.Decimal.{decimal}
 use Rattle.reading.proofs.Laws.Decimal.{decimal-one, decimal-more, length-more, decimal-some}
-use Rattle.reading.proofs.Writes.{sets-last}
 use Rattle.reading.proofs.text.put_decimal.Statement.{statement}
 use Rattle.reading.proofs.text.put_decimal.Tie as tie
 
@@ -17,29 +17,14 @@ Inv-loop out₀ at n end m₀ next₀ out m next = (next ≡ at + length (decima
 abbrev μ-loop : tie.MeasureT-loop
 μ-loop out₀ at n end m₀ next₀ out m next = m
 
-digits-requires : tie.Need-digits-requires Inv-loop μ-loop
-digits-requires c κs = search needs
-
-add-end : tie.Need-add-end Inv-loop μ-loop
-add-end c = omega arith
-
 loop-holds : tie.Need-loop-holds Inv-loop μ-loop
 loop-holds c = (omega arith, omega arith, refl, refl)
 
 sub-next : tie.Need-sub-next Inv-loop μ-loop
 sub-next c = omega (arith, decimal-some (c .before .loop .m))
 
-add-out : tie.Need-add-out Inv-loop μ-loop
-add-out c = omega arith
-
-cast-out : tie.Need-cast-out Inv-loop μ-loop
-cast-out c = omega arith
-
 slice-write-out : tie.Need-slice-write-out Inv-loop μ-loop
 slice-write-out c = omega (arith, decimal-some (c .before .loop .m))
-
-loop-less : tie.Need-loop-less Inv-loop μ-loop
-loop-less c = omega arith
 
 loop-again : tie.Need-loop-again Inv-loop μ-loop
 loop-again c =
@@ -52,12 +37,6 @@ loop-again c =
       length-set (l .out) (l .next - 1) d ∙ l .inv .2,
       ap (λ k. sets (set (l .out) k d) at (decimal (l .m / 10))) z ∙ sym (ap (sets (l .out) at) (decimal-more (l .m) (c .loop-test .taken)) ∙ sets-last (l .out) at (decimal (l .m / 10)) d) ∙ l .inv .3,
     )
-
-add-out-2 : tie.Need-add-out-2 Inv-loop μ-loop
-add-out-2 c = omega arith
-
-cast-out-2 : tie.Need-cast-out-2 Inv-loop μ-loop
-cast-out-2 c = omega arith
 
 slice-write-out-2 : tie.Need-slice-write-out-2 Inv-loop μ-loop
 slice-write-out-2 c = omega (arith, decimal-some (c .before .loop .m))
@@ -75,20 +54,5 @@ returns c =
 pub put-decimal-spec : {M : Type 1} → statement M
 put-decimal-spec =
     tie.close
-    (tie.spec
-    Inv-loop
-    μ-loop
-    digits-requires
-    add-end
-    loop-holds
-    sub-next
-    add-out
-    cast-out
-    slice-write-out
-    loop-less
-    loop-again
-    add-out-2
-    cast-out-2
-    slice-write-out-2
-    same-length
-    returns)
+    (tie.spec Inv-loop μ-loop (λ c κs. search needs) (λ c. omega arith) loop-holds sub-next (λ c. omega arith) (λ c. omega arith) slice-write-out (λ c. omega arith) loop-again (λ c. omega arith)
+    (λ c. omega arith) slice-write-out-2 same-length returns)

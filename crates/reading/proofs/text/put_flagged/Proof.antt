@@ -7,10 +7,10 @@ use lib.ListN.{getD}
 use denote.Ref.{now}
 use borrow.Author.Needs.{needs}
 use borrow.Author.Tests.{eq-eqb, ne-eqb}
+use Rattle.ground.proofs.Laws.Write.{written-as, written-none}
 use Rattle.correction.specs.Stencil.{isError}
 use Rattle.reading.specs.Text.{texelText, flaggedText}
-use Rattle.reading.proofs.Lengths.{cell-short}
-use Rattle.reading.proofs.Writes.{written-as, written-none}
+use Rattle.reading.proofs.text.Lengths.{cell-short}
 use Rattle.reading.proofs.text.put_flagged.Statement.{statement}
 use Rattle.reading.proofs.text.put_flagged.Tie as tie
 
@@ -19,40 +19,17 @@ flagged-at : (w : ℕ) (st : List ℕ) (medians : ℕ → Float) (k bits : ℕ) 
 unfolding flaggedText isError
 flagged-at w st medians k bits e m = simp (eq-eqb (getD st k 0 % 2) 1 e, m)
 
-shared-slice-read-if1 : tie.Need-shared-slice-read-if1
-shared-slice-read-if1 c = search needs
-
-mul-bits-of-float32 : tie.Need-mul-bits-of-float32
-mul-bits-of-float32 c = search needs
-
-mul-bits-of-float32-2 : tie.Need-mul-bits-of-float32-2
-mul-bits-of-float32-2 c = search needs
-
-shared-slice-read-bits-of-float32 : tie.Need-shared-slice-read-bits-of-float32
-shared-slice-read-bits-of-float32 c = search needs
-
-bits-of-float32-requires : tie.Need-bits-of-float32-requires
-bits-of-float32-requires c κs = search needs
-
-rem-put-texel : tie.Need-rem-put-texel
-rem-put-texel c = search needs
-
-div-put-texel : tie.Need-div-put-texel
-div-put-texel c = search needs
-
 put-texel-requires : tie.Need-put-texel-requires
 put-texel-requires c κs =
     let b = c .before .before .before .before .before .before .before .before in
     let z = cell-short (b .args .k) (b .args .w) (b .pre .1 .2) in
     (b .pre .0 .0, z .0, z .1)
 
-same-length : tie.Need-same-length
-same-length c = search needs
-
 returns : tie.Need-returns
 returns c =
-    let d = c .before .before .before .before .before .before .before .before .before .before .before .args in
-    written-as _ (flagged-at (d .w) (now (d .st)) (λ i. getD (now (d .xs)) (i * d .ch) nan) (d .k) (c .before .before .before .before .bits-of-float32 .result) (c .before .before .before .before .before .before .if1 .taken) (c .before .before .before .before .bits-of-float32 .ensures)) (c .before .before .put-texel .ensures)
+    let at-if1 = c .before .before .before .before .before .before in
+    let d = at-if1 .before .before .before .before .before .args in
+    written-as _ (flagged-at (d .w) (now (d .st)) (λ i. getD (now (d .xs)) (i * d .ch) nan) (d .k) (c .before .before .before .before .bits-of-float32 .result) (at-if1 .if1 .taken) (c .before .before .before .before .bits-of-float32 .ensures)) (c .before .before .put-texel .ensures)
 
 returns-2 : tie.Need-returns-2
 unfolding flaggedText isError
@@ -61,15 +38,5 @@ returns-2 c = simp (ne-eqb _ _ (c .if1 .left)) (written-none _ _)
 pub put-flagged-spec : {M : Type 1} → statement M
 put-flagged-spec =
     tie.close
-    (tie.spec
-    shared-slice-read-if1
-    mul-bits-of-float32
-    mul-bits-of-float32-2
-    shared-slice-read-bits-of-float32
-    bits-of-float32-requires
-    rem-put-texel
-    div-put-texel
-    put-texel-requires
-    same-length
-    returns
+    (tie.spec (λ c. search needs) (λ c. search needs) (λ c. search needs) (λ c. search needs) (λ c κs. search needs) (λ c. search needs) (λ c. search needs) put-texel-requires (λ c. search needs) returns
     returns-2)

@@ -3,28 +3,20 @@ use Prim.Native.Nat.{_-_, _*_}
 use native.Mathlib.Omega.{arith}
 use denote.Ref.{now}
 use borrow.Author.Needs.{needs}
+use Rattle.ground.proofs.Laws.Write.{written-then, written-room}
 use Rattle.reading.specs.Text.{rowText}
-use Rattle.reading.proofs.Lengths.{marks-length}
-use Rattle.reading.proofs.Writes.{written-then, written-room}
+use Rattle.reading.proofs.text.Lengths.{marks-length}
 use Rattle.reading.proofs.text.put_row.Statement.{statement}
 use Rattle.reading.proofs.text.put_row.Tie as tie
 
-mul-put-marks : tie.Need-mul-put-marks
-mul-put-marks c = search needs
-
-put-marks-requires : tie.Need-put-marks-requires
-put-marks-requires c κs = search needs
-
 put-requires : tie.Need-put-requires
-put-requires c κs = let r = written-room (c .before .before .before .before .before .before .before .args .w) 1 (c .before .before .before .put-marks .ensures) (omega (arith, marks-length (c .before .before .before .before .before .before .before .args .w) (now (c .before .before .before .before .before .before .before .args .st)) (c .before .before .before .before .before .before .before .args .y * c .before .before .before .before .before .before .before .args .w))) (omega arith) in omega (arith, r)
-
-same-length : tie.Need-same-length
-same-length c = search needs
+put-requires c κs =
+    let start = c .before .before .before .before .before .before .before in
+    let r = written-room (start .args .w) 1 (c .before .before .before .put-marks .ensures) (omega (arith, marks-length (start .args .w) (now (start .args .st)) (start .args .y * start .args .w))) (omega arith) in omega (arith, r)
 
 returns : tie.Need-returns
 unfolding rowText
 returns c = written-then (c .before .before .before .before .before .before .put-marks .ensures) (c .before .before .put .ensures)
 
 pub put-row-spec : {M : Type 1} → statement M
-put-row-spec =
-    tie.close (tie.spec mul-put-marks put-marks-requires put-requires same-length returns)
+put-row-spec = tie.close (tie.spec (λ c. search needs) (λ c κs. search needs) put-requires (λ c. search needs) returns)

@@ -5,12 +5,12 @@ use native.Mathlib.Nat.{zero-mul}
 use native.Mathlib.Omega.{arith}
 use lib.ListN.{length}
 use denote.Ref.{now}
-use Rattle.reading.specs.Lists.{joined}
+use Rattle.ground.specs.Lists.{joined}
+use Rattle.ground.specs.Write.{Written}
+use Rattle.ground.proofs.Laws.Write.{joined-none, joined-next, joined-all, written-length}
 use Rattle.reading.specs.Text.{rowText, rowsText}
-use Rattle.reading.specs.Written.{Written}
-use Rattle.reading.proofs.Lengths.{row-length}
-use Rattle.reading.proofs.Sizes.{next-row, row-within}
-use Rattle.reading.proofs.Writes.{joined-none, joined-next, joined-all, written-length}
+use Rattle.reading.proofs.text.Lengths.{row-length}
+use Rattle.reading.proofs.fields.Sizes.{next-row, row-within}
 use Rattle.reading.proofs.text.put_rows.Statement.{statement}
 use Rattle.reading.proofs.text.put_rows.Tie as tie
 
@@ -26,12 +26,6 @@ loop-holds c = (omega arith, refl, omega (arith, zero-mul (c .before .before .ar
 put-row-requires : tie.Need-put-row-requires Inv-loop μ-loop
 put-row-requires c κs = (omega (arith, row-within (c .before .before .before .before .before .args .w + 1) (c .before .loop-test .taken), row-within (c .before .before .before .before .before .args .w) (c .before .loop-test .taken), c .before .before .loop .inv .2), omega (arith, row-within (c .before .before .before .before .before .args .w + 1) (c .before .loop-test .taken), row-within (c .before .before .before .before .before .args .w) (c .before .loop-test .taken), c .before .before .loop .inv .2))
 
-add-y : tie.Need-add-y Inv-loop μ-loop
-add-y c = omega arith
-
-loop-less : tie.Need-loop-less Inv-loop μ-loop
-loop-less c = omega arith
-
 loop-again : tie.Need-loop-again Inv-loop μ-loop
 loop-again c =
     let i = c .before .before .before .before .before .loop .inv in
@@ -44,23 +38,9 @@ loop-again c =
       joined-next y (rowText (d .w) (now (d .st))) (i .3) w,
     )
 
-same-length : tie.Need-same-length Inv-loop μ-loop
-same-length c = c .before .loop .inv .1
-
 returns : tie.Need-returns Inv-loop μ-loop
 unfolding rowsText
 returns c = joined-all _ (rowText (c .before .before .before .before .args .w) (now (c .before .before .before .before .args .st))) (c .before .loop .inv .3) (omega arith)
 
 pub put-rows-spec : {M : Type 1} → statement M
-put-rows-spec =
-    tie.close
-    (tie.spec
-    Inv-loop
-    μ-loop
-    loop-holds
-    put-row-requires
-    add-y
-    loop-less
-    loop-again
-    same-length
-    returns)
+put-rows-spec = tie.close (tie.spec Inv-loop μ-loop loop-holds put-row-requires (λ c. omega arith) (λ c. omega arith) loop-again (λ c. c .before .loop .inv .1) returns)

@@ -5,12 +5,12 @@ use native.Mathlib.Omega.{arith}
 use lib.Ieee.{nan}
 use lib.ListN.{length, getD}
 use denote.Ref.{now}
-use Rattle.reading.specs.Lists.{joined}
+use Rattle.ground.specs.Lists.{joined}
+use Rattle.ground.specs.Write.{Written}
+use Rattle.ground.proofs.Laws.Write.{joined-none, joined-next, joined-all, written-length}
 use Rattle.reading.specs.Text.{flaggedText}
-use Rattle.reading.specs.Written.{Written}
-use Rattle.reading.proofs.Lengths.{flagged-length}
-use Rattle.reading.proofs.Sizes.{row-within}
-use Rattle.reading.proofs.Writes.{joined-none, joined-next, joined-all, written-length}
+use Rattle.reading.proofs.text.Lengths.{flagged-length}
+use Rattle.reading.proofs.fields.Sizes.{row-within}
 use Rattle.reading.proofs.text.put_texels.Statement.{statement}
 use Rattle.reading.proofs.text.put_texels.Tie as tie
 
@@ -24,13 +24,9 @@ loop-holds : tie.Need-loop-holds Inv-loop μ-loop
 loop-holds c = (omega arith, refl, omega arith, joined-none _ _ _)
 
 put-flagged-requires : tie.Need-put-flagged-requires Inv-loop μ-loop
-put-flagged-requires c κs = ((omega arith, omega arith), (omega (arith, row-within (c .before .before .before .before .before .before .args .ch) (c .before .loop-test .taken)), c .before .before .before .before .before .before .pre .1 .2, omega arith))
-
-add-k : tie.Need-add-k Inv-loop μ-loop
-add-k c = omega arith
-
-loop-less : tie.Need-loop-less Inv-loop μ-loop
-loop-less c = omega arith
+put-flagged-requires c κs =
+    let start = c .before .before .before .before .before .before in
+    ((omega arith, omega arith), (omega (arith, row-within (start .args .ch) (c .before .loop-test .taken)), start .pre .1 .2, omega arith))
 
 loop-again : tie.Need-loop-again Inv-loop μ-loop
 loop-again c =
@@ -45,22 +41,8 @@ loop-again c =
       joined-next k f (i .3) w,
     )
 
-same-length : tie.Need-same-length Inv-loop μ-loop
-same-length c = c .before .loop .inv .1
-
 returns : tie.Need-returns Inv-loop μ-loop
 returns c = joined-all _ _ (c .before .loop .inv .3) (omega arith)
 
 pub put-texels-spec : {M : Type 1} → statement M
-put-texels-spec =
-    tie.close
-    (tie.spec
-    Inv-loop
-    μ-loop
-    loop-holds
-    put-flagged-requires
-    add-k
-    loop-less
-    loop-again
-    same-length
-    returns)
+put-texels-spec = tie.close (tie.spec Inv-loop μ-loop loop-holds put-flagged-requires (λ c. omega arith) (λ c. omega arith) loop-again (λ c. c .before .loop .inv .1) returns)

@@ -12,32 +12,17 @@ use Rattle.replay.proofs.case.is_same.Tie as tie
 few : {A : Type 0} (n : ℕ) (l : List A) → n ≤ length l → length (take n l) ≤ length l
 few n l h = omega (arith, length-take-le n l h)
 
-array-borrow-prefix-samples : tie.Need-array-borrow-prefix-samples
-array-borrow-prefix-samples c = search needs
-
 slice-aggregate-run : tie.Need-slice-aggregate-run
 slice-aggregate-run c = sym (length-take-le _ _ (c .before .before .pre .samples))
-
-array-borrow-prefix-cells : tie.Need-array-borrow-prefix-cells
-array-borrow-prefix-cells c = search needs
 
 slice-aggregate-run-2 : tie.Need-slice-aggregate-run-2
 slice-aggregate-run-2 c = sym (length-take-le _ _ (c .before .before .before .pre .cells))
 
-array-borrow-prefix-colours : tie.Need-array-borrow-prefix-colours
-array-borrow-prefix-colours c = search needs
-
 slice-aggregate-run-3 : tie.Need-slice-aggregate-run-3
 slice-aggregate-run-3 c = sym (length-take-le _ _ (c .before .before .before .before .pre .colours))
 
-array-borrow-prefix-coords : tie.Need-array-borrow-prefix-coords
-array-borrow-prefix-coords c = search needs
-
 slice-aggregate-run-4 : tie.Need-slice-aggregate-run-4
 slice-aggregate-run-4 c = sym (length-take-le _ _ (c .before .before .before .before .before .pre .coords))
-
-array-borrow-prefix-ends : tie.Need-array-borrow-prefix-ends
-array-borrow-prefix-ends c = search needs
 
 slice-aggregate-run-5 : tie.Need-slice-aggregate-run-5
 slice-aggregate-run-5 c = sym (length-take-le _ _ (c .before .before .before .before .before .before .pre .ends))
@@ -47,22 +32,8 @@ run-requires c κs =
     let s = c .before .before .before .before .before .before .pre in
     (search needs, (few _ _ (s .samples), few _ _ (s .cells), few _ _ (s .colours), few _ _ (s .coords), few _ _ (s .ends)))
 
-returns : tie.Need-returns
-returns c = search needs
-
 pub is-same-spec : {M : Type 1} → statement M
 is-same-spec =
     tie.close
-    (tie.spec
-    array-borrow-prefix-samples
-    slice-aggregate-run
-    array-borrow-prefix-cells
-    slice-aggregate-run-2
-    array-borrow-prefix-colours
-    slice-aggregate-run-3
-    array-borrow-prefix-coords
-    slice-aggregate-run-4
-    array-borrow-prefix-ends
-    slice-aggregate-run-5
-    run-requires
-    returns)
+    (tie.spec (λ c. search needs) slice-aggregate-run (λ c. search needs) slice-aggregate-run-2 (λ c. search needs) slice-aggregate-run-3 (λ c. search needs) slice-aggregate-run-4 (λ c. search needs)
+    slice-aggregate-run-5 run-requires (λ c. search needs))

@@ -19,43 +19,10 @@ lengths c =
     let p = start c .pre .1 in
     (few _ _ _ (c .correct .kept .1 .1 .0) (l .kept .1 .1 .0) (p .0), few _ _ _ (c .correct .kept .1 .1 .1 .0) (l .kept .1 .1 .1 .0) (p .1))
 
-load-requires : tie.Need-load-requires
-load-requires c κs = search needs
-
-correct-requires : tie.Need-correct-requires
-correct-requires c κs = search needs
-
 is-right-requires : tie.Need-is-right-requires
 is-right-requires c κs = (start (c .before .before .before .before .before .before) .pre .0, lengths (c .before .before .before .before .before .before))
-
-same-length : tie.Need-same-length
-same-length c = search needs
-
-same-length-2 : tie.Need-same-length-2
-same-length-2 c = search needs
-
-same-length-3 : tie.Need-same-length-3
-same-length-3 c = search needs
-
-same-length-4 : tie.Need-same-length-4
-same-length-4 c = search needs
-
-same-length-5 : tie.Need-same-length-5
-same-length-5 c = search needs
-
-returns : tie.Need-returns
-returns c = search needs
 
 pub run-spec : {M : Type 1} → statement M
 run-spec =
     tie.close
-    (tie.spec
-    load-requires
-    correct-requires
-    is-right-requires
-    same-length
-    same-length-2
-    same-length-3
-    same-length-4
-    same-length-5
-    returns)
+    (tie.spec (λ c κs. search needs) (λ c κs. search needs) is-right-requires (λ c. search needs) (λ c. search needs) (λ c. search needs) (λ c. search needs) (λ c. search needs) (λ c. search needs))

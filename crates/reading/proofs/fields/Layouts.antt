@@ -8,8 +8,8 @@ use lib.Dec.{ltb}
 use lib.ListN.{length}
 use borrow.Author.Tests.{lt-ltb, le-ltb, ltb-false}
 use Rattle.reading.specs.Grammar.{orElse, sizeBreach, settingsBreach, outlineBreach, rowsBreach, endBreach, fieldBreach, breach, width, height, channels, rowSize, rowsAt, endAt}
-use Rattle.reading.specs.Written.{Read}
-use Rattle.reading.proofs.Breaches.{found, passed, both-fine, test-fine, field-fine}
+use Rattle.reading.specs.Inner.{Read}
+use Rattle.reading.proofs.fields.Breaches.{found, passed, both-fine, test-fine, field-fine}
 
 -- the sample count with the height in front
 pub samples-by-rows : (w h ch : ℕ) → h * (w * ch) ≡ w * h * ch

@@ -11,13 +11,13 @@ use lib.ListN.{length, getD}
 use denote.Ref.{RefT, now}
 use borrow.Author.Tests.{lt-ltb, le-ltb, eq-eqb, ne-eqb}
 use Rattle.reading.specs.Grammar.{lengthAt, sizeBreach, fieldBreach, contourBreach, rowsBreach, endBreach, breach, isContour, start, width, height, channels, rowSize, rowsAt, endAt}
-use Rattle.reading.specs.Written.{Told, Outlined, Whole, Read, Begun, Sized, Outlining, Rowing, Stage, Walked, turns, Stepped}
+use Rattle.reading.specs.Inner.{Told, Outlined, Whole, Read, Begun, Sized, Outlining, Rowing, Stage, Walked, turns, Stepped}
 use Rattle.reading.specs.declared.reader.Reader.{Reader}
 use Rattle.reading.specs.declared.reader.Field.{Field}
 use Rattle.reading.specs.declared.fields.Layout.{Layout}
-use Rattle.reading.proofs.Breaches.{found, passed, field-fine, field-length, contour-fine, rows-step, rows-none}
-use Rattle.reading.proofs.Layouts.{size-fine, read-found, breach-size, breach-rows, breach-end}
-use Rattle.reading.proofs.Outlines.{outlined-all, outlined-unbroken}
+use Rattle.reading.proofs.fields.Breaches.{found, passed, field-fine, field-length, contour-fine, rows-step, rows-none}
+use Rattle.reading.proofs.fields.Layouts.{size-fine, read-found, breach-size, breach-rows, breach-end}
+use Rattle.reading.proofs.fields.Outlines.{outlined-all, outlined-unbroken}
 
 -- ---- turns
 

@@ -1,18 +1,14 @@
--- What the inner functions leave for each other: those that write, and those that walk through the fields. Definitions only.
+-- What the inner functions ask of each other; no public promise rests on it. Definitions only.
 use mathlib.Core.Path.{_≡_}
 use Prim.Native.Nat.{ℕ, zero, suc, _+_, _-_, _*_, _≤_, _<_}
 use mathlib.Core.List.{List}
 use lib.ListN.{length, getD}
-use lib.Seq.{sets}
 use lib.Ieee.{Float}
+use Rattle.ground.specs.Write.{Written}
 use Rattle.reading.specs.Grammar.{fine, lengthAt, start, before, contoursFrom, contours, rowSize, sizeBreach, fieldBreach, outlineBreach, rowsBreach, endAt, width, height, channels, breach}
+use Rattle.reading.specs.Case.{coloursOf, coordsOf, endsOf}
 use Rattle.reading.specs.declared.reader.Field.{Field}
 use Rattle.reading.specs.declared.fields.Layout.{Layout}
-
--- the text stands in the slice from a place on, all else is as it was, and the answer is the place after it
-pub record Written {A : Type 0} (out : List A) (at : ℕ) (text : List A) (next : ℕ) (after : List A) : Type 0 where
-  pub holds : after ≡ sets out at text
-  pub to : next ≡ at + length text
 
 -- what a field reader tells of the field at a place: its tag, 0 where there is none, its length where that is there, and where its contents end where they are there
 pub record Told (s : List ℕ) (at : ℕ) (f : Field) : Type 0 where
@@ -118,3 +114,9 @@ pub record Lent (xs : List Float) (st cs : List ℕ) (ps : List Float) (es : Lis
   pub colours : 256 ≤ length cs
   pub coords : 512 ≤ length ps
   pub ends : 64 ≤ length es
+
+-- the colours, the coordinates and the ends of k contours with n segments stand in front of what was lent for them
+pub record Decoded (s : List ℕ) (k n : ℕ) (cs₀ cs : List ℕ) (ps₀ ps : List Float) (es₀ es : List ℕ) : Type 0 where
+  pub colours : Written cs₀ 0 (coloursOf s) n cs
+  pub coords : Written ps₀ 0 (coordsOf s) (2 * n) ps
+  pub ends : Written es₀ 0 (endsOf s) k es

@@ -2,26 +2,21 @@
 use mathlib.Core.Bool.{Bool, true, false, cond}
 use mathlib.Core.List.{List, [], _∷_}
 use mathlib.Core.Path.{_≡_, ap, _∙_}
-use Prim.Native.Nat.{ℕ, zero, suc, _+_, _*_, _/_, _%_, _^_, _≤_, _<_}
-use native.Mathlib.Nat.{add-mul, mul-suc, lt-of-le-of-lt, mod-le, div-le-self}
+use Prim.Native.Nat.{ℕ, _+_, _*_, _/_, _%_, _^_, _≤_, _<_}
+use native.Mathlib.Nat.{add-mul, lt-of-le-of-lt, mod-le, div-le-self}
 use native.Mathlib.Omega.{arith}
 use lib.Ieee.{Float, binary32, toBits}
 use lib.ListN.{length, getD, length-append}
+use Rattle.ground.specs.Lists.{joined}
+use Rattle.ground.proofs.Laws.Fill.{tab-length}
+use Rattle.ground.proofs.Laws.Join.{joined-length}
 use Rattle.correction.specs.Stencil.{isError}
-use Rattle.reading.specs.Lists.{joined}
 use Rattle.reading.specs.Text.{hexPair, hex, numbered, badText, refusedText, sizeText, countsText, marksText, rowText, rowsText, texelText, flaggedText, acceptedText}
 use Rattle.reading.proofs.Laws.Decimal.{decimal-length, decimal-length-u64}
-use Rattle.reading.proofs.Writes.{listed-length}
 
 cond-length : (t : Bool) (m : ℕ) (l : List ℕ) → length l ≤ m → length (cond t l []) ≤ m
 cond-length true m l h = h
 cond-length false m l h = omega arith
-
--- so many pieces of at most m
-pub joined-length : {A : Type 0} (n m : ℕ) (f : ℕ → List A) → ((k : ℕ) → k < n → length (f k) ≤ m) → length (joined n f) ≤ m * n
-unfolding joined
-joined-length zero m f h = omega arith
-joined-length (suc n) m f h = omega (arith, length-append (joined n f) (f n), joined-length n m f (λ k l. h k (omega arith)), h n (omega arith), mul-suc m n)
 
 -- a number with the byte after it: one that fits a u64, and one below 100,000
 pub numbered-length : (n b : ℕ) → n < 2 ^ 64 → length (numbered n b) ≤ 21
@@ -44,7 +39,7 @@ hex-length v = simp length-append (omega (arith, hexPair-length v, hexPair-lengt
 -- the marks of a row, and the row
 pub marks-length : (w : ℕ) (st : List ℕ) (from : ℕ) → length (marksText w st from) ≡ w
 unfolding marksText
-marks-length w st from = listed-length w _
+marks-length w st from = tab-length w _
 
 pub row-length : (w : ℕ) (st : List ℕ) (y : ℕ) → length (rowText w st y) ≡ w + 1
 unfolding rowText

@@ -1,14 +1,24 @@
 -- Text that is written piece by piece into a slice. Assumes nothing.
+--     sets-last                        the last of a run of stores may come first
+--     written-none, -one, -two         nothing, one element, two
+--     written-then                     one text after another
+--     written-as, written-to           the same text, or the place after it, said otherwise
+--     written-length, -room, -fits     the slice keeps its length, so there is room for the rest
+--     tab-none, tab-next, tab-all      a loop that writes the elements of a list by index
+--     joined-none, -next, -all         a loop that writes pieces
+--     front, front-length              what is written at the front is the front of the slice
+--     written-front                    the whole slice: the text, and then what stood there
 use mathlib.Core.List.{List, [], _∷_, _++_}
 use mathlib.Core.Path.{_≡_, refl, sym, ap, subst, _∙_}
-use Prim.Native.Nat.{ℕ, zero, suc, _+_, _≤_}
+use Prim.Native.Nat.{ℕ, suc, _+_, _≤_}
 use native.Mathlib.Nat.{add-zero}
 use native.Mathlib.Numerals.{add-one}
 use native.Mathlib.Omega.{arith}
 use lib.ListN.{length, set, take, drop, length-append}
 use lib.Seq.{sets, length-sets, sets-eq, take-at, set-comm}
-use Rattle.reading.specs.Lists.{joined, listed}
-use Rattle.reading.specs.Written.{Written}
+use Rattle.ground.specs.Lists.{tab, joined}
+use Rattle.ground.specs.Write.{Written}
+use Rattle.ground.proofs.Laws.Join.{tab-more, joined-more}
 
 module _ {A : Type 0} where
   -- a run of stores and then another is one run
@@ -16,44 +26,21 @@ module _ {A : Type 0} where
   sets-append out at [] u = ap (λ (k : ℕ). sets out k u) (sym (add-zero at))
   sets-append out at (a ∷ t) u = sets-append (set out at a) (suc at) t u ∙ ap (λ (k : ℕ). sets (sets (set out at a) (suc at) t) k u) (omega arith)
 
-  -- the last of a run of stores may come first
   pub sets-last : (out : List A) (at : ℕ) (t : List A) (a : A) → sets out at (t ++ (a ∷ [])) ≡ sets (set out (at + length t) a) at t
   sets-last out at [] a = ap (λ (k : ℕ). set out k a) (sym (add-zero at))
   sets-last out at (b ∷ t) a =
       let z : suc at + length t ≡ at + suc (length t) = omega arith in
       sets-last (set out at b) (suc at) t a ∙ ap (λ (l : List A). sets l (suc at) t) (set-comm out at (suc at + length t) b a (λ e. omega arith) ∙ ap (λ (k : ℕ). set (set out k a) at b) z)
 
-  -- one more piece
-  pub joined-more : (k : ℕ) (f : ℕ → List A) → joined (k + 1) f ≡ joined k f ++ f k
-  unfolding joined
-  joined-more k f = ap (λ (n : ℕ). joined n f) (add-one k)
-
-  -- one more element
-  pub listed-more : (k : ℕ) (f : ℕ → A) → listed (k + 1) f ≡ listed k f ++ (f k ∷ [])
-  unfolding listed
-  listed-more k f = joined-more k (λ j. f j ∷ [])
-
-  -- so many elements
-  pub listed-length : (n : ℕ) (f : ℕ → A) → length (listed n f) ≡ n
-  unfolding listed joined
-  listed-length zero f = refl
-  listed-length (suc n) f =
-      let h : length (joined n (λ j. f j ∷ [])) ≡ n = listed-length n f in
-      length-append (joined n (λ j. f j ∷ [])) (f n ∷ []) ∙ omega arith
-
-  -- nothing, one element, and one text after another
   pub written-none : (out : List A) (at : ℕ) → Written out at [] at out
   written-none out at = record { holds = refl; to = sym (add-zero at) }
 
-  -- one element
   pub written-one : (out : List A) (at : ℕ) (a : A) → Written out at (a ∷ []) (at + 1) (set out at a)
   written-one out at a = record { holds = refl; to = refl }
 
-  -- two elements
   pub written-two : (out : List A) (at : ℕ) (a b : A) → Written out at (a ∷ b ∷ []) (at + 2) (set (set out at a) (at + 1) b)
   written-two out at a b = record { holds = ap (λ (k : ℕ). set (set out at a) k b) (add-one at); to = refl }
 
-  -- one text after another
   pub written-then : {out mid after : List A} {at next last : ℕ} {t u : List A} → Written out at t next mid → Written mid next u last after → Written out at (t ++ u) last after
   written-then {out} {mid} {after} {at} {next} {last} {t} {u} p q =
       record {
@@ -61,7 +48,12 @@ module _ {A : Type 0} where
         to = q .to ∙ omega (arith, p .to, length-append t u);
       }
 
-  -- the slice keeps its length
+  pub written-as : {out after : List A} {at next : ℕ} {t : List A} (u : List A) → t ≡ u → Written out at t next after → Written out at u next after
+  written-as {out} {after} {at} {next} u e p = subst (λ (l : List A). Written out at l next after) e p
+
+  pub written-to : {out after : List A} {at next : ℕ} {t : List A} (last : ℕ) → next ≡ last → Written out at t next after → Written out at t last after
+  written-to {out} {after} {at} {next} {t} last e p = subst (λ (n : ℕ). Written out at t n after) e p
+
   pub written-length : {out after : List A} {at next : ℕ} {t : List A} → Written out at t next after → length after ≡ length out
   written-length {out} {after} {at} {next} {t} p = ap length (p .holds) ∙ length-sets out at t
 
@@ -69,60 +61,43 @@ module _ {A : Type 0} where
   pub written-room : {out after : List A} {at next : ℕ} {t : List A} (m rest : ℕ) → Written out at t next after → length t ≤ m → at + m + rest ≤ length out → next + rest ≤ length after
   written-room m rest p l h = omega (arith, p .to, written-length p)
 
-  -- the same text, said otherwise
-  pub written-as : {out after : List A} {at next : ℕ} {t : List A} (u : List A) → t ≡ u → Written out at t next after → Written out at u next after
-  written-as {out} {after} {at} {next} u e p = subst (λ (l : List A). Written out at l next after) e p
+  -- the text ends within the slice
+  pub written-fits : {out after : List A} {at next : ℕ} {t : List A} → Written out at t next after → next ≤ length out → next ≤ length after
+  written-fits p l = omega (arith, written-length p)
 
-  -- the same place after it, said otherwise
-  pub written-to : {out after : List A} {at next : ℕ} {t : List A} (last : ℕ) → next ≡ last → Written out at t next after → Written out at t last after
-  written-to {out} {after} {at} {next} {t} last e p = subst (λ (n : ℕ). Written out at t n after) e p
+  -- ---- loops: before the first turn, after one more, and at the end
 
-  -- ---- loops
+  pub tab-none : (out : List A) (at : ℕ) (f : ℕ → A) → Written out at (tab 0 f) at out
+  unfolding tab
+  tab-none out at f = written-none out at
 
-  -- before the first piece
+  pub tab-next : {out mid : List A} {at next : ℕ} (k : ℕ) (f : ℕ → A) (v : A) → Written out at (tab k f) next mid → v ≡ f k → Written out at (tab (k + 1) f) (next + 1) (set mid next v)
+  tab-next {out} {mid} {at} {next} k f v p e =
+      written-as (tab (k + 1) f) (sym (tab-more k f)) (written-then p (subst (λ (a : A). Written mid next (a ∷ []) (next + 1) (set mid next v)) e (written-one mid next v)))
+
+  pub tab-all : {out mid : List A} {at next k : ℕ} (n : ℕ) (f : ℕ → A) → Written out at (tab k f) next mid → k ≡ n → Written out at (tab n f) next mid
+  tab-all {out} {mid} {at} {next} n f p e = subst (λ (m : ℕ). Written out at (tab m f) next mid) e p
+
   pub joined-none : (out : List A) (at : ℕ) (f : ℕ → List A) → Written out at (joined 0 f) at out
   unfolding joined
   joined-none out at f = written-none out at
 
-  -- one more piece is written
   pub joined-next : {out mid after : List A} {at next last : ℕ} (k : ℕ) (f : ℕ → List A) → Written out at (joined k f) next mid → Written mid next (f k) last after → Written out at (joined (k + 1) f) last after
   joined-next k f p q = written-as (joined (k + 1) f) (sym (joined-more k f)) (written-then p q)
 
-  -- before the first element
-  pub listed-none : (out : List A) (at : ℕ) (f : ℕ → A) → Written out at (listed 0 f) at out
-  unfolding listed joined
-  listed-none out at f = written-none out at
-
-  -- one more element is written
-  pub listed-next : {out mid : List A} {at next : ℕ} (k : ℕ) (f : ℕ → A) (v : A) → Written out at (listed k f) next mid → v ≡ f k → Written out at (listed (k + 1) f) (next + 1) (set mid next v)
-  listed-next {out} {mid} {at} {next} k f v p e =
-      written-as (listed (k + 1) f) (sym (listed-more k f)) (written-then p (subst (λ (a : A). Written mid next (a ∷ []) (next + 1) (set mid next v)) e (written-one mid next v)))
-
-  -- all elements are written
-  pub listed-all : {out mid : List A} {at next k : ℕ} (n : ℕ) (f : ℕ → A) → Written out at (listed k f) next mid → k ≡ n → Written out at (listed n f) next mid
-  listed-all {out} {mid} {at} {next} n f p e = subst (λ (m : ℕ). Written out at (listed m f) next mid) e p
-
-  -- all pieces are written
   pub joined-all : {out mid : List A} {at next k : ℕ} (n : ℕ) (f : ℕ → List A) → Written out at (joined k f) next mid → k ≡ n → Written out at (joined n f) next mid
   joined-all {out} {mid} {at} {next} n f p e = subst (λ (m : ℕ). Written out at (joined m f) next mid) e p
 
   -- ---- the text in front
 
-  -- the text ends within the slice
-  pub written-fits : {out after : List A} {at next : ℕ} {t : List A} → Written out at t next after → next ≤ length out → next ≤ length after
-  written-fits p l = omega (arith, written-length p)
-
-  -- the front of the slice is the text
   pub front : {out after : List A} {next : ℕ} {t : List A} → Written out 0 t next after → next ≤ length out → take next after ≡ t
   front {out} {after} {next} {t} p l =
       let z : length t ≡ next = omega (arith, p .to) in
       ap (take next) (p .holds ∙ sets-eq t out 0 (omega arith)) ∙ take-at t (drop (0 + length t) out) next z
 
-  -- so the front is as long as the text
   pub front-length : {out after : List A} {next : ℕ} {t : List A} → Written out 0 t next after → next ≤ length out → next ≡ length (take next after)
   front-length p l = sym (ap length (front p l) ∙ omega (arith, p .to))
 
-  -- the whole slice: the text, and then what stood there
   pub written-front : {out after : List A} {next : ℕ} {t : List A} → Written out 0 t next after → length t ≤ length out → (next ≡ length t) × (after ≡ t ++ drop next out)
   written-front {out} {after} {next} {t} p l =
       let z : next ≡ length t = omega (arith, p .to) in

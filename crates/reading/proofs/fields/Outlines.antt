@@ -8,8 +8,8 @@ use native.Mathlib.Omega.{arith}
 use lib.ListN.{length, getD}
 use borrow.Author.Tests.{lt-ltb, eq-eqb, ne-eqb}
 use Rattle.reading.specs.Grammar.{lengthAt, contourBreach, start, before, goodContour, contoursFrom, contours, isContour, outlineBreach}
-use Rattle.reading.specs.Written.{Reached, Outlined}
-use Rattle.reading.proofs.Breaches.{contour-tag, contour-fine}
+use Rattle.reading.specs.Inner.{Reached, Outlined}
+use Rattle.reading.proofs.fields.Breaches.{contour-tag, contour-fine}
 
 -- before the first contour
 pub reached-none : (s : List ℕ) {at : ℕ} → at ≡ 44 → at ≤ length s → Reached s at 0 0

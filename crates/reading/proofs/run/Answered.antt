@@ -1,9 +1,9 @@
 -- What an accepted case leaves in the stencil and in the samples is what is printed of it. Assumes nothing.
-use mathlib.Core.Bool.{Bool, true, false, cond, not, _&&_, _||_}
+use mathlib.Core.Bool.{Bool, true, false, cond, not, _||_}
 use mathlib.Core.List.{List, [], _++_}
 use mathlib.Core.Path.{_≡_, refl, sym, ap, _∙_}
-use Prim.Native.Nat.{ℕ, zero, suc, _+_, _*_, _/_, _%_, _≤_, _<_}
-use native.Mathlib.Nat.{not-suc-le-zero, le-of-suc-le-suc, add-zero, mul-le-mul-right, mul-le-mul-left}
+use Prim.Native.Nat.{ℕ, _+_, _*_, _/_, _%_, _≤_, _<_}
+use native.Mathlib.Nat.{add-zero, mul-le-mul-right, mul-le-mul-left}
 use native.Mathlib.Numerals.{add-one-le}
 use native.Mathlib.Omega.{arith}
 use lib.Arith.{digits-div, digits-mod}
@@ -11,50 +11,24 @@ use lib.Dec.{eqb, leb}
 use lib.Ieee.{Float, nan, binary32, toBits}
 use lib.ListN.{length, getD}
 use borrow.Author.Tests.{eqb-true, leb-true, not-false}
+use Rattle.ground.proofs.Laws.Bools.{both-hold, cond-zero}
+use Rattle.ground.proofs.Laws.Fill.{tab-length, tab-at}
+use Rattle.ground.proofs.Laws.Join.{joined-same}
 use Rattle.correction.specs.Stencil.{stencilByte, isError}
 use Rattle.correction.specs.Checks.{Input, badChannels, badSide, sizeRefusal, refusalNumber, accepted}
 use Rattle.correction.specs.Collapse.{cellMedian, collapsedSample, collapsed}
-use Rattle.ground.specs.Lists.{tab}
 use Rattle.correction.specs.Pass.{protects, flags, byteAt, passStencil, passSamples, answer, stencilAfter, samplesAfter}
 use Rattle.correction.specs.declared.pass.Answer.the-variants.{Accepted, Refused}
 use Rattle.correction.specs.declared.pass.Counts.{Counts}
 use Rattle.reading.specs.Answer.{answerText}
-use Rattle.reading.specs.Lists.{joined}
 use Rattle.reading.specs.Text.{texelText, flaggedText, acceptedText, sizeText, countsText, rowsText, refusedText}
-use Rattle.reading.proofs.Sizes.{next-row}
-
--- ---- lists by what stands at each index
-
-tab-length : {A : Type 0} (n : ℕ) (f : ℕ → A) → length (tab n f) ≡ n
-unfolding tab
-tab-length zero f = refl
-tab-length (suc n) f = ap suc (tab-length n (λ k. f (suc k)))
-
-tab-at : {A : Type 0} (n : ℕ) (f : ℕ → A) (i : ℕ) (d : A) → i < n → getD (tab n f) i d ≡ f i
-unfolding tab
-tab-at zero f i d p = absurd (not-suc-le-zero p)
-tab-at (suc n) f zero d p = refl
-tab-at (suc n) f (suc i) d p = tab-at n (λ k. f (suc k)) i d (le-of-suc-le-suc p)
-
-joined-same : {A : Type 0} (n : ℕ) (f g : ℕ → List A) → ((k : ℕ) → k < n → f k ≡ g k) → joined n f ≡ joined n g
-unfolding joined
-joined-same zero f g h = refl
-joined-same (suc n) f g h = rw (joined-same n f g (λ k l. h k (omega arith)), h n (omega arith))
+use Rattle.reading.proofs.fields.Sizes.{next-row}
 
 -- ---- what acceptance says of the sizes
-
-test-zero : (t : Bool) (x y : ℕ) → (x ≡ 0 → ⊥) → cond t x y ≡ 0 → (t ≡ false) × (y ≡ 0)
-test-zero true x y n e = absurd (n e)
-test-zero false x y n e = (refl, e)
 
 first-zero-go : (n y : ℕ) (t : Bool) → eqb n 0 ≡ t → cond (not t) n y ≡ 0 → n ≡ 0
 first-zero-go n y true h e = eqb-true n 0 h
 first-zero-go n y false h e = e
-
-both : (a b : Bool) → (a && b) ≡ true → (a ≡ true) × (b ≡ true)
-both true true e = (refl, refl)
-both true false e = absurd (let z : _≡_ {A = ℕ} 0 1 = cc in omega arith)
-both false b e = absurd (let z : _≡_ {A = ℕ} 0 1 = cc in omega arith)
 
 either : (a b : Bool) (c : ℕ) → eqb c 3 ≡ a → eqb c 4 ≡ b → (a || b) ≡ true → (3 ≤ c) × (c ≤ 4)
 either true b c p q e = (omega (arith, eqb-true c 3 p), omega (arith, eqb-true c 3 p))
@@ -75,17 +49,17 @@ pub sized : (i : Input) → accepted i ≡ true → Sized i
 unfolding accepted refusalNumber sizeRefusal badChannels badSide
 sized i a =
     let z = first-zero-go _ _ _ refl (eqb-true (refusalNumber i) 0 a) in
-    let c = test-zero (badChannels (i .channels)) 1 _ (λ e. omega arith) z in
-    let w = test-zero (badSide (i .width)) 2 _ (λ e. omega arith) (c .1) in
-    let h = test-zero (badSide (i .height)) 2 _ (λ e. omega arith) (w .1) in
-    let n = test-zero (not (eqb (length (i .samples)) (i .width * i .height * i .channels))) 3 _ (λ e. omega arith) (h .1) in
-    let m = test-zero (not (eqb (length (i .stencil)) (i .width * i .height))) 4 0 (λ e. omega arith) (n .1) in
+    let c = cond-zero (badChannels (i .channels)) 0 _ z in
+    let w = cond-zero (badSide (i .width)) 1 _ (c .1) in
+    let h = cond-zero (badSide (i .height)) 1 _ (w .1) in
+    let n = cond-zero (not (eqb (length (i .samples)) (i .width * i .height * i .channels))) 2 _ (h .1) in
+    let m = cond-zero (not (eqb (length (i .stencil)) (i .width * i .height))) 3 0 (n .1) in
     let d = either (eqb (i .channels) 3) (eqb (i .channels) 4) (i .channels) refl refl (not-false _ (c .0)) in
-    let b = both (leb 1 (i .width)) (leb (i .width) 4096) (not-false _ (w .0)) in
+    let b = both-hold (leb 1 (i .width)) (leb (i .width) 4096) (not-false _ (w .0)) in
     record {
       wide = leb-true 1 (i .width) (b .0);
       narrow = leb-true (i .width) 4096 (b .1);
-      high = leb-true (i .height) 4096 (both (leb 1 (i .height)) (leb (i .height) 4096) (not-false _ (h .0)) .1);
+      high = leb-true (i .height) 4096 (both-hold (leb 1 (i .height)) (leb (i .height) 4096) (not-false _ (h .0)) .1);
       deep = d .0;
       shallow = d .1;
       samples = eqb-true _ _ (not-false _ (n .0));

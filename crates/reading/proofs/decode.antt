@@ -1,0 +1,2 @@
+-- Where the contours lie, and how long what is decoded is.
+pub mod Decoded

@@ -1,0 +1,2 @@
+-- What an accepted case leaves is what is printed of it.
+pub mod Answered
