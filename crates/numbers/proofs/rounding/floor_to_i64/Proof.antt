@@ -35,12 +35,6 @@ returns c = ap floorOf (sym (is-nan (c .before .args .x) (c .if1 .taken)))
 float-to-bits-bits : tie.Need-float-to-bits-bits
 float-to-bits-bits c = no-nan (c .before .args .x) (c .if1 .left)
 
-add-m : tie.Need-add-m
-add-m c = search needs
-
-scale-requires : tie.Need-scale-requires
-scale-requires c κs = search needs
-
 -- what `scale` answers is an i64
 in-range : (r m e : ℕ) → r ≡ scaled m e → m < 9007199254740992 → e < 1086 → r < 9223372036854775808
 in-range r m e h a b = subst (λ (q : ℕ). q < 9223372036854775808) (sym h) (scaled-lt m e a b)
@@ -64,12 +58,6 @@ returns-3 c =
 returns-4 : tie.Need-returns-4
 returns-4 c = let s = c .before .before .before in by s (pos 0) (minus-none (n-of s) (c .before .if2 .left) (c .if4 .taken))
 
-sub-scale : tie.Need-sub-scale
-sub-scale c = search needs
-
-scale-requires-2 : tie.Need-scale-requires-2
-scale-requires-2 c κs = search needs
-
 second : (c : tie.After-scale2) → c .scale2 .result < 9223372036854775808
 second c = let n = n-of (c .before .before .before .before .before) in in-range (c .scale2 .result) (m-of n - 1) (e-of n) (c .scale2 .ensures) (omega arith) (omega arith)
 
@@ -85,9 +73,6 @@ returns-5 c =
     after-kept (c .scale2 .result) (second c)
     ∙ ap negsuc (c .scale2 .ensures)
     ∙ by s (negsuc (scaled (m-of (n-of s) - 1) (e-of (n-of s)))) (minus-cut (n-of s) (c .before .before .before .if2 .left) (c .before .before .if4 .left) (c .before .if5 .taken))
-
-scale-requires-3 : tie.Need-scale-requires-3
-scale-requires-3 c κs = search needs
 
 third : (c : tie.After-scale3) → c .scale3 .result < 9223372036854775808
 third c = let n = n-of (c .before .before .before .before .before .before) in in-range (c .scale3 .result) (m-of n) (e-of n) (c .scale3 .ensures) (omega arith) (omega arith)
@@ -105,34 +90,10 @@ returns-6 c =
     ∙ ap (λ (q : ℕ). negℤ (pos q)) (c .scale3 .ensures)
     ∙ by s (negℤ (pos (scaled (m-of (n-of s)) (e-of (n-of s))))) (minus-whole (n-of s) (c .before .before .before .before .if2 .left) (c .before .before .if5 .left) (c .before .if6 .taken))
 
-sub-result-3 : tie.Need-sub-result-3
-sub-result-3 c = search needs
-
 returns-7 : tie.Need-returns-7
 returns-7 c =
     let s = c .before .before .before .before .before in
     by s (negsuc 9223372036854775807) (out (n-of s) true (sign (n-of s) (c .before .before .before .if2 .left)) (c .if6 .left) (some (c .before .before .before .before)))
 
 pub floor-to-i64-spec : {M : Type 1} → statement M
-floor-to-i64-spec =
-    tie.close
-    (tie.spec
-    returns
-    float-to-bits-bits
-    add-m
-    scale-requires
-    cast-result
-    returns-2
-    returns-3
-    returns-4
-    sub-scale
-    scale-requires-2
-    cast-result-2
-    sub-result
-    returns-5
-    scale-requires-3
-    cast-result-3
-    sub-result-2
-    returns-6
-    sub-result-3
-    returns-7)
+floor-to-i64-spec = tie.close (tie.spec returns float-to-bits-bits (λ c. search needs) (λ c κs. search needs) cast-result returns-2 returns-3 returns-4 (λ c. search needs) (λ c κs. search needs) cast-result-2 sub-result returns-5 (λ c κs. search needs) cast-result-3 sub-result-2 returns-6 (λ c. search needs) returns-7)

@@ -63,18 +63,6 @@ float-from-bits-result c = narrow-small (n-of (c .before .before)) (n-lt (c .bef
 returns-2 : tie.Need-returns-2
 returns-2 c = narrow-small (n-of (c .before .before)) (n-lt (c .before .before)) (c .if2 .taken) .0 ∙ ap narrowOf (back (c .before .before))
 
-add-q : tie.Need-add-q
-add-q c = search needs
-
-add-q-2 : tie.Need-add-q-2
-add-q-2 c = search needs
-
-sub-q-2 : tie.Need-sub-q-2
-sub-q-2 c = search needs
-
-cast-result-2 : tie.Need-cast-result-2
-cast-result-2 c = search needs
-
 add-result-2 : tie.Need-add-result-2
 add-result-2 c = omega (arith, n-lt (c .before .before .before))
 
@@ -99,28 +87,4 @@ returns-4 c =
     high (c .before .before .before) (c .if3 .left) (no-nan (c .before .before .before .args .x) (c .before .before .if1 .left)) .0 ∙ ap narrowOf (back (c .before .before .before))
 
 pub narrow-spec : {M : Type 1} → statement M
-narrow-spec =
-    tie.close
-    (tie.spec
-    returns
-    float-to-bits-bits
-    cast-sign
-    mul-sign
-    float-from-bits-y
-    float-from-bits-y-2
-    float-to-bits-q
-    sub-q
-    cast-result
-    add-result
-    float-from-bits-result
-    returns-2
-    add-q
-    add-q-2
-    sub-q-2
-    cast-result-2
-    add-result-2
-    float-from-bits-result-2
-    returns-3
-    add-result-3
-    float-from-bits-result-3
-    returns-4)
+narrow-spec = tie.close (tie.spec returns float-to-bits-bits cast-sign mul-sign float-from-bits-y float-from-bits-y-2 float-to-bits-q sub-q cast-result add-result float-from-bits-result returns-2 (λ c. search needs) (λ c. search needs) (λ c. search needs) (λ c. search needs) add-result-2 float-from-bits-result-2 returns-3 add-result-3 float-from-bits-result-3 returns-4)

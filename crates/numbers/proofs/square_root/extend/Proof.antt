@@ -24,26 +24,17 @@ off c =
     let s = c .before .before .before .before in
     taken-off (s .args .h .s) (s .args .h .r) (s .args .a) (s .args .c) (s .args .b) (q-of s) (u-of s) (s .pre) (at s) (c .if1 .left)
 
-mul-d : tie.Need-mul-d
-mul-d c = search needs
-
 mul-t : tie.Need-mul-t
 mul-t c = let z = at (c .before .before) in omega arith
 
 add-t : tie.Need-add-t
 add-t c = let z = at (c .before .before) in omega arith
 
-div-q : tie.Need-div-q
-div-q c = search needs
-
 mul-s : tie.Need-mul-s
 mul-s c = let z = at (c .before .before .before) in omega arith
 
 add-s : tie.Need-add-s
 add-s c = let z = at (c .before .before .before) in omega arith
-
-rem-m : tie.Need-rem-m
-rem-m c = search needs
 
 mul-m : tie.Need-mul-m
 mul-m c = let z = at (c .before .before .before) in omega arith
@@ -84,23 +75,4 @@ returns-2 c =
     less-one (start .args .b) (start .args .h .s) (start .args .h .r) (start .args .a) (start .args .c) _ refl (x .left) (x .first) (x .second) (x .base) (z .some) (q-of start) (u-of start) (z .whole-of) (z .rest) (c .if1 .left)
 
 pub extend-spec : {M : Type 1} → statement M
-extend-spec =
-    tie.close
-    (tie.spec
-    mul-d
-    mul-t
-    add-t
-    div-q
-    mul-s
-    add-s
-    rem-m
-    mul-m
-    add-m
-    mul-p
-    sub-t16
-    mul-t17
-    add-t18
-    sub-t19
-    sub-t20
-    returns
-    returns-2)
+extend-spec = tie.close (tie.spec (λ c. search needs) mul-t add-t (λ c. search needs) mul-s add-s (λ c. search needs) mul-m add-m mul-p sub-t16 mul-t17 add-t18 sub-t19 sub-t20 returns returns-2)

@@ -37,18 +37,6 @@ in-64 x h = omega arith
 less : (x : ℕ) → x + 1 < 18014398509481984 → x < 18014398509481984
 less x h = omega arith
 
-mul-d : tie.Need-mul-d
-mul-d c = search needs
-
-mul-t : tie.Need-mul-t
-mul-t c = search needs
-
-div-q : tie.Need-div-q
-div-q c = search needs
-
-mul-s : tie.Need-mul-s
-mul-s c = search needs
-
 add-s : tie.Need-add-s
 add-s c = let z = steps (c .before .before .before) in omega arith
 
@@ -57,9 +45,6 @@ mul-if1 c = let z = steps (c .before .before .before) in omega arith
 
 add-if1 : tie.Need-add-if1
 add-if1 c = let z = steps (c .before .before .before) in omega arith
-
-rem-if1 : tie.Need-rem-if1
-rem-if1 c = search needs
 
 mul-if1-2 : tie.Need-mul-if1-2
 mul-if1-2 c = let z = steps (c .before .before .before) in omega arith
@@ -80,18 +65,4 @@ returns-2 c =
     (last-down (d .args .h .s) (d .args .h .r) (q-of d) (u-of d) (d .pre .0) (d .pre .1) (d .pre .2) (z .whole) (z .rest) (c .if1 .left), less _ (below (d .args .h .s) (q-of d) (d .pre .1) (z .small)))
 
 pub nearest106-spec : {M : Type 1} → statement M
-nearest106-spec =
-    tie.close
-    (tie.spec
-    mul-d
-    mul-t
-    div-q
-    mul-s
-    add-s
-    mul-if1
-    add-if1
-    rem-if1
-    mul-if1-2
-    add-result
-    returns
-    returns-2)
+nearest106-spec = tie.close (tie.spec (λ c. search needs) (λ c. search needs) (λ c. search needs) (λ c. search needs) add-s mul-if1 add-if1 (λ c. search needs) mul-if1-2 add-result returns returns-2)

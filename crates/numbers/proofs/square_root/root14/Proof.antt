@@ -23,23 +23,8 @@ less c =
     let e = rule (c .before) in
     lower (c .before .before .before .before .args .n) t (t - 1) (omega arith) e (c .if1 .left) (omega arith)
 
-sub-i : tie.Need-sub-i
-sub-i c = search needs
-
-element-copy-out-wide : tie.Need-element-copy-out-wide
-element-copy-out-wide c = search needs
-
-wide-requires : tie.Need-wide-requires
-wide-requires c κs = search needs
-
 mul-if1 : tie.Need-mul-if1
 mul-if1 c = let e = rule c in omega (arith, squared (c .wide .result) (e .hi))
-
-mul-t14 : tie.Need-mul-t14
-mul-t14 c = search needs
-
-sub-t15 : tie.Need-sub-t15
-sub-t15 c = search needs
 
 sub-s : tie.Need-sub-s
 sub-s c = let e = rule (c .before) in omega arith
@@ -57,17 +42,4 @@ returns-2 : tie.Need-returns-2
 returns-2 c = less c .1
 
 pub root14-spec : {M : Type 1} → statement M
-root14-spec =
-    tie.close
-    (tie.spec
-    sub-i
-    element-copy-out-wide
-    wide-requires
-    mul-if1
-    mul-t14
-    sub-t15
-    sub-s
-    mul-t16
-    sub-t17
-    returns
-    returns-2)
+root14-spec = tie.close (tie.spec (λ c. search needs) (λ c. search needs) (λ c κs. search needs) mul-if1 (λ c. search needs) (λ c. search needs) sub-s mul-t16 sub-t17 returns returns-2)

@@ -14,20 +14,8 @@ m-of c = (4503599627370496 + c .args .b % 4503599627370496) * (2 - c .args .b / 
 m-in : (c : tie.Start) → (4503599627370496 ≤ m-of c) × (m-of c < 18014398509481984)
 m-in c = doubled (4503599627370496 + c .args .b % 4503599627370496) (2 - c .args .b / 4503599627370496 % 2) (omega arith) (omega arith) (omega arith) (omega arith)
 
-add-n : tie.Need-add-n
-add-n c = search needs
-
-sub-n : tie.Need-sub-n
-sub-n c = search needs
-
 mul-n : tie.Need-mul-n
 mul-n c = let h = m-in c in omega arith
-
-add-result : tie.Need-add-result
-add-result c = search needs
-
-mul-result : tie.Need-mul-result
-mul-result c = search needs
 
 root54-requires : tie.Need-root54-requires
 root54-requires c κs = m-in c
@@ -49,15 +37,4 @@ returns c =
     (c .nearest106 .ensures .0 ∙ ap (λ (n : ℕ). nearestRoot (n * 4503599627370496)) (c .before .root54 .ensures .0))
 
 pub root-bits-spec : {M : Type 1} → statement M
-root-bits-spec =
-    tie.close
-    (tie.spec
-    add-n
-    sub-n
-    mul-n
-    add-result
-    mul-result
-    root54-requires
-    nearest106-requires
-    add-result-2
-    returns)
+root-bits-spec = tie.close (tie.spec (λ c. search needs) (λ c. search needs) mul-n (λ c. search needs) (λ c. search needs) root54-requires nearest106-requires add-result-2 returns)
