@@ -69,15 +69,12 @@ pub median-within : (k : ℕ) (a b c : Float) → Within k a → Within k b → 
 median-within k a b c = median-keeps (Within k) a b c
 
 -- ---- from comparisons
-one-cross : (a c p : ℕ) → a * 1 + 0 ≤ 1 * p * c + 0 → a ≤ p * c
-one-cross a c p h = omega arith
-
 -- A value whose size is at most 2 ^ k is bounded by it.
 pub within-of-le : (k : ℕ) (x : Float) → T (le (absOf x) (fin false 1 (pos k))) → Within k x
 unfolding absOf
 within-of-le k nan h = unfold le in h
 within-of-le k (inf s) h = unfold le in h
-within-of-le k (fin s m e) h = one-cross (m * up e) (down e) (2 ^ k) (le→at-most false m e false 1 (pos k) h)
+within-of-le k (fin s m e) h = omega (arith, le→at-most false m e false 1 (pos k) h)
 
 -- A bounded value's size is at most 2 ^ k.
 pub le-of-within : (k : ℕ) (x : Float) → Within k x → T (le (absOf x) (fin false 1 (pos k)))
@@ -141,18 +138,15 @@ power-fits binary64 k h = lt→ltb (1 * 2 ^ k) (2 ^ 1024 * 1) (power-lt k 1023 h
 round-positive : (f : Format) (k a c : ℕ) → 0 < c → k ≤ emax f → a ≤ 2 ^ k * c → Within k (round f false a c)
 round-positive f k a c C K h =
     go (round f false a c) (round-signed f false a c)
-    (subst (λ (v : Float). T (le (round f false a c) v)) (round-value f (fin false 1 (pos k)) false (2 ^ k) 1 (zero-lt-suc 0) (power-fits f k K) (refl, power (2 ^ k)))
+    (subst (λ (v : Float). T (le (round f false a c) v)) (round-value f (fin false 1 (pos k)) false (2 ^ k) 1 (zero-lt-suc 0) (power-fits f k K) (refl, omega arith))
     (round-mono f a c (2 ^ k) 1 C (zero-lt-suc 0) (le-trans (le-of-eq (mul-one a)) h)))
   where
-    power : (p : ℕ) → 1 * p * 1 ≡ p * 1
-    power p = omega arith
-
     go : (x : Float) → Signed false x → T (le x (fin false 1 (pos k))) → Within k x
     go nan s l = absurd s
     go (inf true) s l = absurd (true≢false s)
     go (inf false) s l = absurd (unfold le in l)
     go (fin true m e) s l = absurd (true≢false s)
-    go (fin false m e) s l = one-cross (m * up e) (down e) (2 ^ k) (le→at-most false m e false 1 (pos k) l)
+    go (fin false m e) s l = omega (arith, le→at-most false m e false 1 (pos k) l)
 
 -- A fraction of at most 2 ^ k rounds to a value of at most 2 ^ k.
 pub round-within : (f : Format) (k : ℕ) (s : Bool) (a c : ℕ) → 0 < c → k ≤ emax f → a ≤ 2 ^ k * c → Within k (round f s a c)
@@ -220,8 +214,5 @@ mix-within k a b w K v u lo hi =
     more : (k : ℕ) → k + 1 ≤ 127 → k + 1 ≤ 1023
     more k h = omega arith
 
-    fewer : (k : ℕ) → k + 1 ≤ 127 → 0 + k ≤ 1023
-    fewer k h = omega arith
-
     times : (x y : Float) → Within 0 x → Within k y → Within k (mul binary64 x y)
-    times x y v w = subst (λ (j : ℕ). Within j (mul binary64 x y)) (zero-add k) (mul-within binary64 0 k x y (fewer k K) v w)
+    times x y v w = subst (λ (j : ℕ). Within j (mul binary64 x y)) (zero-add k) (mul-within binary64 0 k x y (omega arith) v w)

@@ -58,11 +58,7 @@ mul-by-one f x p = ap (mul f x) (one-is f) ∙ go x p
     go : (x : Float) → T (fits f x) → mul f x (fin false 1 (pos 0)) ≡ x
     go nan p = unfold mul in refl
     go (inf s) p = unfold mul in ap inf (unlike-false s)
-    go (fin s m e) p = mul-held f s m e false 1 (pos 0) (fin s m e) p (sym (unlike-false s), turn (m * up e) (down e))
-      where
-        turn : (a c : ℕ) → a * (c * 1) ≡ a * (1 * 1) * c
-        turn a c = omega arith
-
+    go (fin s m e) p = mul-held f s m e false 1 (pos 0) (fin s m e) p (sym (unlike-false s), omega arith)
 -- The product in binary64 of two finite values of binary32 is exact, so it is finite.
 pub mul-exact : (s : Bool) (m : ℕ) (e : ℤ) (t : Bool) (n : ℕ) (d : ℤ) → T (fits binary32 (fin s m e)) → T (fits binary32 (fin t n d))
     → HasValue (mul binary64 (fin s m e) (fin t n d)) (unlike s t) (m * up e * (n * up d)) (down e * down d)
@@ -86,14 +82,7 @@ mul-exact s m e t n d p q =
         regroup x y p q r = omega arith
 
     whole : (a b A B c g L R : ℕ) → a * L ≡ A * c → b * L ≡ B * g → a * b * (L * L * R) ≡ A * B * R * (c * g)
-    whole a b A B c g L R e h = one a b L R ∙ ap (λ (x : ℕ). x * (b * L) * R) e ∙ ap (λ (x : ℕ). A * c * x * R) h ∙ two A B c g R
-      where
-        one : (a b L R : ℕ) → a * b * (L * L * R) ≡ a * L * (b * L) * R
-        one a b L R = omega arith
-
-        two : (A B c g R : ℕ) → A * c * (B * g) * R ≡ A * B * R * (c * g)
-        two A B c g R = omega arith
-
+    whole a b A B c g L R e h = (omega arith) ∙ ap (λ (x : ℕ). x * (b * L) * R) e ∙ ap (λ (x : ℕ). A * c * x * R) h ∙ (omega arith)
 -- ---- sums
 -- x + y = v, as whole numbers over the product of the three denominators: what is positive on either side and negative on the other
 abbrev pub Adds : Float → Float → Float → Type 0
@@ -120,14 +109,8 @@ agree s a t b u R c p w r h k =
 signs : (u : Bool) (R c p : ℕ) (w : Bool) (r : ℕ) → 0 < R * c → plus w r * p + minus u R * c ≡ plus u R * c + minus w r * p → (u ≡ w) × (R * c ≡ r * p)
 signs false R c p false r P h = (refl, omega arith)
 signs true R c p true r P h = (refl, omega arith)
-signs true R c p false r P h = absurd (no (r * p) (R * c) P h)
-  where
-    no : (x y : ℕ) → 0 < y → x + y ≡ 0 * c + 0 * p → ⊥
-    no x y P h = omega arith
-signs false R c p true r P h = absurd (no (r * p) (R * c) P h)
-  where
-    no : (x y : ℕ) → 0 < y → 0 * p + 0 * c ≡ y + x → ⊥
-    no x y P h = omega arith
+signs true R c p false r P h = absurd (omega arith)
+signs false R c p true r P h = absurd (omega arith)
 
 -- A sum that is exactly a value of the format other than zero is that value.
 pub add-exact : (f : Format) (x y : Float) (u : Bool) (k : ℕ) (g : ℤ) → T (fits f (fin u (suc k) g)) → Adds x y (fin u (suc k) g) → add f x y ≡ fin u (suc k) g

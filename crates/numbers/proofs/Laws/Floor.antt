@@ -64,18 +64,12 @@ neg-pos (suc j) k = tt
 
 neg-neg : (j k : ℕ) → k ≤ j → T (leZ (negℤ (pos j)) (negℤ (pos k)))
 neg-neg zero zero h = tt
-neg-neg zero (suc k) h = absurd (no k h)
-  where
-    no : (k : ℕ) → suc k ≤ 0 → ⊥
-    no k h = omega arith
+neg-neg zero (suc k) h = absurd (omega arith)
 neg-neg (suc j) zero h = tt
 neg-neg (suc j) (suc k) h = le→leb k j (le-of-suc-le-suc h)
 
 min-mono : (a b c : ℕ) → a ≤ b → min a c ≤ min b c
 min-mono a b c h = omega arith
-
-min-le : (a c : ℕ) → min a c ≤ c
-min-le a c = omega arith
 
 -- the ends of the range
 floor-least : (x : Float) → T (leZ (negsuc 9223372036854775807) (floorOf x))
@@ -83,7 +77,7 @@ unfolding floorOf
 floor-least nan = tt
 floor-least (inf true) = tt
 floor-least (inf false) = tt
-floor-least (fin true m e) = neg-neg 9223372036854775808 (min (ceiling (m * up e) (down e)) 9223372036854775808) (min-le (ceiling (m * up e) (down e)) 9223372036854775808)
+floor-least (fin true m e) = neg-neg 9223372036854775808 (min (ceiling (m * up e) (down e)) 9223372036854775808) (omega arith)
 floor-least (fin false m e) = tt
 
 floor-most : (x : Float) → T (leZ (floorOf x) (pos 9223372036854775807))
@@ -92,7 +86,7 @@ floor-most nan = tt
 floor-most (inf true) = tt
 floor-most (inf false) = tt
 floor-most (fin true m e) = neg-pos (min (ceiling (m * up e) (down e)) 9223372036854775808) 9223372036854775807
-floor-most (fin false m e) = le→leb (min (m * up e / down e) 9223372036854775807) 9223372036854775807 (min-le (m * up e / down e) 9223372036854775807)
+floor-most (fin false m e) = le→leb (min (m * up e / down e) 9223372036854775807) 9223372036854775807 (omega arith)
 
 -- The floor of a value is at most that of a larger one.
 pub floor-mono : (x y : Float) → T (le x y) → T (leZ (floorOf x) (floorOf y))
@@ -110,10 +104,7 @@ floor-mono (fin false m e) (fin false n d) h =
     let q = m * up e / down e in
     let r = n * up d / down d in
     le→leb (min q 9223372036854775807) (min r 9223372036854775807)
-    (min-mono q r 9223372036854775807 (div-mono (m * up e) (down e) (n * up d) (down d) (down-pos e) (down-pos d) (plain (m * up e * down d) (n * up d * down e) (le→at-most false m e false n d h))))
-  where
-    plain : (a b : ℕ) → AtMost false a false b → a ≤ b
-    plain a b h = omega arith
+    (min-mono q r 9223372036854775807 (div-mono (m * up e) (down e) (n * up d) (down d) (down-pos e) (down-pos d) (omega (arith, le→at-most false m e false n d h))))
 floor-mono (fin false m e) (fin true n d) h =
     let z = none (m * up e * down d) (n * up d * down e) (le→at-most false m e true n d h) in
     subst (λ (k : ℕ). T (leZ (floorOf (fin false k e)) (floorOf (fin true n d)))) (sym (zero-of m (up e) (up-pos e) (zero-of (m * up e) (down d) (down-pos d) (z .0))))
@@ -138,15 +129,8 @@ pub floor-fits : (x : Float) → SFits w64 (floorOf x)
 floor-fits x = record { sfits = go (floorOf x) (floor-least x) (floor-most x) }
   where
     go : (z : ℤ) → T (leZ (negsuc 9223372036854775807) z) → T (leZ z (pos 9223372036854775807)) → mag z < 9223372036854775808
-    go (pos k) a b = under k (leb→le k 9223372036854775807 b)
-      where
-        under : (k : ℕ) → k ≤ 9223372036854775807 → k < 9223372036854775808
-        under k h = omega arith
-    go (negsuc k) a b = under k (leb→le k 9223372036854775807 a)
-      where
-        under : (k : ℕ) → k ≤ 9223372036854775807 → k < 9223372036854775808
-        under k h = omega arith
-
+    go (pos k) a b = omega (arith, leb→le k 9223372036854775807 b)
+    go (negsuc k) a b = omega (arith, leb→le k 9223372036854775807 a)
 -- A value of a size up to n has a floor of a size up to n.
 pub floor-size : (n : ℕ) (s : Bool) (m : ℕ) (e : ℤ) → m * up e ≤ n * down e → natAbs (floorOf (fin s m e)) ≤ n
 unfolding floorOf

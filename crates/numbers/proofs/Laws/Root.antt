@@ -81,10 +81,7 @@ square n j P F J = record {
 -- ---- the steps from q * 2 ^ k, a number of 53 digits and k zeros, to the next values on its two sides
 -- a value with fewer zeros is smaller
 fewer : (n k j : ℕ) → n < 2 ^ 53 → j < k → n * 2 ^ j < 4503599627370496 * 2 ^ k
-fewer n k j F h = lt-of-lt-of-le (shl-lt 53 j F) (le-trans (pow-mono (more k j h)) (le-of-eq (pow-add 2 52 k)))
-  where
-    more : (k j : ℕ) → j < k → 53 + j ≤ 52 + k
-    more k j h = omega arith
+fewer n k j F h = lt-of-lt-of-le (shl-lt 53 j F) (le-trans (pow-mono (omega arith)) (le-of-eq (pow-add 2 52 k)))
 
 gap-above : (q k n j : ℕ) → 4503599627370496 ≤ q → n < 2 ^ 53 → q * 2 ^ k < n * 2 ^ j → suc q * 2 ^ k ≤ n * 2 ^ j
 gap-above q k n j Q F h = elim (le-or-lt k j) [
@@ -97,25 +94,16 @@ gap-below q k n j Q F h = elim (le-or-lt k j) [
   | inl g ↦
       let a = n * 2 ^ (j - k) in
       let l : suc a * 2 ^ k ≤ q * 2 ^ k = mul-le-mul-right (2 ^ k) (lt-of-mul-lt-mul-right (2 ^ k) (lt-of-le-of-lt (le-of-eq (sym (shifted n k j g))) h)) in
-      le-trans (le-of-eq (ap (λ (x : ℕ). x + 2 ^ k) (shifted n k j g))) (one-more a (2 ^ k) (q * 2 ^ k) l)
-  | inr g ↦ under (n * 2 ^ j) (2 ^ k) (q * 2 ^ k) (fewer n k j F g) (mul-le-mul-right (2 ^ k) Q)
+      le-trans (le-of-eq (ap (λ (x : ℕ). x + 2 ^ k) (shifted n k j g))) (omega arith)
+  | inr g ↦ (omega (arith, fewer n k j F g, mul-le-mul-right (2 ^ k) Q))
 ]
-  where
-    one-more : (a p x : ℕ) → suc a * p ≤ x → a * p + p ≤ x
-    one-more a p x h = omega arith
-
-    under : (b p x : ℕ) → b < 4503599627370496 * p → 4503599627370497 * p ≤ x → b + p ≤ x
-    under b p x h g = omega arith
 
 -- ---- the squares of the midpoints, in units
 above-units : (q p B M : ℕ) → 0 < p → suc q * p ≤ B → M * 4 < (2 * q + 1) * (2 * q + 1) → 4 * (M * (p * p)) < (q * p + B) * (q * p + B)
 above-units q p B M P g h =
     let l : (2 * q + 1) * p ≤ q * p + B = omega arith in
-    lt-of-le-of-lt (le-of-eq (regroup M (p * p)))
+    lt-of-le-of-lt (le-of-eq (omega arith))
     (lt-of-lt-of-le (mul-lt-mul-of-pos-right h (mul-pos P P)) (le-trans (le-of-eq (sym (mul-mul-mul-comm (2 * q + 1) p (2 * q + 1) p))) (mul-le-mul l l)))
-  where
-    regroup : (M x : ℕ) → 4 * (M * x) ≡ M * 4 * x
-    regroup M x = omega arith
 
 below-units : (r p B M : ℕ) → 0 < p → B + p ≤ suc r * p → (2 * suc r - 1) * (2 * suc r - 1) < M * 4 + 1 → (suc r * p + B) * (suc r * p + B) < 4 * (M * (p * p))
 below-units r p B M P g h =
@@ -137,15 +125,9 @@ below-half : (r p B M : ℕ) → 0 < p → 2 * B + p ≤ 2 * (suc r * p) → suc
 below-half r p B M P g h =
     let l : 2 * (suc r * p + B) ≤ (4 * r + 3) * p = omega arith in
     quarter ((suc r * p + B) * (suc r * p + B)) (M * (p * p))
-    (lt-of-le-of-lt (le-trans (le-of-eq (twice (suc r * p + B))) (le-trans (mul-le-mul l l) (le-of-eq (mul-mul-mul-comm (4 * r + 3) p (4 * r + 3) p))))
-    (lt-of-lt-of-le (mul-lt-mul-of-pos-right (less r M h) (mul-pos P P)) (le-of-eq (mul-assoc 16 M (p * p)))))
+    (lt-of-le-of-lt (le-trans (le-of-eq (omega arith)) (le-trans (mul-le-mul l l) (le-of-eq (mul-mul-mul-comm (4 * r + 3) p (4 * r + 3) p))))
+    (lt-of-lt-of-le (mul-lt-mul-of-pos-right (omega arith) (mul-pos P P)) (le-of-eq (mul-assoc 16 M (p * p)))))
   where
-    less : (r M : ℕ) → suc r * suc r ≤ M → (4 * r + 3) * (4 * r + 3) < 16 * M
-    less r M h = omega arith
-
-    twice : (x : ℕ) → 4 * (x * x) ≡ 2 * x * (2 * x)
-    twice x = omega arith
-
     quarter : (x y : ℕ) → 4 * x < 16 * y → x < 4 * y
     quarter x y h = omega arith
 
@@ -154,22 +136,10 @@ sum-units : (a c b d L Q B : ℕ) → a * L ≡ Q * c → b * L ≡ B * d → (a
 sum-units a c b d L Q B e g = omega (arith, ap (λ (x : ℕ). x * d) e, ap (λ (x : ℕ). x * c) g)
 
 squared : (S L X w den : ℕ) → S * L ≡ X * w → S * S * den * (L * L) ≡ X * X * (w * w * den)
-squared S L X w den e = one S L den ∙ ap (λ (z : ℕ). z * z * den) e ∙ two X w den
-  where
-    one : (S L den : ℕ) → S * S * den * (L * L) ≡ S * L * (S * L) * den
-    one S L den = omega arith
-
-    two : (X w den : ℕ) → X * w * (X * w) * den ≡ X * X * (w * w * den)
-    two X w den = omega arith
+squared S L X w den e = (omega arith) ∙ ap (λ (z : ℕ). z * z * den) e ∙ (omega arith)
 
 scaled : (num den L N w : ℕ) → num * L ≡ N * den → 4 * num * (w * w) * (L * L) ≡ 4 * (N * L) * (w * w * den)
-scaled num den L N w e = one num L w ∙ ap (λ (z : ℕ). 4 * z * L * (w * w)) e ∙ two N den L w
-  where
-    one : (num L w : ℕ) → 4 * num * (w * w) * (L * L) ≡ 4 * (num * L) * L * (w * w)
-    one num L w = omega arith
-
-    two : (N den L w : ℕ) → 4 * (N * den) * L * (w * w) ≡ 4 * (N * L) * (w * w * den)
-    two N den L w = omega arith
+scaled num den L N w e = (omega arith) ∙ ap (λ (z : ℕ). 4 * z * L * (w * w)) e ∙ (omega arith)
 
 module _ (a c b d num den L N Q B : ℕ) (C : 0 < c) (D : 0 < d) (E : 0 < den) (e : a * L ≡ Q * c) (g : b * L ≡ B * d) (h : num * L ≡ N * den) where
   abbrev S : ℕ
@@ -212,10 +182,7 @@ over M k q n j lo F br h =
 
 under : (M k q n j : ℕ) → 1 ≤ k → 2 ^ 104 ≤ M → 4503599627370496 ≤ q → n < 2 ^ 53 → (2 * q - 1) * (2 * q - 1) < M * 4 + 1 → n * 2 ^ j < q * 2 ^ k
     → (q * 2 ^ k + n * 2 ^ j) * (q * 2 ^ k + n * 2 ^ j) < 4 * (M * 4 ^ k)
-under M k zero n j K big lo F br h = absurd (none lo)
-  where
-    none : 4503599627370496 ≤ 0 → ⊥
-    none h = omega arith
+under M k zero n j K big lo F br h = absurd (omega arith)
 under M zero (suc r) n j K big lo F br h = absurd (lt-irrefl 0 K)
 under M (suc i) (suc r) n j K big lo F br h =
     let q = suc r in
@@ -293,11 +260,7 @@ pub root-only : (f : Format) (num den m : ℕ) (e : ℤ) (n : ℕ) (d : ℤ) →
 root-only f num den m e n d x y = go (le-or-lt (m * up e * down d) (n * up d * down e))
   where
     clash : (a c b d num den : ℕ) → MidpointAbove a c b d num den → MidpointBelow b d a c num den → ⊥
-    clash a c b d num den h k = lt-irrefl (4 * num * (c * d * (c * d))) (lt-of-lt-of-le h (le-trans (le-of-eq (ap (λ (z : ℕ). z * z * den) (swap a c b d))) (le-trans (le-of-lt k) (le-of-eq (ap (λ (z : ℕ). 4 * num * (z * z)) (mul-comm d c))))))
-      where
-        swap : (a c b d : ℕ) → a * d + b * c ≡ b * c + a * d
-        swap a c b d = omega arith
-
+    clash a c b d num den h k = lt-irrefl (4 * num * (c * d * (c * d))) (lt-of-lt-of-le h (le-trans (le-of-eq (ap (λ (z : ℕ). z * z * den) (omega arith))) (le-trans (le-of-lt k) (le-of-eq (ap (λ (z : ℕ). 4 * num * (z * z)) (mul-comm d c))))))
     go : (m * up e * down d ≤ n * up d * down e) ⊎ (n * up d * down e < m * up e * down d) → fin false m e ≡ fin false n d
     go (inl l) = elim (eq-or-lt-of-le l) [
       | inl s ↦ value-unique f (fin false m e) (fin false n d) false (m * up e) (down e) (down-pos e) (x .held) (y .held) (refl, refl) (refl, sym s)

@@ -175,12 +175,9 @@ unlike-sum-comm : (f : Format) (a b c : ℕ) → sum f false a true b c ≡ sum 
 unfolding sum
 unlike-sum-comm f a b c = go (ltb a b) (ltb→lt a b) (nltb→le a b) (ltb b a) (ltb→lt b a) (nltb→le b a)
   where
-    never : a < b → b < a → ⊥
-    never h k = omega arith
-
     go : (x : Bool) → (T x → a < b) → (T (not x) → b ≤ a) → (y : Bool) → (T y → b < a) → (T (not y) → a ≤ b)
         → cond x (round f true (b - a) c) (round f false (a - b) c) ≡ cond y (round f false (a - b) c) (round f x (b - a) c)
-    go true l g true l' g' = absurd (never (l tt) (l' tt))
+    go true l g true l' g' = absurd (omega (arith, l tt, l' tt))
     go true l g false l' g' = refl
     go false l g true l' g' = refl
     go false l g false l' g' = let k : b ≤ a = g tt in let k' : a ≤ b = g' tt in ap (λ (z : ℕ). round f false z c) (omega arith)

@@ -65,11 +65,8 @@ order-units L A de X B dd Y P Q p q h = le-of-mul-le-mul-right (bound (mul-le-mu
 last : (f : Format) (s : Bool) (k j : ℕ) → (cond s (top f) 0 + (k * hid f + j)) % 2 ≡ j % 2
 last f s k j = subst (λ (h : ℕ). (cond s (h * suc (ones f)) 0 + (k * h + j)) % 2 ≡ j % 2) (sym hid-even) (go s (2 ^ (prec f - 2)) (suc (ones f)))
   where
-    less : (p : ℕ) → 2 ≤ p → p - 1 ≡ suc (p - 2)
-    less p h = omega arith
-
     hid-even : hid f ≡ 2 * 2 ^ (prec f - 2)
-    hid-even = ap (λ (x : ℕ). 2 ^ x) (less (prec f) (two f)) ∙ pow-succ' 2 (prec f - 2)
+    hid-even = ap (λ (x : ℕ). 2 ^ x) (omega (arith, two f)) ∙ pow-succ' 2 (prec f - 2)
 
     go : (s : Bool) (g x : ℕ) → (cond s (2 * g * x) 0 + (k * (2 * g) + j)) % 2 ≡ j % 2
     go true g x = omega arith

@@ -12,22 +12,16 @@ use lib.Ieee.Bits.{toBits-lt, ofBits-toBits, nanBits-is}
 use Rattle.numbers.specs.Scalar.{absOf}
 use Rattle.numbers.proofs.Laws.Order.{abs-number}
 
-regroup : (t a b : ℕ) → t + a + b ≡ t + (0 + a + b)
-regroup t a b = omega arith
-
-lower : (a t : ℕ) → t + a < 2 * t → a < t
-lower a t h = omega arith
-
 negative-bits : (f : Format) (m : ℕ) (e : ℤ) → toBits f (fin true m e) ≡ top f + toBits f (fin false m e)
 unfolding toBits
-negative-bits f m e = regroup _ _ _
+negative-bits f m e = omega arith
 
 flipped : (f : Format) (m : ℕ) (e : ℤ) → T (fits f (fin false m e)) → T (fits f (fin true m e))
 unfolding neg
 flipped f m e h = neg-fits f (fin false m e) h
 
 pub size-lt-top : (f : Format) (m : ℕ) (e : ℤ) → T (fits f (fin false m e)) → toBits f (fin false m e) < top f
-size-lt-top f m e h = lower _ _ (subst (λ (n : ℕ). n < 2 * top f) (negative-bits f m e) (toBits-lt f (fin true m e) (flipped f m e h)))
+size-lt-top f m e h = omega (arith, subst (λ (n : ℕ). n < 2 * top f) (negative-bits f m e) (toBits-lt f (fin true m e) (flipped f m e h)))
 
 abs-fits : (f : Format) (x : Float) → T (fits f x) → T (fits f (absOf x))
 unfolding absOf fits

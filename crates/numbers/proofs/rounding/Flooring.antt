@@ -39,10 +39,7 @@ scaled-down m e h = ap (λ (k : ℕ). k / 2 ^ (1075 - e)) (sym (shl-shr m e)) �
 
 pub scaled-up : (m e : ℕ) → m < 9007199254740992 → 1075 ≤ e → e < 1086 → m * 2 ^ (e - 1075) % 18446744073709551616 ≡ scaled m e
 unfolding scaled
-scaled-up m e h lo hi = shl-exact 53 (e - 1075) 64 h (room e hi) ∙ sym (ap (λ (k : ℕ). k / 2 ^ 1075) (shifted m 1075 e lo) ∙ shl-shr (m * 2 ^ (e - 1075)) 1075)
-  where
-    room : (e : ℕ) → e < 1086 → 53 + (e - 1075) ≤ 64
-    room e h = omega arith
+scaled-up m e h lo hi = shl-exact 53 (e - 1075) 64 h (omega arith) ∙ sym (ap (λ (k : ℕ). k / 2 ^ 1075) (shifted m 1075 e lo) ∙ shl-shr (m * 2 ^ (e - 1075)) 1075)
 
 pub scaled-lt : (m e : ℕ) → m < 9007199254740992 → e < 1086 → scaled m e < 9223372036854775808
 unfolding scaled
@@ -78,25 +75,13 @@ ceiling-same a b c d B D e = le-antisymm (ceiling-mono a b c d B D (le-of-eq e))
 
 -- of a number above 0 it is one more than the quotient of one less
 pub ceiling-suc : (a c : ℕ) → 0 < a → 0 < c → ceiling a c ≡ suc ((a - 1) / c)
-ceiling-suc a c A C = ap (λ (k : ℕ). k / c) (shift a c A C) ∙ add-mul-div-right (a - 1) 1 C ∙ one ((a - 1) / c)
-  where
-    shift : (a c : ℕ) → 0 < a → 0 < c → a + (c - 1) ≡ a - 1 + 1 * c
-    shift a c A C = omega arith
-
-    one : (q : ℕ) → q + 1 ≡ suc q
-    one q = omega arith
+ceiling-suc a c A C = ap (λ (k : ℕ). k / c) (omega arith) ∙ add-mul-div-right (a - 1) 1 C ∙ (omega arith)
 
 pub ceiling-zero : (c : ℕ) → 0 < c → ceiling 0 c ≡ 0
-ceiling-zero c C = div-eq-of-lt (less c C)
-  where
-    less : (c : ℕ) → 0 < c → 0 + (c - 1) < c
-    less c C = omega arith
+ceiling-zero c C = div-eq-of-lt (omega arith)
 
 ceiling-whole : (q c : ℕ) → 0 < c → ceiling (q * c) c ≡ q
-ceiling-whole q c C = digits-div q (less c C)
-  where
-    less : (c : ℕ) → 0 < c → c - 1 < c
-    less c C = omega arith
+ceiling-whole q c C = digits-div q (omega arith)
 
 -- ---- by the fraction that a value equals
 abbrev floorFrac : Bool → ℕ → ℕ → ℤ
@@ -116,11 +101,7 @@ val-div zero t h = div-eq-of-lt (lt-of-lt-of-le (shl-lt 52 0 h) (lit≤ tt)) ∙
 val-div (suc x) t h = div-same ((4503599627370496 + t) * 2 ^ x) (2 ^ 1074) ((4503599627370496 + t) * 2 ^ suc x) (2 ^ 1075) (pow-pos 1074) (pow-pos 1075) (doubled (4503599627370496 + t) (2 ^ x) (2 ^ suc x) (2 ^ 1074) (pow-succ' 2 x))
   where
     doubled : (m p r l : ℕ) → r ≡ 2 * p → m * p * (2 * l) ≡ m * r * l
-    doubled m p r l e = swap m p l ∙ sym (ap (λ (k : ℕ). m * k * l) e)
-      where
-        swap : (m p l : ℕ) → m * p * (2 * l) ≡ m * (2 * p) * l
-        swap m p l = omega arith
-
+    doubled m p r l e = (omega arith) ∙ sym (ap (λ (k : ℕ). m * k * l) e)
 -- from 2 ^ 52 on there is nothing to cut
 val-whole : (e t : ℕ) → t < 4503599627370496 → 1075 ≤ e → ceiling (val e t) (2 ^ 1074) ≡ scaled (4503599627370496 + t) e
 val-whole zero t h l = absurd (not-suc-le-zero l)
@@ -136,12 +117,9 @@ val-whole (suc x) t h l =
 -- below it, of a number above 0, the next whole number is that after what one digit less is cut to
 val-next : (e t : ℕ) → t < 4503599627370496 → e < 1075 → 0 < e + t → ceiling (val e t) (2 ^ 1074) ≡ suc (scaled (4503599627370496 + t - 1) e)
 val-next zero t h l p =
-    ceiling-suc (t * 2 ^ 0) (2 ^ 1074) (some t p) (pow-pos 1074)
+    ceiling-suc (t * 2 ^ 0) (2 ^ 1074) (omega arith) (pow-pos 1074)
     ∙ ap suc (div-eq-of-lt (lt-of-le-of-lt (less t) (lt-of-lt-of-le (shl-lt 52 0 h) (lit≤ tt))) ∙ scaled-none (4503599627370496 + t - 1) 0 (fits t h) (lit< tt))
   where
-    some : (t : ℕ) → 0 < 0 + t → 0 < t * 1
-    some t p = omega arith
-
     less : (t : ℕ) → t * 1 - 1 ≤ t * 1
     less t = omega arith
 
@@ -151,20 +129,11 @@ val-next (suc x) t h l p =
     let m = 4503599627370496 + t in
     ceiling-same (m * 2 ^ x) (2 ^ 1074) m (2 ^ (1074 - x)) (pow-pos 1074) (pow-pos (1074 - x))
     (mul-assoc m (2 ^ x) (2 ^ (1074 - x)) ∙ ap (λ (k : ℕ). m * k) (sym (pow-add 2 x (1074 - x)) ∙ ap (λ (k : ℕ). 2 ^ k) (join x l)))
-    ∙ ceiling-suc m (2 ^ (1074 - x)) (some t) (pow-pos (1074 - x))
-    ∙ ap suc (ap (λ (k : ℕ). (m - 1) / 2 ^ k) (same x) ∙ scaled-down (m - 1) (suc x) (within x l))
+    ∙ ceiling-suc m (2 ^ (1074 - x)) (omega arith) (pow-pos (1074 - x))
+    ∙ ap suc (ap (λ (k : ℕ). (m - 1) / 2 ^ k) (omega arith) ∙ scaled-down (m - 1) (suc x) (omega arith))
   where
     join : (x : ℕ) → suc x < 1075 → x + (1074 - x) ≡ 1074
     join x h = omega arith
-
-    same : (x : ℕ) → 1074 - x ≡ 1075 - suc x
-    same x = omega arith
-
-    within : (x : ℕ) → suc x < 1075 → suc x ≤ 1075
-    within x h = omega arith
-
-    some : (t : ℕ) → 0 < 4503599627370496 + t
-    some t = omega arith
 
 -- from 2 ^ 63 on it is out of the range
 val-large : (e t : ℕ) → 1086 ≤ e → 9223372036854775808 * 2 ^ 1074 ≤ val e t
@@ -240,13 +209,10 @@ pub minus-cut : (n : ℕ) → 9223372036854775808 ≤ n → (n % 922337203685477
 minus-cut n h z l =
     finite-floor n true (sign n h) (finite-e (e-of n) (more (e-of n) l))
     ∙ ap (λ (q : ℕ). negℤ (pos (min q 9223372036854775808))) (val-next (e-of n) (t-of n) (t-lt n) l (some n z))
-    ∙ ap (λ (q : ℕ). negℤ (pos q)) (capped-most (suc (scaled (m-of n - 1) (e-of n))) (scaled-lt (m-of n - 1) (e-of n) (less (t-of n) (t-lt n)) (more (e-of n) l)))
+    ∙ ap (λ (q : ℕ). negℤ (pos q)) (capped-most (suc (scaled (m-of n - 1) (e-of n))) (scaled-lt (m-of n - 1) (e-of n) (omega (arith, t-lt n)) (more (e-of n) l)))
   where
     more : (e : ℕ) → e < 1075 → e < 1086
     more e h = omega arith
-
-    less : (t : ℕ) → t < 4503599627370496 → 4503599627370496 + t - 1 < 9007199254740992
-    less t h = omega arith
 
     some : (n : ℕ) → (n % 9223372036854775808 ≡ 0 → ⊥) → 0 < n % 9223372036854775808 / 4503599627370496 + n % 9223372036854775808 % 4503599627370496
     some n z = omega arith
@@ -271,15 +237,12 @@ out n s p l t = elim (eq-or-lt-of-le (highest n)) [
     ends true = unfold floorOf in refl
     ends false = unfold floorOf in refl
 
-    top : (q : ℕ) → 9223372036854775808 ≤ q → min q 9223372036854775807 ≡ 9223372036854775807
-    top q h = omega arith
-
     end : (q : ℕ) → 9223372036854775808 ≤ q → min q 9223372036854775808 ≡ 9223372036854775808
     end q h = omega arith
 
     far : (s : Bool) (a c : ℕ) → 0 < c → 9223372036854775808 * c ≤ a → floorFrac s a c ≡ cond s (negsuc 9223372036854775807) (pos 9223372036854775807)
     far true a c C h = ap (λ (q : ℕ). negℤ (pos q)) (end (ceiling a c) (le-of-mul-le-mul-right (le-trans h (le-ceiling a c C)) C))
-    far false a c C h = ap pos (top (a / c) (le-div-iff-mul-le C .1 h))
+    far false a c C h = ap pos (omega (arith, le-div-iff-mul-le C .1 h))
 
 -- ---- the machine's signed numbers
 module _ (q : ℕ) (h : q < 9223372036854775808) where

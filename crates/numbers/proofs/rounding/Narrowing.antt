@@ -45,15 +45,12 @@ abbrev pub val : ℕ → ℕ → ℕ
 val zero t = t * 2 ^ 0
 val (suc x) t = (4503599627370496 + t) * 2 ^ x
 
-differ : (x : ℕ) → suc x < 2047 → suc x ≡ 2047 → ⊥
-differ x h e = omega arith
-
 pub fields-value : (s : Bool) (E t : ℕ) → E < 2047 → HasValue (ofFields binary64 s E t) s (val E t) (2 ^ 1074)
 unfolding ofFields
 fields-value s zero t h = odd-sign 53 s t 0 1074
 fields-value s (suc x) t h =
     subst (λ (v : Float). HasValue v s (val (suc x) t) (2 ^ 1074))
-    (sym (cond-no (eqb (suc x) 2047) (cond (eqb t 0) (inf s) nan) (odd 53 s (4503599627370496 + t) x 1074) (not-T (eqb (suc x) 2047) (λ (u : T (eqb (suc x) 2047)). differ x h (eqb→eq (suc x) 2047 u)))))
+    (sym (cond-no (eqb (suc x) 2047) (cond (eqb t 0) (inf s) nan) (odd 53 s (4503599627370496 + t) x 1074) (not-T (eqb (suc x) 2047) (λ (u : T (eqb (suc x) 2047)). (omega (arith, eqb→eq (suc x) 2047 u))))))
     (odd-sign 53 s (4503599627370496 + t) x 1074)
 
 narrow-fields : (s : Bool) (E t : ℕ) → E < 2047 → narrowOf (ofFields binary64 s E t) ≡ round binary32 s (val E t) (2 ^ 1074)
@@ -131,16 +128,7 @@ digits-lt n = omega arith
 
 unsigned : (n : ℕ) → ofBits binary64 (size-of n) ≡ ofFields binary64 false (exp n) (digits n)
 unfolding exp digits
-unsigned n = ofBits-is (size-of n) ∙ same-fields _ _ _ _ _ _ (is-false _ (lt→nleb 9223372036854775808 (size-of n) (below n))) (twice n) (last n)
-  where
-    below : (n : ℕ) → n % 9223372036854775808 < 9223372036854775808
-    below n = omega arith
-
-    twice : (n : ℕ) → n % 9223372036854775808 % 9223372036854775808 / 4503599627370496 ≡ n % 9223372036854775808 / 4503599627370496
-    twice n = omega arith
-
-    last : (n : ℕ) → n % 9223372036854775808 % 4503599627370496 ≡ n % 4503599627370496
-    last n = omega arith
+unsigned n = ofBits-is (size-of n) ∙ same-fields _ _ _ _ _ _ (is-false _ (lt→nleb 9223372036854775808 (size-of n) (omega arith))) (omega arith) (omega arith)
 
 pub signed : (n : ℕ) → ofBits binary64 n ≡ ofFields binary64 (leb 9223372036854775808 n) (exp n) (digits n)
 unfolding exp digits
@@ -154,15 +142,9 @@ value n = val (exp n) (digits n)
 sign-bit : (n : ℕ) → n < 18446744073709551616 → cond (leb 9223372036854775808 n) 2147483648 0 ≡ n / 9223372036854775808 * 2147483648
 sign-bit n h = go (leb 9223372036854775808 n) (leb→le 9223372036854775808 n) (nleb→lt 9223372036854775808 n)
   where
-    one : (n : ℕ) → 9223372036854775808 ≤ n → n < 18446744073709551616 → 2147483648 ≡ n / 9223372036854775808 * 2147483648
-    one n a b = omega arith
-
-    none : (n : ℕ) → n < 9223372036854775808 → 0 ≡ n / 9223372036854775808 * 2147483648
-    none n a = omega arith
-
     go : (b : Bool) → (T b → 9223372036854775808 ≤ n) → (T (not b) → n < 9223372036854775808) → cond b 2147483648 0 ≡ n / 9223372036854775808 * 2147483648
-    go true p q = one n (p tt) h
-    go false p q = none n (q tt)
+    go true p q = omega (arith, p tt)
+    go false p q = omega (arith, q tt)
 
 -- ---- below 2 ^ -126, by the pattern
 abbrev pub yOf : ℕ → Float
@@ -280,22 +262,13 @@ mid-round s sig k lo hi =
     let n = sig * 2 ^ x * 2 ^ 149 in
     let shape : n ≡ sig * 2 ^ (x + 149) = mul-assoc sig (2 ^ x) (2 ^ 149) ∙ ap (λ (z : ℕ). sig * z) (sym (pow-add 2 x 149)) in
     let a : 2 ^ (24 - 1 + k) * 2 ^ 1074 ≤ n =
-    le-trans (le-of-eq (sym (pow-add 2 (23 + k) 1074) ∙ ap (λ (z : ℕ). 2 ^ z) (ea k) ∙ pow-add 2 52 (x + 149))) (le-trans (mul-le-mul-right (2 ^ (x + 149)) lo) (le-of-eq (sym shape))) in
+    le-trans (le-of-eq (sym (pow-add 2 (23 + k) 1074) ∙ ap (λ (z : ℕ). 2 ^ z) (omega arith) ∙ pow-add 2 52 (x + 149))) (le-trans (mul-le-mul-right (2 ^ (x + 149)) lo) (le-of-eq (sym shape))) in
     let b : n < 2 ^ (24 + k) * 2 ^ 1074 =
-    lt-of-le-of-lt (le-of-eq shape) (lt-of-lt-of-le (mul-lt-mul-of-pos-right hi (pow-pos (x + 149))) (le-of-eq (sym (pow-add 2 53 (x + 149)) ∙ ap (λ (z : ℕ). 2 ^ z) (eb k) ∙ pow-add 2 (24 + k) 1074))) in
+    lt-of-le-of-lt (le-of-eq shape) (lt-of-lt-of-le (mul-lt-mul-of-pos-right hi (pow-pos (x + 149))) (le-of-eq (sym (pow-add 2 53 (x + 149)) ∙ ap (λ (z : ℕ). 2 ^ z) (omega arith) ∙ pow-add 2 (24 + k) 1074))) in
     let c : n * 536870912 ≡ sig * (2 ^ 1074 * 2 ^ k) =
-    ap (λ (z : ℕ). z * 536870912) shape ∙ mul-assoc sig (2 ^ (x + 149)) 536870912 ∙ ap (λ (z : ℕ). sig * z) (sym (pow-add 2 (x + 149) 29) ∙ ap (λ (z : ℕ). 2 ^ z) (ec k) ∙ pow-add 2 1074 k) in
+    ap (λ (z : ℕ). z * 536870912) shape ∙ mul-assoc sig (2 ^ (x + 149)) 536870912 ∙ ap (λ (z : ℕ). sig * z) (sym (pow-add 2 (x + 149) 29) ∙ ap (λ (z : ℕ). 2 ^ z) (omega arith) ∙ pow-add 2 1074 k) in
     round-at binary32 s (sig * 2 ^ x) (2 ^ 1074) k (drop-is 24 n (2 ^ 1074) k (lit< tt) (pow-pos 1074) a b)
     ∙ ap (λ (q : ℕ). units binary32 s q k) (closest-same n (2 ^ 1074 * 2 ^ k) sig 536870912 (mul-pos (pow-pos 1074) (pow-pos k)) (lit< tt) c)
-  where
-    ea : (k : ℕ) → 23 + k + 1074 ≡ 52 + (896 + k + 149)
-    ea k = omega arith
-
-    eb : (k : ℕ) → 53 + (896 + k + 149) ≡ 24 + k + 1074
-    eb k = omega arith
-
-    ec : (k : ℕ) → 896 + k + 149 + 29 ≡ 1074 + k
-    ec k = omega arith
 
 -- ---- to the nearest multiple of 2 ^ 29, as the program does it
 rounded : (b : ℕ) → closest b 536870912 ≡ (b + 268435455 + b / 536870912 % 2) / 536870912
@@ -307,16 +280,10 @@ rounded b = go (compare (b % 536870912 * 2) 536870912) (cmp (b % 536870912 * 2) 
     go Ordering·gt h = omega arith
 
 mid-lo : (sig : ℕ) → 4503599627370496 ≤ sig → 8388608 ≤ closest sig 536870912
-mid-lo sig h = le-trans (d sig h) (nearest-ge (sig / 536870912) (compare (sig % 536870912 * 2) 536870912))
-  where
-    d : (sig : ℕ) → 4503599627370496 ≤ sig → 8388608 ≤ sig / 536870912
-    d sig h = omega arith
+mid-lo sig h = le-trans (omega arith) (nearest-ge (sig / 536870912) (compare (sig % 536870912 * 2) 536870912))
 
 mid-hi : (sig : ℕ) → sig < 9007199254740992 → closest sig 536870912 ≤ 16777216
-mid-hi sig h = le-trans (nearest-le (sig / 536870912) (compare (sig % 536870912 * 2) 536870912)) (d sig h)
-  where
-    d : (sig : ℕ) → sig < 9007199254740992 → suc (sig / 536870912) ≤ 16777216
-    d sig h = omega arith
+mid-hi sig h = le-trans (nearest-le (sig / 536870912) (compare (sig % 536870912 * 2) 536870912)) (omega arith)
 
 -- the pattern's field is 897 + k, and so its size is sig + (896 + k) * 2 ^ 52
 mid-exp : (n : ℕ) → 4039728865751334912 ≤ size-of n → exp n ≡ suc (896 + (exp n - 897))
@@ -336,18 +303,12 @@ mid-units n k e h =
     ∙ ap (λ (N : ℕ). round binary32 (leb 9223372036854775808 n) N (2 ^ 1074)) (mid-value n k e)
     ∙ mid-round (leb 9223372036854775808 n) (4503599627370496 + digits n) k (lead-lo (digits n)) (with-lead (digits n) (digits-lt n))
 
-even : (x : ℕ) → x * 8388608 % 2 ≡ 0
-even x = omega arith
-
 mid-is : (n k : ℕ) → exp n ≡ suc (896 + k) → k * 8388608 + closest (4503599627370496 + digits n) 536870912 ≡ (size-of n + 268435455 + size-of n / 536870912 % 2) / 536870912 - 7516192768
 mid-is n k e =
     let sig = 4503599627370496 + digits n in
     let a : closest (size-of n) 536870912 ≡ closest sig 536870912 + (896 + k) * 8388608 =
-    ap (λ (b : ℕ). closest b 536870912) (mid-size n k e) ∙ closest-shift sig 536870912 ((896 + k) * 8388608) (lit< tt) (even (896 + k)) in
-    less ((size-of n + 268435455 + size-of n / 536870912 % 2) / 536870912) (closest sig 536870912) k (sym (rounded (size-of n)) ∙ a)
-  where
-    less : (r q k : ℕ) → r ≡ q + (896 + k) * 8388608 → k * 8388608 + q ≡ r - 7516192768
-    less r q k e = omega arith
+    ap (λ (b : ℕ). closest b 536870912) (mid-size n k e) ∙ closest-shift sig 536870912 ((896 + k) * 8388608) (lit< tt) (omega arith) in
+    omega (arith, sym (rounded (size-of n)) ∙ a)
 
 mid-fit : (n k q : ℕ) → exp n ≡ suc (896 + k) → size-of n < 5183643171103440896 → q ≤ 16777216 → k * 8388608 + q ≤ 255 * 8388608
 unfolding exp
@@ -377,15 +338,9 @@ high-k : (n : ℕ) → 5183643171103440896 ≤ size-of n → 254 ≤ exp n - 897
 unfolding exp
 high-k n h = omega arith
 
-low-enough : (n : ℕ) → 5183643171103440896 ≤ size-of n → 4039728865751334912 ≤ size-of n
-low-enough n h = omega arith
-
 exp-in : (n : ℕ) → (exp n ≡ 2047) ⊎ (exp n < 2047)
 unfolding exp
-exp-in n = eq-or-lt-of-le (d n)
-  where
-    d : (n : ℕ) → n % 9223372036854775808 / 4503599627370496 ≤ 2047
-    d n = omega arith
+exp-in n = eq-or-lt-of-le (omega arith)
 
 -- an infinity: the field is all ones, and no NaN has no digits
 pub top-field : (s : Bool) (t : ℕ) → T (not (isNan (ofFields binary64 s 2047 t))) → ofFields binary64 s 2047 t ≡ inf s
@@ -401,7 +356,7 @@ high-is n h t = elim (exp-in n) [
       ap narrowOf (f ∙ top-field (leb 9223372036854775808 n) (digits n) (subst (λ (v : Float). T (not (isNan v))) f t))
   | inr l ↦
       let k = exp n - 897 in
-      mid-units n k (mid-exp n (low-enough n h)) l ∙ over (leb 9223372036854775808 n) (closest (4503599627370496 + digits n) 536870912) k (mid-lo (4503599627370496 + digits n) (lead-lo (digits n))) (high-k n h)
+      mid-units n k (mid-exp n (omega arith)) l ∙ over (leb 9223372036854775808 n) (closest (4503599627370496 + digits n) 536870912) k (mid-lo (4503599627370496 + digits n) (lead-lo (digits n))) (high-k n h)
 ]
 
 inf-units : (s : Bool) → units binary32 s 8388608 254 ≡ inf s

@@ -76,19 +76,12 @@ halves x w k (inl h) = sym (pow-add 2 x 1074) ∙ ap (λ (z : ℕ). 2 ^ z) (h .1
 halves x w k (inr h) = sym (pow-add 2 x 1074) ∙ ap (λ (z : ℕ). 2 ^ z) (h .1) ∙ pow-add 2 53 (k + k) ∙ ap (λ (z : ℕ). 9007199254740992 * z) (sym (four-two k)) ∙ ap (λ (z : ℕ). z * 4503599627370496 * 4 ^ k) (sym (h .0))
 
 parity : (x : ℕ) → ((2 - suc x % 2 ≡ 1) × (x + 1074 ≡ 52 + ((suc x + 1021) / 2 + (suc x + 1021) / 2))) ⊎ ((2 - suc x % 2 ≡ 2) × (x + 1074 ≡ 53 + ((suc x + 1021) / 2 + (suc x + 1021) / 2)))
-parity x = go (suc x % 2) refl (d x)
+parity x = go (suc x % 2) refl (omega arith)
   where
-    d : (x : ℕ) → suc x % 2 < 2
-    d x = omega arith
-
     go : (r : ℕ) → suc x % 2 ≡ r → suc x % 2 < 2 → ((2 - suc x % 2 ≡ 1) × (x + 1074 ≡ 52 + ((suc x + 1021) / 2 + (suc x + 1021) / 2))) ⊎ ((2 - suc x % 2 ≡ 2) × (x + 1074 ≡ 53 + ((suc x + 1021) / 2 + (suc x + 1021) / 2)))
     go zero e l = inr (omega arith, omega arith)
     go (suc zero) e l = inl (omega arith, omega arith)
-    go (suc (suc r)) e l = absurd (no (suc x % 2) r e l)
-      where
-        no : (y r : ℕ) → y ≡ suc (suc r) → y < 2 → ⊥
-        no y r e l = omega arith
-
+    go (suc (suc r)) e l = absurd (omega arith)
 -- the number whose root is taken, for a field suc x
 abbrev M-of : ℕ → ℕ → ℕ
 M-of x t = (4503599627370496 + t) * (2 - suc x % 2) * 4503599627370496
@@ -98,29 +91,17 @@ scaled x t =
     let k = (suc x + 1021) / 2 in
     mul-assoc (4503599627370496 + t) (2 ^ x) (2 ^ 1074)
     ∙ ap (λ (z : ℕ). (4503599627370496 + t) * z) (halves x (2 - suc x % 2) k (parity x))
-    ∙ regroup (4503599627370496 + t) (2 - suc x % 2) 4503599627370496 (4 ^ k)
-  where
-    regroup : (s w c p : ℕ) → s * (w * c * p) ≡ s * w * c * p
-    regroup s w c p = omega arith
+    ∙ (omega arith)
 
 wide-of : (x t : ℕ) → t < 4503599627370496 → Wide (M-of x t)
 wide-of x t h =
     let d = doubled (4503599627370496 + t) (2 - suc x % 2) (omega arith) (omega arith) (omega arith) (omega arith) in
-    (grow ((4503599627370496 + t) * (2 - suc x % 2)) (d .0), less ((4503599627370496 + t) * (2 - suc x % 2)) (d .1))
-  where
-    grow : (m : ℕ) → 4503599627370496 ≤ m → 2 ^ 104 ≤ m * 4503599627370496
-    grow m h = omega arith
-
-    less : (m : ℕ) → m < 18014398509481984 → m * 4503599627370496 < 2 ^ 106
-    less m h = omega arith
+    (omega (arith, d .0), omega (arith, d .1))
 
 -- the fields of a pattern with no sign
 exp-is : (b x : ℕ) → b < 9223372036854775808 → b / 4503599627370496 ≡ suc x → exp b ≡ suc x
 unfolding exp
 exp-is b x h e = omega arith
-
-size-is : (b : ℕ) → b < 9223372036854775808 → size-of b ≡ b
-size-is b h = omega arith
 
 -- the value of such a pattern
 normal-value : (b x : ℕ) → b / 4503599627370496 ≡ suc x → suc x < 2047 → HasValue (ofBits binary64 b) false ((4503599627370496 + b % 4503599627370496) * 2 ^ x) (2 ^ 1074)
@@ -128,7 +109,7 @@ unfolding digits
 normal-value b x e l =
     let B : b < 9223372036854775808 = omega arith in
     let E : exp b ≡ suc x = exp-is b x B e in
-    subst (λ (z : ℕ). HasValue (ofBits binary64 z) false ((4503599627370496 + b % 4503599627370496) * 2 ^ x) (2 ^ 1074)) (size-is b B)
+    subst (λ (z : ℕ). HasValue (ofBits binary64 z) false ((4503599627370496 + b % 4503599627370496) * 2 ^ x) (2 ^ 1074)) (omega arith)
     (subst (λ (z : ℕ). HasValue (ofBits binary64 (size-of b)) false (val z (b % 4503599627370496)) (2 ^ 1074)) E (size-value b (subst (λ (z : ℕ). z < 2047) (sym E) l)))
 
 -- what `rootBits` is
@@ -175,10 +156,7 @@ larger x = mul binary64 x (ofBits binary64 4850376798678024192)
 larger-value : (x : Float) (N : ℕ) → HasValue x false N (2 ^ 1074) → N < 4503599627370496 → HasValue (larger x) false (N * 2 ^ 54) (2 ^ 1074)
 larger-value x N h l =
     subst (λ (y : Float). HasValue y false (N * 2 ^ 54) (2 ^ 1074)) (sym (mul-value binary64 x (ofBits binary64 4850376798678024192) N (2 ^ 1074) (2 ^ 54) 1 (pow-pos 1074) (lit< tt) h scale-value))
-    (round-exact binary64 false (N * 2 ^ 54) (2 ^ 1074) N 54 (pow-pos 1074) (wider N l) (lt-of-lt-of-le (shl-lt 52 54 l) (lit≤ tt)) refl)
-  where
-    wider : (N : ℕ) → N < 4503599627370496 → N < 9007199254740992
-    wider N h = omega arith
+    (round-exact binary64 false (N * 2 ^ 54) (2 ^ 1074) N 54 (pow-pos 1074) (omega arith) (lt-of-lt-of-le (shl-lt 52 54 l) (lit≤ tt)) refl)
 
 same-value : (x : Float) (a b c : ℕ) → HasValue x false a c → HasValue x false b c → a ≡ b
 same-value nan a b c h k = absurd h
@@ -190,7 +168,7 @@ small-value b h =
     let B : b < 9223372036854775808 = omega arith in
     let v = size-value b (omega (arith, exp-zero b h)) in
     subst (λ (z : ℕ). HasValue (ofBits binary64 b) false z (2 ^ 1074)) (ap (λ (E : ℕ). val E (digits b)) (exp-zero b h) ∙ mul-one (digits b) ∙ digits-all b h)
-    (subst (λ (z : ℕ). HasValue (ofBits binary64 z) false (value b) (2 ^ 1074)) (size-is b B) v)
+    (subst (λ (z : ℕ). HasValue (ofBits binary64 z) false (value b) (2 ^ 1074)) (omega arith) v)
   where
     exp-zero : (b : ℕ) → b < 4503599627370496 → exp b ≡ 0
     exp-zero b h = unfold exp in omega arith

@@ -77,10 +77,7 @@ root-around n = rootBy-around (size n) n (lt-of-lt-of-le (size-lt n) (le-trans (
         one x = omega arith
 
 sq-pos : (n r : ℕ) → n < r * r → 0 < r
-sq-pos n zero h = absurd (no n h)
-  where
-    no : (n : ℕ) → n < 0 * 0 → ⊥
-    no n h = omega arith
+sq-pos n zero h = absurd (omega arith)
 sq-pos n (suc k) h = zero-lt-suc k
 
 -- one less for the root
@@ -142,16 +139,13 @@ rootOf-at f num den M k q D e a lo hi =
     let e3 : n / (den * 4 ^ k) ≡ M = ap (λ (x : ℕ). x / (den * 4 ^ k)) e ∙ mul-div-cancel M U in
     let e4 : root (n / (den * 4 ^ k)) ≡ q = ap root e3 ∙ around-unique M (root M) q (root-around M) a in
     let e5 : compare (n * 4) ((2 * q + 1) * (2 * q + 1) * (den * 4 ^ k)) ≡ compare (M * 4) ((2 * q + 1) * (2 * q + 1)) =
-    ap (λ (x : ℕ). compare x ((2 * q + 1) * (2 * q + 1) * (den * 4 ^ k))) (ap (λ (x : ℕ). x * 4) e ∙ swap M (den * 4 ^ k)) ∙ compare-scale (M * 4) ((2 * q + 1) * (2 * q + 1)) (den * 4 ^ k) U in
+    ap (λ (x : ℕ). compare x ((2 * q + 1) * (2 * q + 1) * (den * 4 ^ k))) (ap (λ (x : ℕ). x * 4) e ∙ (omega arith)) ∙ compare-scale (M * 4) ((2 * q + 1) * (2 * q + 1)) (den * 4 ^ k) U in
     ap (λ (j : ℕ). units f false (nearest (root (n / (den * 4 ^ j))) (compare (n * 4) ((2 * root (n / (den * 4 ^ j)) + 1) * (2 * root (n / (den * 4 ^ j)) + 1) * (den * 4 ^ j)))) j) e2
     ∙ ap (λ (r : ℕ). units f false (nearest r (compare (n * 4) ((2 * r + 1) * (2 * r + 1) * (den * 4 ^ k)))) k) e4
     ∙ ap (λ (o : Ordering). units f false (nearest q o) k) e5
   where
     regroup : (M d p : ℕ) → M * (d * p) ≡ M * p * d
     regroup M d p = omega arith
-
-    swap : (M u : ℕ) → M * u * 4 ≡ M * 4 * u
-    swap M u = omega arith
 
 -- with what is left of M: up where it is more than q
 up-or-not : (M q r : ℕ) → IsRoot M q r → (r ≤ q → nearest q (compare (M * 4) ((2 * q + 1) * (2 * q + 1))) ≡ q) × (q < r → nearest q (compare (M * 4) ((2 * q + 1) * (2 * q + 1))) ≡ q + 1)
