@@ -81,10 +81,7 @@ pub le-of-within : (k : ℕ) (x : Float) → Within k x → T (le (absOf x) (fin
 unfolding absOf
 le-of-within k nan w = absurd w
 le-of-within k (inf s) w = absurd w
-le-of-within k (fin s m e) w = at-most→le false m e false 1 (pos k) (cross (m * up e) (down e) (2 ^ k) w)
-  where
-    cross : (a c p : ℕ) → a ≤ p * c → a * 1 + 0 ≤ 1 * p * c + 0
-    cross a c p h = omega arith
+le-of-within k (fin s m e) w = at-most→le false m e false 1 (pos k) (omega arith)
 
 -- What lies between two bounded values is bounded.
 pub between-within : (k : ℕ) (lo x hi : Float) → Within k lo → Within k hi → T (le lo x) → T (le x hi) → Within k x
@@ -209,10 +206,7 @@ unfolding mixOf ofBits
 mix-within k a b w K v u lo hi =
     let r = sub binary64 one w in
     narrow-within (k + 1) (add binary64 (mul binary64 r a) (mul binary64 w b)) K
-    (add-within binary64 k k k (mul binary64 r a) (mul binary64 w b) (le-of-eq refl) (le-of-eq refl) (more k K) (times r a (weight-within r (rest-lo w lo hi) (rest-hi w lo hi)) v) (times w b (weight-within w lo hi) u))
+    (add-within binary64 k k k (mul binary64 r a) (mul binary64 w b) (le-of-eq refl) (le-of-eq refl) (omega arith) (times r a (weight-within r (rest-lo w lo hi) (rest-hi w lo hi)) v) (times w b (weight-within w lo hi) u))
   where
-    more : (k : ℕ) → k + 1 ≤ 127 → k + 1 ≤ 1023
-    more k h = omega arith
-
     times : (x y : Float) → Within 0 x → Within k y → Within k (mul binary64 x y)
     times x y v w = subst (λ (j : ℕ). Within j (mul binary64 x y)) (zero-add k) (mul-within binary64 0 k x y (omega arith) v w)

@@ -59,6 +59,7 @@ mul-by-one f x p = ap (mul f x) (one-is f) ∙ go x p
     go nan p = unfold mul in refl
     go (inf s) p = unfold mul in ap inf (unlike-false s)
     go (fin s m e) p = mul-held f s m e false 1 (pos 0) (fin s m e) p (sym (unlike-false s), omega arith)
+
 -- The product in binary64 of two finite values of binary32 is exact, so it is finite.
 pub mul-exact : (s : Bool) (m : ℕ) (e : ℤ) (t : Bool) (n : ℕ) (d : ℤ) → T (fits binary32 (fin s m e)) → T (fits binary32 (fin t n d))
     → HasValue (mul binary64 (fin s m e) (fin t n d)) (unlike s t) (m * up e * (n * up d)) (down e * down d)
@@ -83,6 +84,7 @@ mul-exact s m e t n d p q =
 
     whole : (a b A B c g L R : ℕ) → a * L ≡ A * c → b * L ≡ B * g → a * b * (L * L * R) ≡ A * B * R * (c * g)
     whole a b A B c g L R e h = (omega arith) ∙ ap (λ (x : ℕ). x * (b * L) * R) e ∙ ap (λ (x : ℕ). A * c * x * R) h ∙ (omega arith)
+
 -- ---- sums
 -- x + y = v, as whole numbers over the product of the three denominators: what is positive on either side and negative on the other
 abbrev pub Adds : Float → Float → Float → Type 0

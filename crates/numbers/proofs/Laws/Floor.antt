@@ -68,9 +68,6 @@ neg-neg zero (suc k) h = absurd (omega arith)
 neg-neg (suc j) zero h = tt
 neg-neg (suc j) (suc k) h = le→leb k j (le-of-suc-le-suc h)
 
-min-mono : (a b c : ℕ) → a ≤ b → min a c ≤ min b c
-min-mono a b c h = omega arith
-
 -- the ends of the range
 floor-least : (x : Float) → T (leZ (negsuc 9223372036854775807) (floorOf x))
 unfolding floorOf
@@ -104,7 +101,7 @@ floor-mono (fin false m e) (fin false n d) h =
     let q = m * up e / down e in
     let r = n * up d / down d in
     le→leb (min q 9223372036854775807) (min r 9223372036854775807)
-    (min-mono q r 9223372036854775807 (div-mono (m * up e) (down e) (n * up d) (down d) (down-pos e) (down-pos d) (omega (arith, le→at-most false m e false n d h))))
+    (omega (arith, div-mono (m * up e) (down e) (n * up d) (down d) (down-pos e) (down-pos d) (omega (arith, le→at-most false m e false n d h))))
 floor-mono (fin false m e) (fin true n d) h =
     let z = none (m * up e * down d) (n * up d * down e) (le→at-most false m e true n d h) in
     subst (λ (k : ℕ). T (leZ (floorOf (fin false k e)) (floorOf (fin true n d)))) (sym (zero-of m (up e) (up-pos e) (zero-of (m * up e) (down d) (down-pos d) (z .0))))
@@ -118,10 +115,7 @@ floor-mono (fin true m e) (fin true n d) h =
     let q = ceiling (m * up e) (down e) in
     let r = ceiling (n * up d) (down d) in
     neg-neg (min q 9223372036854775808) (min r 9223372036854775808)
-    (min-mono r q 9223372036854775808 (ceiling-mono (n * up d) (down d) (m * up e) (down e) (down-pos d) (down-pos e) (plain (m * up e * down d) (n * up d * down e) (le→at-most true m e true n d h))))
-  where
-    plain : (a b : ℕ) → AtMost true a true b → b ≤ a
-    plain a b h = omega arith
+    (omega (arith, ceiling-mono (n * up d) (down d) (m * up e) (down e) (down-pos d) (down-pos e) (omega (arith, le→at-most true m e true n d h))))
 
 -- ---- bounds
 -- Every floor is an i64.
@@ -131,21 +125,17 @@ floor-fits x = record { sfits = go (floorOf x) (floor-least x) (floor-most x) }
     go : (z : ℤ) → T (leZ (negsuc 9223372036854775807) z) → T (leZ z (pos 9223372036854775807)) → mag z < 9223372036854775808
     go (pos k) a b = omega (arith, leb→le k 9223372036854775807 b)
     go (negsuc k) a b = omega (arith, leb→le k 9223372036854775807 a)
+
 -- A value of a size up to n has a floor of a size up to n.
 pub floor-size : (n : ℕ) (s : Bool) (m : ℕ) (e : ℤ) → m * up e ≤ n * down e → natAbs (floorOf (fin s m e)) ≤ n
 unfolding floorOf
-floor-size n true m e h = abs-neg (min (ceiling (m * up e) (down e)) 9223372036854775808) (least (ceiling (m * up e) (down e)) 9223372036854775808 (ceiling-le (m * up e) (down e) n (down-pos e) h))
+floor-size n true m e h = abs-neg (min (ceiling (m * up e) (down e)) 9223372036854775808) (omega (arith, ceiling-le (m * up e) (down e) n (down-pos e) h))
   where
     abs-neg : (k : ℕ) → k ≤ n → natAbs (negℤ (pos k)) ≤ n
     abs-neg zero l = l
     abs-neg (suc k) l = l
 
-    least : (a b : ℕ) → a ≤ n → min a b ≤ n
-    least a b l = omega arith
-floor-size n false m e h = least (m * up e / down e) 9223372036854775807 (div-le-of-le-mul (down e) (le-trans h (le-of-eq (mul-comm n (down e)))))
-  where
-    least : (a b : ℕ) → a ≤ n → min a b ≤ n
-    least a b l = omega arith
+floor-size n false m e h = omega (arith, div-le-of-le-mul (down e) (le-trans h (le-of-eq (mul-comm n (down e)))))
 
 -- A value between two has a floor of a size up to that of theirs.
 pub floor-between : (lo x hi : Float) (n : ℕ) → T (le lo x) → T (le x hi) → natAbs (floorOf lo) ≤ n → natAbs (floorOf hi) ≤ n → natAbs (floorOf x) ≤ n

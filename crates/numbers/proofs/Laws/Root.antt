@@ -234,18 +234,12 @@ root-nearest m e fit =
     let r = units binary64 false (nearestRoot (s .M)) (s .k) in
     let is : sqrtOf (fin false (suc m) e) ≡ r = sqrt-units (fin false (suc m) e) N (s .M) (s .k) (refl, h .value) (mul-pos P (pow-pos (h .zeros))) (s .is) (s .wide) in
     let v = units-val binary64 false (nearestRoot (s .M)) (s .k) (lt-of-le-of-lt (mul-le-mul (w .1) (pow-mono (s .few))) (lit< tt)) in
-    let f = subst (λ (y : Float). T (fits binary64 y)) (pattern binary64 false (nearestRoot (s .M)) (s .k) (w .1) (inr (w .0)) (room (s .k) (nearestRoot (s .M)) (s .few) (w .1))) (ofBits-fits binary64 _) in
+    let f = subst (λ (y : Float). T (fits binary64 y)) (pattern binary64 false (nearestRoot (s .M)) (s .k) (w .1) (inr (w .0)) (omega (arith, s .few, w .1))) (ofBits-fits binary64 _) in
     finish r (nearestRoot (s .M) * 2 ^ s .k) (2 ^ 1074) is v f (λ n d fit' v'. near (suc m * up e) (down e) N (s .M) (s .k) n d (down-pos e) (h .value) (s .is) (s .wide) (s .some) fit' v')
   where
     some : (n p d x : ℕ) → 0 < x → x ≡ n * p * d → 0 < n
-    some zero p d x h e = absurd (no p d x h e)
-      where
-        no : (p d x : ℕ) → 0 < x → x ≡ 0 * p * d → ⊥
-        no p d x h e = omega arith
+    some zero p d x h e = absurd (omega arith)
     some (suc n) p d x h e = zero-lt-suc n
-
-    room : (k q : ℕ) → k ≤ 2000 → q ≤ 9007199254740992 → k * 4503599627370496 + q ≤ 2047 * 4503599627370496
-    room k q h g = omega arith
 
     finish : (y : Float) (A c : ℕ) → sqrtOf (fin false (suc m) e) ≡ y → HasValue y false A c → T (fits binary64 y)
         → ((n : ℕ) (d : ℤ) → T (fits binary64 (fin false n d)) → n * up d * c ≡ A * down d → NearestRoot binary64 (suc m * up e) (down e) n d)
@@ -261,6 +255,7 @@ root-only f num den m e n d x y = go (le-or-lt (m * up e * down d) (n * up d * d
   where
     clash : (a c b d num den : ℕ) → MidpointAbove a c b d num den → MidpointBelow b d a c num den → ⊥
     clash a c b d num den h k = lt-irrefl (4 * num * (c * d * (c * d))) (lt-of-lt-of-le h (le-trans (le-of-eq (ap (λ (z : ℕ). z * z * den) (omega arith))) (le-trans (le-of-lt k) (le-of-eq (ap (λ (z : ℕ). 4 * num * (z * z)) (mul-comm d c))))))
+
     go : (m * up e * down d ≤ n * up d * down e) ⊎ (n * up d * down e < m * up e * down d) → fin false m e ≡ fin false n d
     go (inl l) = elim (eq-or-lt-of-le l) [
       | inl s ↦ value-unique f (fin false m e) (fin false n d) false (m * up e) (down e) (down-pos e) (x .held) (y .held) (refl, refl) (refl, sym s)

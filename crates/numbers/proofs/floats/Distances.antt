@@ -149,10 +149,7 @@ reached f num den D h =
     let o : b * 2 ^ x .K * den ≤ 2 * (num * L) =
     overflows (prec f) (x .K) (num * L) den D (subst (λ (y : ℕ). 2 ^ y ≤ kept (prec f) (num * L) den * 2 ^ drop (prec f) (num * L) den) (x .ends) h) in
     let e : 2 ^ x .K ≡ 2 ^ (emax f - prec f) * L * 2 = ap (λ (y : ℕ). 2 ^ y) (sym (x .mid)) ∙ pow-add 2 (emax f - prec f + low f) 1 ∙ ap (λ (y : ℕ). y * 2) (pow-add 2 (emax f - prec f) (low f)) in
-    subst (λ (y : ℕ). y * den ≤ num) (sym (middle-is f)) (le-of-mul-le-mul-right (cancel b (2 ^ (emax f - prec f)) L (subst (λ (y : ℕ). b * y * den ≤ 2 * (num * L)) e o)) (pow-pos (low f)))
-  where
-    cancel : (b g L : ℕ) → b * (g * L * 2) * den ≤ 2 * (num * L) → b * g * den * L ≤ num * L
-    cancel b g L h = omega arith
+    subst (λ (y : ℕ). y * den ≤ num) (sym (middle-is f)) (le-of-mul-le-mul-right (omega (arith, subst (λ (y : ℕ). b * y * den ≤ 2 * (num * L)) e o)) (pow-pos (low f)))
 
 -- ---- the value that `round` counts is the closest
 module _ (f : Format) (num den : ℕ) (D : 0 < den) where
@@ -230,16 +227,13 @@ module _ (f : Format) (num den : ℕ) (D : 0 < den) where
         | inr o ↦ absurd (clash (o .0) (o .1) (o .2))
       ]
     where
-      no : (a b c d : ℕ) → a ≡ b → a ≡ c % 2 → b ≡ d % 2 → c % 2 ≡ 0 → d % 2 ≡ 1 → ⊥
-      no a b c d x y z u t = omega arith
-
       clash : (j : ℕ) → count f n d (held f s n d (x .held)) ≡ j * 2 ^ k → Other q w j → ⊥
       clash j c o =
           let g = x .held in
           let odd : toBits f (fin s n d) % 2 ≡ j % 2 = parity f s n d j k (held f s n d g .value ∙ ap (λ (y : ℕ). y * down d) c) (le-trans (o .to) (whole-lt p N den)) (full j (o .from)) in
           let even : toBits f (fin s m e) % 2 ≡ w % 2 = last-of s m e v in
-          let differ : fin s m e ≢ fin s n d = λ i. no (toBits f (fin s m e) % 2) (toBits f (fin s n d) % 2) w j (ap (λ (y : Float). toBits f y % 2) i) even odd (o .even) (o .odd) in
-          no (toBits f (fin s n d) % 2) (toBits f (fin s n d) % 2) w j refl (x .tie m e fit differ (le-antisymm (x .no-nearer m e fit) (closest-is s m e fit v .no-nearer n d g)) ∙ sym (o .even)) odd (o .even) (o .odd)
+          let differ : fin s m e ≢ fin s n d = λ i. omega (arith, ap (λ (y : Float). toBits f y % 2) i, o .even, o .odd) in
+          omega (arith, x .tie m e fit differ (le-antisymm (x .no-nearer m e fit) (closest-is s m e fit v .no-nearer n d g)) ∙ sym (o .even), o .even, o .odd)
 
 -- below the middle `round` gives a count
 pub counted : (f : Format) (s : Bool) (num den : ℕ) (D : 0 < den) → num < middle f * den → HasValue (round f s num den) s (grid f num den) (2 ^ low f)

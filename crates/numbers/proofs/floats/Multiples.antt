@@ -54,6 +54,7 @@ tied q u r c = go (q % 2) refl
     go zero e = record { even = omega arith; either = inl (omega arith); far = omega arith }
     go (suc zero) e = record { even = omega arith; either = inr (omega arith); far = omega arith }
     go (suc (suc b)) e = absurd (omega arith)
+
 -- the two beside a tie
 split : (q w j : ℕ) → w % 2 ≡ 0 → (w ≡ q) ⊎ (w ≡ suc q) → (j ≡ q) ⊎ (j ≡ suc q) → (j ≡ w) ⊎ Other q w j
 split q w j v (inl a) (inl b) = inl (b ∙ sym a)

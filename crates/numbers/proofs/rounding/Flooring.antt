@@ -62,10 +62,7 @@ ceiling-le a c q C h = below ((a + (c - 1)) / c) q (div-lt-iff-lt-mul C .1 (less
     below r q h = omega arith
 
 le-ceiling : (a c : ℕ) → 0 < c → a ≤ ceiling a c * c
-le-ceiling a c C = go a c (ceiling a c) ((a + (c - 1)) % c) C (div-add-mod' (a + (c - 1)) c) (mod-lt (a + (c - 1)) C)
-  where
-    go : (a c q r : ℕ) → 0 < c → q * c + r ≡ a + (c - 1) → r < c → a ≤ q * c
-    go a c q r C e l = omega arith
+le-ceiling a c C = omega (arith, div-add-mod' (a + (c - 1)) c, mod-lt (a + (c - 1)) C)
 
 pub ceiling-mono : (a b c d : ℕ) → 0 < b → 0 < d → a * d ≤ c * b → ceiling a b ≤ ceiling c d
 ceiling-mono a b c d B D h = ceiling-le a b (ceiling c d) B (le-of-mul-le-mul-right (le-trans h (le-trans (mul-le-mul-right b (le-ceiling c d D)) (le-of-eq (mul-right-comm (ceiling c d) d b)))) D)
@@ -102,6 +99,7 @@ val-div (suc x) t h = div-same ((4503599627370496 + t) * 2 ^ x) (2 ^ 1074) ((450
   where
     doubled : (m p r l : ℕ) → r ≡ 2 * p → m * p * (2 * l) ≡ m * r * l
     doubled m p r l e = (omega arith) ∙ sym (ap (λ (k : ℕ). m * k * l) e)
+
 -- from 2 ^ 52 on there is nothing to cut
 val-whole : (e t : ℕ) → t < 4503599627370496 → 1075 ≤ e → ceiling (val e t) (2 ^ 1074) ≡ scaled (4503599627370496 + t) e
 val-whole zero t h l = absurd (not-suc-le-zero l)
@@ -118,13 +116,7 @@ val-whole (suc x) t h l =
 val-next : (e t : ℕ) → t < 4503599627370496 → e < 1075 → 0 < e + t → ceiling (val e t) (2 ^ 1074) ≡ suc (scaled (4503599627370496 + t - 1) e)
 val-next zero t h l p =
     ceiling-suc (t * 2 ^ 0) (2 ^ 1074) (omega arith) (pow-pos 1074)
-    ∙ ap suc (div-eq-of-lt (lt-of-le-of-lt (less t) (lt-of-lt-of-le (shl-lt 52 0 h) (lit≤ tt))) ∙ scaled-none (4503599627370496 + t - 1) 0 (fits t h) (lit< tt))
-  where
-    less : (t : ℕ) → t * 1 - 1 ≤ t * 1
-    less t = omega arith
-
-    fits : (t : ℕ) → t < 4503599627370496 → 4503599627370496 + t - 1 < 9007199254740992
-    fits t h = omega arith
+    ∙ ap suc (div-eq-of-lt (lt-of-le-of-lt (omega arith) (lt-of-lt-of-le (shl-lt 52 0 h) (lit≤ tt))) ∙ scaled-none (4503599627370496 + t - 1) 0 (omega arith) (lit< tt))
 val-next (suc x) t h l p =
     let m = 4503599627370496 + t in
     ceiling-same (m * 2 ^ x) (2 ^ 1074) m (2 ^ (1074 - x)) (pow-pos 1074) (pow-pos (1074 - x))
@@ -158,10 +150,7 @@ t-lt n = omega arith
 
 reads : (n : ℕ) → ofBits binary64 n ≡ ofFields binary64 (leb 9223372036854775808 n) (e-of n) (t-of n)
 unfolding exp digits
-reads n = signed n ∙ ap (ofFields binary64 (leb 9223372036854775808 n) (e-of n)) (last n)
-  where
-    last : (n : ℕ) → n % 4503599627370496 ≡ n % 9223372036854775808 % 4503599627370496
-    last n = omega arith
+reads n = signed n ∙ ap (ofFields binary64 (leb 9223372036854775808 n) (e-of n)) (omega arith)
 
 -- its floor, where it is finite
 finite-floor : (n : ℕ) (s : Bool) → leb 9223372036854775808 n ≡ s → e-of n < 2047 → floorOf (ofBits binary64 n) ≡ floorFrac s (val (e-of n) (t-of n)) (2 ^ 1074)
@@ -199,23 +188,17 @@ plain n h l =
 
 pub minus-none : (n : ℕ) → 9223372036854775808 ≤ n → n % 9223372036854775808 ≡ 0 → floorOf (ofBits binary64 n) ≡ pos 0
 minus-none n h z =
-    finite-floor n true (sign n h) (none z)
+    finite-floor n true (sign n h) (omega arith)
     ∙ ap (λ (b : ℕ). floorFrac true (val (b / 4503599627370496) (b % 4503599627370496)) (2 ^ 1074)) z
-  where
-    none : n % 9223372036854775808 ≡ 0 → e-of n < 2047
-    none z = omega arith
 
 pub minus-cut : (n : ℕ) → 9223372036854775808 ≤ n → (n % 9223372036854775808 ≡ 0 → ⊥) → e-of n < 1075 → floorOf (ofBits binary64 n) ≡ negsuc (scaled (m-of n - 1) (e-of n))
 minus-cut n h z l =
     finite-floor n true (sign n h) (finite-e (e-of n) (more (e-of n) l))
-    ∙ ap (λ (q : ℕ). negℤ (pos (min q 9223372036854775808))) (val-next (e-of n) (t-of n) (t-lt n) l (some n z))
+    ∙ ap (λ (q : ℕ). negℤ (pos (min q 9223372036854775808))) (val-next (e-of n) (t-of n) (t-lt n) l (omega arith))
     ∙ ap (λ (q : ℕ). negℤ (pos q)) (capped-most (suc (scaled (m-of n - 1) (e-of n))) (scaled-lt (m-of n - 1) (e-of n) (omega (arith, t-lt n)) (more (e-of n) l)))
   where
     more : (e : ℕ) → e < 1075 → e < 1086
     more e h = omega arith
-
-    some : (n : ℕ) → (n % 9223372036854775808 ≡ 0 → ⊥) → 0 < n % 9223372036854775808 / 4503599627370496 + n % 9223372036854775808 % 4503599627370496
-    some n z = omega arith
 
 pub minus-whole : (n : ℕ) → 9223372036854775808 ≤ n → 1075 ≤ e-of n → e-of n < 1086 → floorOf (ofBits binary64 n) ≡ negℤ (pos (scaled (m-of n) (e-of n)))
 minus-whole n h lo l =

@@ -82,12 +82,6 @@ round-tiny s N h =
     round-at binary32 s N (2 ^ 1074) 0 (drop-none 24 (N * 2 ^ 149) (2 ^ 1074) (pow-pos 1074) (lt-of-lt-of-le (shl-lt 948 149 h) (lit≤ tt)))
     ∙ ap (λ (q : ℕ). units binary32 s q 0) (closest-same (N * 2 ^ 149) (2 ^ 1074 * 2 ^ 0) N (2 ^ 925) (pow-pos 1074) (pow-pos 925) (mul-assoc N (2 ^ 149) (2 ^ 925)))
 
-within : (q : ℕ) → q ≤ 8388608 → q ≤ 16777216
-within q h = omega arith
-
-within-all : (q : ℕ) → q ≤ 8388608 → 0 * 8388608 + q ≤ 2139095040
-within-all q h = omega arith
-
 -- the same by the sum with 2 ^ -97, which is 2 ^ 977 units of binary64
 sum-lo : (N P : ℕ) → P ≤ N + P
 sum-lo N P = omega arith
@@ -154,9 +148,6 @@ small-exp : (n : ℕ) → size-of n < 4039728865751334912 → exp n < 897
 unfolding exp
 small-exp n h = omega arith
 
-finite-exp : (E : ℕ) → E < 897 → E < 2047
-finite-exp E h = omega arith
-
 value-small : (n : ℕ) → size-of n < 4039728865751334912 → value n < 2 ^ 948
 value-small n h = val-low (exp n) (digits n) (small-exp n h) (digits-lt n)
 
@@ -169,26 +160,14 @@ size-value n h = subst (λ (v : Float). HasValue v false (value n) (2 ^ 1074)) (
 
 y-is : (n : ℕ) → size-of n < 4039728865751334912 → yOf n ≡ units binary64 false (tiny (value n) + 4503599627370496) 925
 y-is n h =
-    add-value binary64 (ofBits binary64 (size-of n)) (ofBits binary64 4170333254945079296) (value n) (2 ^ 977) (2 ^ 1074) (pow-pos 1074) (size-value n (finite-exp (exp n) (small-exp n h))) magic-value
+    add-value binary64 (ofBits binary64 (size-of n)) (ofBits binary64 4170333254945079296) (value n) (2 ^ 977) (2 ^ 1074) (pow-pos 1074) (size-value n (omega (arith, small-exp n h))) magic-value
     ∙ sum-at (value n) (value-small n h)
 
-y-hi : (q : ℕ) → q ≤ 8388608 → q + 4503599627370496 ≤ 9007199254740992
-y-hi q h = omega arith
-
-y-lo : (q : ℕ) → 4503599627370496 ≤ q + 4503599627370496
-y-lo q = omega arith
-
-y-fit : (q : ℕ) → q ≤ 8388608 → 925 * 4503599627370496 + (q + 4503599627370496) ≤ 2047 * 4503599627370496
-y-fit q h = omega arith
-
 y-pattern : (q : ℕ) → q ≤ 8388608 → units binary64 false (q + 4503599627370496) 925 ≡ ofBits binary64 (0 + (925 * 4503599627370496 + (q + 4503599627370496)))
-y-pattern q h = sym (pattern binary64 false (q + 4503599627370496) 925 (y-hi q h) (inr (y-lo q)) (y-fit q h))
+y-pattern q h = sym (pattern binary64 false (q + 4503599627370496) 925 (omega arith) (inr (omega arith)) (omega arith))
 
 y-no-nan-bits : (q : ℕ) → q ≤ 8388608 → T (not (nanBits binary64 (0 + (925 * 4503599627370496 + (q + 4503599627370496)))))
-y-no-nan-bits q h = pattern-no-nan binary64 false (q + 4503599627370496) 925 (y-hi q h) (inr (y-lo q)) (y-fit q h)
-
-y-bits-lt : (q : ℕ) → q ≤ 8388608 → 0 + (925 * 4503599627370496 + (q + 4503599627370496)) < 18446744073709551616
-y-bits-lt q h = omega arith
+y-no-nan-bits q h = pattern-no-nan binary64 false (q + 4503599627370496) 925 (omega arith) (inr (omega arith)) (omega arith)
 
 y-reads : (n : ℕ) → size-of n < 4039728865751334912 → yOf n ≡ ofBits binary64 (0 + (925 * 4503599627370496 + (tiny (value n) + 4503599627370496)))
 y-reads n h = y-is n h ∙ y-pattern (tiny (value n)) (tiny-le (value n) (value-small n h))
@@ -203,17 +182,11 @@ y-bits : (n : ℕ) → size-of n < 4039728865751334912 → toBits binary64 (yOf 
 y-bits n h =
     let q = tiny (value n) in
     let l : q ≤ 8388608 = tiny-le (value n) (value-small n h) in
-    ap (toBits binary64) (y-reads n h) ∙ toBits-ofBits binary64 (0 + (925 * 4503599627370496 + (q + 4503599627370496))) (y-bits-lt q l) (read-no-nan _ (y-no-nan-bits q l))
+    ap (toBits binary64) (y-reads n h) ∙ toBits-ofBits binary64 (0 + (925 * 4503599627370496 + (q + 4503599627370496))) (omega arith) (read-no-nan _ (y-no-nan-bits q l))
 
 -- what the program has for the digits
 pub small-digits : (n : ℕ) → size-of n < 4039728865751334912 → (4170333254945079296 ≤ toBits binary64 (yOf n)) × (toBits binary64 (yOf n) - 4170333254945079296 ≡ tiny (value n)) × (tiny (value n) ≤ 8388608)
-small-digits n h = (at-least (toBits binary64 (yOf n)) (tiny (value n)) (y-bits n h), rest (toBits binary64 (yOf n)) (tiny (value n)) (y-bits n h), tiny-le (value n) (value-small n h))
-  where
-    at-least : (y q : ℕ) → y ≡ 0 + (925 * 4503599627370496 + (q + 4503599627370496)) → 4170333254945079296 ≤ y
-    at-least y q e = omega arith
-
-    rest : (y q : ℕ) → y ≡ 0 + (925 * 4503599627370496 + (q + 4503599627370496)) → y - 4170333254945079296 ≡ q
-    rest y q e = omega arith
+small-digits n h = (omega (arith, y-bits n h), omega (arith, y-bits n h), tiny-le (value n) (value-small n h))
 
 pub value-no-nan : (x : Float) (s : Bool) (a c : ℕ) → HasValue x s a c → T (not (isNan x))
 unfolding isNan
@@ -247,11 +220,8 @@ pub narrow-small : (n : ℕ) → n < 18446744073709551616 → size-of n < 403972
 narrow-small n h l =
     let N = value n in
     let d = small-digits n l in
-    let m = made n (tiny N) 0 (toBits binary64 (yOf n) - 4170333254945079296) h (within (tiny N) (d .2)) (inl refl) (within-all (tiny N) (d .2)) (zero-more (tiny N) ∙ sym (d .1)) in
-    (m .0 ∙ sym (narrow-pattern n (finite-exp (exp n) (small-exp n l)) ∙ round-tiny (leb 9223372036854775808 n) N (value-small n l)), m .1)
-  where
-    zero-more : (q : ℕ) → 0 * 8388608 + q ≡ q
-    zero-more q = omega arith
+    let m = made n (tiny N) 0 (toBits binary64 (yOf n) - 4170333254945079296) h (omega (arith, d .2)) (inl refl) (omega (arith, d .2)) ((omega arith) ∙ sym (d .1)) in
+    (m .0 ∙ sym (narrow-pattern n (omega (arith, small-exp n l)) ∙ round-tiny (leb 9223372036854775808 n) N (value-small n l)), m .1)
 
 -- ---- from 2 ^ -126 up: with x for the exponent's field less one, and k for x - 896
 -- sig * 2 ^ x units of binary64

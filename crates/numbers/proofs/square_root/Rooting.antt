@@ -82,6 +82,7 @@ parity x = go (suc x % 2) refl (omega arith)
     go zero e l = inr (omega arith, omega arith)
     go (suc zero) e l = inl (omega arith, omega arith)
     go (suc (suc r)) e l = absurd (omega arith)
+
 -- the number whose root is taken, for a field suc x
 abbrev M-of : ℕ → ℕ → ℕ
 M-of x t = (4503599627370496 + t) * (2 - suc x % 2) * 4503599627370496
@@ -119,19 +120,13 @@ bits-is b x e =
     let f : ℕ → ℕ = λ z. (4503599627370496 + b % 4503599627370496) * (2 - z % 2) * 4503599627370496 in
     ap (λ (z : ℕ). (z + 1021) / 2 * 4503599627370496 + nearest (root (f z)) (compare (f z * 4) ((2 * root (f z) + 1) * (2 * root (f z) + 1)))) (sym e)
 
-field-of : (b : ℕ) → 4503599627370496 ≤ b → b / 4503599627370496 ≡ suc (b / 4503599627370496 - 1)
-field-of b h = omega arith
-
-lead-pos : (t : ℕ) → 0 < 4503599627370496 + t
-lead-pos t = omega arith
-
 normal-root : (b : ℕ) → 4503599627370496 ≤ b → b < 9218868437227405312 → Right (ofBits binary64 b) (rootBits b)
 normal-root b lo hi =
     let x = b / 4503599627370496 - 1 in
     let t = b % 4503599627370496 in
-    let e : b / 4503599627370496 ≡ suc x = field-of b lo in
+    let e : b / 4503599627370496 ≡ suc x = omega arith in
     rooted (ofBits binary64 b) ((4503599627370496 + t) * 2 ^ x) (M-of x t) ((suc x + 1021) / 2) (rootBits b)
-    (normal-value b x e (omega arith)) (mul-pos (lead-pos t) (pow-pos x)) (scaled x t) (wide-of x t (omega arith)) (omega arith) (bits-is b x e)
+    (normal-value b x e (omega arith)) (mul-pos (omega arith) (pow-pos x)) (scaled x t) (wide-of x t (omega arith)) (omega arith) (bits-is b x e)
 
 -- ---- a subnormal pattern: 2 ^ 54 times the value is normal
 mul-value : (f : Format) (x y : Float) (a c b d : ℕ) → 0 < c → 0 < d → HasValue x false a c → HasValue y false b d → mul f x y ≡ round f false (a * b) (c * d)
@@ -200,7 +195,7 @@ small-root b P l =
     let r = larger-bits v b h P l in
     let x = c / 4503599627370496 - 1 in
     let t = c % 4503599627370496 in
-    let e : c / 4503599627370496 ≡ suc x = field-of c (omega arith) in
+    let e : c / 4503599627370496 ≡ suc x = omega arith in
     let k = (suc x + 1021) / 2 in
     let back : ofBits binary64 c ≡ y = ofBits-toBits binary64 y (mul-fits binary64 v (ofBits binary64 4850376798678024192)) in
     let same : (4503599627370496 + t) * 2 ^ x ≡ b * 2 ^ 54 =

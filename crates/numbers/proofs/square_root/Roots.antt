@@ -50,31 +50,19 @@ another-around s n h = go (leb (suc (2 * s) * suc (2 * s)) n) (leb→le (suc (2 
 
 rootBy-around : (d n : ℕ) → n < 4 ^ d → Around n (rootBy d n)
 unfolding rootBy
-rootBy-around zero n h = (z n h, h)
-  where
-    z : (n : ℕ) → n < 1 → 0 * 0 ≤ n
-    z n h = omega arith
-rootBy-around (suc d) n h = another-around (rootBy d (n / 4)) n (rootBy-around d (n / 4) (quarter n (4 ^ d) (subst (λ (x : ℕ). n < x) (pow-succ' 4 d) h)))
-  where
-    quarter : (n p : ℕ) → n < 4 * p → n / 4 < p
-    quarter n p h = omega arith
+rootBy-around zero n h = (omega arith, h)
+rootBy-around (suc d) n h = another-around (rootBy d (n / 4)) n (rootBy-around d (n / 4) (omega (arith, subst (λ (x : ℕ). n < x) (pow-succ' 4 d) h)))
 
 pub four-pow : (d : ℕ) → 4 ^ d ≡ 2 ^ d * 2 ^ d
 four-pow zero = refl
-four-pow (suc d) = pow-succ' 4 d ∙ ap (λ (x : ℕ). 4 * x) (four-pow d) ∙ regroup (2 ^ d) ∙ ap (λ (x : ℕ). x * x) (sym (pow-succ' 2 d))
-  where
-    regroup : (x : ℕ) → 4 * (x * x) ≡ 2 * x * (2 * x)
-    regroup x = omega arith
+four-pow (suc d) = pow-succ' 4 d ∙ ap (λ (x : ℕ). 4 * x) (four-pow d) ∙ (omega arith) ∙ ap (λ (x : ℕ). x * x) (sym (pow-succ' 2 d))
 
 pub root-around : (n : ℕ) → Around n (root n)
 unfolding root
 root-around n = rootBy-around (size n) n (lt-of-lt-of-le (size-lt n) (le-trans (grow (2 ^ size n) (pow-pos (size n))) (le-of-eq (sym (four-pow (size n))))))
   where
     grow : (x : ℕ) → 0 < x → x ≤ x * x
-    grow x h = le-trans (le-of-eq (one x)) (mul-le-mul-right x h)
-      where
-        one : (x : ℕ) → x ≡ 1 * x
-        one x = omega arith
+    grow x h = le-trans (le-of-eq (omega arith)) (mul-le-mul-right x h)
 
 sq-pos : (n r : ℕ) → n < r * r → 0 < r
 sq-pos n zero h = absurd (omega arith)
@@ -134,7 +122,7 @@ unfolding rootOf
 rootOf-at f num den M k q D e a lo hi =
     let n = num * 4 ^ low f in
     let U : 0 < den * 4 ^ k = mul-pos D (four-pos k) in
-    let e1 : n / den ≡ M * 4 ^ k = ap (λ (x : ℕ). x / den) (e ∙ regroup M den (4 ^ k)) ∙ mul-div-cancel (M * 4 ^ k) D in
+    let e1 : n / den ≡ M * 4 ^ k = ap (λ (x : ℕ). x / den) (e ∙ (omega arith)) ∙ mul-div-cancel (M * 4 ^ k) D in
     let e2 : size (root (n / den)) - prec f ≡ k = ap (λ (x : ℕ). size (root x) - prec f) e1 ∙ root-size (prec f) M k q (two-le-pos (prec f) (two f)) a lo hi in
     let e3 : n / (den * 4 ^ k) ≡ M = ap (λ (x : ℕ). x / (den * 4 ^ k)) e ∙ mul-div-cancel M U in
     let e4 : root (n / (den * 4 ^ k)) ≡ q = ap root e3 ∙ around-unique M (root M) q (root-around M) a in
@@ -143,9 +131,6 @@ rootOf-at f num den M k q D e a lo hi =
     ap (λ (j : ℕ). units f false (nearest (root (n / (den * 4 ^ j))) (compare (n * 4) ((2 * root (n / (den * 4 ^ j)) + 1) * (2 * root (n / (den * 4 ^ j)) + 1) * (den * 4 ^ j)))) j) e2
     ∙ ap (λ (r : ℕ). units f false (nearest r (compare (n * 4) ((2 * r + 1) * (2 * r + 1) * (den * 4 ^ k)))) k) e4
     ∙ ap (λ (o : Ordering). units f false (nearest q o) k) e5
-  where
-    regroup : (M d p : ℕ) → M * (d * p) ≡ M * p * d
-    regroup M d p = omega arith
 
 -- with what is left of M: up where it is more than q
 up-or-not : (M q r : ℕ) → IsRoot M q r → (r ≤ q → nearest q (compare (M * 4) ((2 * q + 1) * (2 * q + 1))) ≡ q) × (q < r → nearest q (compare (M * 4) ((2 * q + 1) * (2 * q + 1))) ≡ q + 1)
@@ -266,9 +251,6 @@ module _ (s r q u : ℕ) (lo : 67108864 ≤ s) (hi : s < 134217728) (left : r �
   pub last-down : u * 67108864 ≤ s * 67108864 + q + q * q → s * 67108864 + q ≡ nearestRoot ((s * s + r) * 4503599627370496)
   last-down g = go (leb (q * q) (u * 67108864 + 0)) (leb→le (q * q) (u * 67108864 + 0)) (nleb→lt (q * q) (u * 67108864 + 0))
     where
-      back : (x : ℕ) → 1 ≤ x → x ≡ x - 1 + 1
-      back x h = omega arith
-
       go : (b : Bool) → (T b → q * q ≤ u * 67108864 + 0) → (T (not b) → u * 67108864 + 0 < q * q) → s * 67108864 + q ≡ nearestRoot ((s * s + r) * 4503599627370496)
       go true h k =
           sym (nearest-down ((s * s + r) * 4503599627370496) (s * 67108864 + q) (u * 67108864 + 0 - q * q)
@@ -279,7 +261,7 @@ module _ (s r q u : ℕ) (lo : 67108864 ≤ s) (hi : s < 134217728) (left : r �
           let P : 0 < q = sq-pos (u * 67108864 + 0) q (k tt) in
           let Q : u * 67108864 + 0 < q * q = k tt in
           let W = square in
-          back (s * 67108864 + q) (omega arith)
+          omega arith
           ∙ sym (nearest-up ((s * s + r) * 4503599627370496) (s * 67108864 + q - 1) (u * 67108864 + 0 + 2 * (s * 67108864 + q) - 1 - q * q)
           (subst (λ (n : ℕ). IsRoot n (s * 67108864 + q - 1) (u * 67108864 + 0 + 2 * (s * 67108864 + q) - 1 - q * q)) same
           (less-one 67108864 s r 0 0 (s * s + r) refl left (omega arith) (omega arith) (omega arith) (omega arith) q u (omega arith) l (k tt)))

@@ -34,9 +34,6 @@ below s q h l = omega arith
 in-64 : (x : ℕ) → x < 18014398509481984 → x < 18446744073709551616
 in-64 x h = omega arith
 
-less : (x : ℕ) → x + 1 < 18014398509481984 → x < 18014398509481984
-less x h = omega arith
-
 add-s : tie.Need-add-s
 add-s c = let z = steps (c .before .before .before) in omega arith
 
@@ -62,7 +59,7 @@ returns-2 : tie.Need-returns-2
 returns-2 c =
     let d = c .before .before .before .before in
     let z = steps d in
-    (last-down (d .args .h .s) (d .args .h .r) (q-of d) (u-of d) (d .pre .0) (d .pre .1) (d .pre .2) (z .whole) (z .rest) (c .if1 .left), less _ (below (d .args .h .s) (q-of d) (d .pre .1) (z .small)))
+    (last-down (d .args .h .s) (d .args .h .r) (q-of d) (u-of d) (d .pre .0) (d .pre .1) (d .pre .2) (z .whole) (z .rest) (c .if1 .left), omega (arith, below (d .args .h .s) (q-of d) (d .pre .1) (z .small)))
 
 pub nearest106-spec : {M : Type 1} → statement M
 nearest106-spec = tie.close (tie.spec (λ c. search needs) (λ c. search needs) (λ c. search needs) (λ c. search needs) add-s mul-if1 add-if1 (λ c. search needs) mul-if1-2 add-result returns returns-2)
