@@ -99,17 +99,11 @@ wide-of x t h =
     let d = doubled (4503599627370496 + t) (2 - suc x % 2) (omega arith) (omega arith) (omega arith) (omega arith) in
     (omega (arith, d .0), omega (arith, d .1))
 
--- the fields of a pattern with no sign
-exp-is : (b x : ℕ) → b < 9223372036854775808 → b / 4503599627370496 ≡ suc x → exp b ≡ suc x
-unfolding exp
-exp-is b x h e = omega arith
-
 -- the value of such a pattern
 normal-value : (b x : ℕ) → b / 4503599627370496 ≡ suc x → suc x < 2047 → HasValue (ofBits binary64 b) false ((4503599627370496 + b % 4503599627370496) * 2 ^ x) (2 ^ 1074)
-unfolding digits
 normal-value b x e l =
     let B : b < 9223372036854775808 = omega arith in
-    let E : exp b ≡ suc x = exp-is b x B e in
+    let E : exp b ≡ suc x = omega arith in
     subst (λ (z : ℕ). HasValue (ofBits binary64 z) false ((4503599627370496 + b % 4503599627370496) * 2 ^ x) (2 ^ 1074)) (omega arith)
     (subst (λ (z : ℕ). HasValue (ofBits binary64 (size-of b)) false (val z (b % 4503599627370496)) (2 ^ 1074)) E (size-value b (subst (λ (z : ℕ). z < 2047) (sym E) l)))
 
@@ -161,15 +155,11 @@ same-value (fin t m e) a b c h k = eq-of-mul-eq-mul-right (down e) (down-pos e) 
 small-value : (b : ℕ) → b < 4503599627370496 → HasValue (ofBits binary64 b) false b (2 ^ 1074)
 small-value b h =
     let B : b < 9223372036854775808 = omega arith in
-    let v = size-value b (omega (arith, exp-zero b h)) in
-    subst (λ (z : ℕ). HasValue (ofBits binary64 b) false z (2 ^ 1074)) (ap (λ (E : ℕ). val E (digits b)) (exp-zero b h) ∙ mul-one (digits b) ∙ digits-all b h)
+    let x : exp b ≡ 0 = omega arith in
+    let d : digits b ≡ b = omega arith in
+    let v = size-value b (omega arith) in
+    subst (λ (z : ℕ). HasValue (ofBits binary64 b) false z (2 ^ 1074)) (ap (λ (E : ℕ). val E (digits b)) x ∙ mul-one (digits b) ∙ d)
     (subst (λ (z : ℕ). HasValue (ofBits binary64 z) false (value b) (2 ^ 1074)) (omega arith) v)
-  where
-    exp-zero : (b : ℕ) → b < 4503599627370496 → exp b ≡ 0
-    exp-zero b h = unfold exp in omega arith
-
-    digits-all : (b : ℕ) → b < 4503599627370496 → digits b ≡ b
-    digits-all b h = unfold digits in omega arith
 
 -- the pattern of the larger value
 larger-bits : (x : Float) (N : ℕ) → HasValue x false N (2 ^ 1074) → 0 < N → N < 4503599627370496 → (9007199254740992 ≤ toBits binary64 (larger x)) × (toBits binary64 (larger x) < 252201579132747776)
@@ -238,12 +228,10 @@ above-top x h t g =
     let b = toBits binary64 x in
     let n = above-bits x h t in
     let back : ofBits binary64 b ≡ x = ofBits-toBits binary64 x h in
-    let f : x ≡ ofFields binary64 (leb 9223372036854775808 b) 2047 (digits b) = sym back ∙ signed b ∙ ap (λ (E : ℕ). ofFields binary64 (leb 9223372036854775808 b) E (digits b)) (exp-top b g (n .1)) in
+    let e : exp b ≡ 2047 = omega (arith, n .1) in
+    let f : x ≡ ofFields binary64 (leb 9223372036854775808 b) 2047 (digits b) = sym back ∙ signed b ∙ ap (λ (E : ℕ). ofFields binary64 (leb 9223372036854775808 b) E (digits b)) e in
     plus x (leb 9223372036854775808 b) (f ∙ top-field (leb 9223372036854775808 b) (digits b) (subst (λ (v : Float). T (not (isNan v))) f (n .0))) t
   where
-    exp-top : (b : ℕ) → 9218868437227405312 ≤ b → b < 9223372036854775808 → exp b ≡ 2047
-    exp-top b g h = unfold exp in omega arith
-
     plus : (x : Float) (s : Bool) → x ≡ inf s → lt nought x ≡ true → x ≡ sqrtOf x
     plus x true e t = absurd (false≢true (sym (ap (lt nought) e) ∙ t))
     plus x false e t = e ∙ sym (ap sqrtOf e)

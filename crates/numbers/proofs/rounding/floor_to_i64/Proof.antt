@@ -11,7 +11,8 @@ use lib.Ieee.Bits.{ofBits-toBits}
 use Rattle.numbers.specs.Rounding.{floorOf}
 use Rattle.numbers.specs.Inner.{scaled}
 use Rattle.ground.proofs.Laws.Nan.{is-nan, no-nan}
-use Rattle.numbers.proofs.rounding.Flooring.{e-of, m-of, scaled-lt, no-sign, sign, plain, minus-none, minus-cut, minus-whole, out, kept, kept-fits, after-fits, after-kept, minus-fits, minus-kept}
+use Rattle.numbers.proofs.rounding.Narrowing.{exp}
+use Rattle.numbers.proofs.rounding.Flooring.{m-of, scaled-lt, no-sign, sign, plain, minus-none, minus-cut, minus-whole, out, kept, kept-fits, after-fits, after-kept, minus-fits, minus-kept}
 use Rattle.numbers.proofs.rounding.floor_to_i64.Statement.{statement}
 use Rattle.numbers.proofs.rounding.floor_to_i64.Tie as tie
 
@@ -40,7 +41,7 @@ in-range : (r m e : ℕ) → r ≡ scaled m e → m < 9007199254740992 → e < 1
 in-range r m e h a b = subst (λ (q : ℕ). q < 9223372036854775808) (sym h) (scaled-lt m e a b)
 
 first : (c : tie.After-scale) → c .scale .result < 9223372036854775808
-first c = let n = n-of (c .before .before .before .before) in in-range (c .scale .result) (m-of n) (e-of n) (c .scale .ensures) (omega arith) (omega arith)
+first c = let n = n-of (c .before .before .before .before) in in-range (c .scale .result) (m-of n) (exp n) (c .scale .ensures) (omega arith) (omega arith)
 
 cast-result : tie.Need-cast-result
 cast-result c = kept-fits (c .scale .result) (first c)
@@ -48,7 +49,7 @@ cast-result c = kept-fits (c .scale .result) (first c)
 returns-2 : tie.Need-returns-2
 returns-2 c =
     let s = c .before .before .before .before in
-    kept (c .scale .result) (first c) ∙ ap pos (c .scale .ensures) ∙ by s (pos (scaled (m-of (n-of s)) (e-of (n-of s)))) (plain (n-of s) (c .before .before .if2 .taken) (c .before .if3 .taken))
+    kept (c .scale .result) (first c) ∙ ap pos (c .scale .ensures) ∙ by s (pos (scaled (m-of (n-of s)) (exp (n-of s)))) (plain (n-of s) (c .before .before .if2 .taken) (c .before .if3 .taken))
 
 returns-3 : tie.Need-returns-3
 returns-3 c =
@@ -59,7 +60,7 @@ returns-4 : tie.Need-returns-4
 returns-4 c = let s = c .before .before .before in by s (pos 0) (minus-none (n-of s) (c .before .if2 .left) (c .if4 .taken))
 
 second : (c : tie.After-scale2) → c .scale2 .result < 9223372036854775808
-second c = let n = n-of (c .before .before .before .before .before) in in-range (c .scale2 .result) (m-of n - 1) (e-of n) (c .scale2 .ensures) (omega arith) (omega arith)
+second c = let n = n-of (c .before .before .before .before .before) in in-range (c .scale2 .result) (m-of n - 1) (exp n) (c .scale2 .ensures) (omega arith) (omega arith)
 
 cast-result-2 : tie.Need-cast-result-2
 cast-result-2 c = kept-fits (c .scale2 .result) (second c)
@@ -72,10 +73,10 @@ returns-5 c =
     let s = c .before .before .before .before .before in
     after-kept (c .scale2 .result) (second c)
     ∙ ap negsuc (c .scale2 .ensures)
-    ∙ by s (negsuc (scaled (m-of (n-of s) - 1) (e-of (n-of s)))) (minus-cut (n-of s) (c .before .before .before .if2 .left) (c .before .before .if4 .left) (c .before .if5 .taken))
+    ∙ by s (negsuc (scaled (m-of (n-of s) - 1) (exp (n-of s)))) (minus-cut (n-of s) (c .before .before .before .if2 .left) (c .before .before .if4 .left) (c .before .if5 .taken))
 
 third : (c : tie.After-scale3) → c .scale3 .result < 9223372036854775808
-third c = let n = n-of (c .before .before .before .before .before .before) in in-range (c .scale3 .result) (m-of n) (e-of n) (c .scale3 .ensures) (omega arith) (omega arith)
+third c = let n = n-of (c .before .before .before .before .before .before) in in-range (c .scale3 .result) (m-of n) (exp n) (c .scale3 .ensures) (omega arith) (omega arith)
 
 cast-result-3 : tie.Need-cast-result-3
 cast-result-3 c = kept-fits (c .scale3 .result) (third c)
@@ -88,7 +89,7 @@ returns-6 c =
     let s = c .before .before .before .before .before .before in
     minus-kept (c .scale3 .result) (third c)
     ∙ ap (λ (q : ℕ). negℤ (pos q)) (c .scale3 .ensures)
-    ∙ by s (negℤ (pos (scaled (m-of (n-of s)) (e-of (n-of s))))) (minus-whole (n-of s) (c .before .before .before .before .if2 .left) (c .before .before .if5 .left) (c .before .if6 .taken))
+    ∙ by s (negℤ (pos (scaled (m-of (n-of s)) (exp (n-of s))))) (minus-whole (n-of s) (c .before .before .before .before .if2 .left) (c .before .before .if5 .left) (c .before .if6 .taken))
 
 returns-7 : tie.Need-returns-7
 returns-7 c =

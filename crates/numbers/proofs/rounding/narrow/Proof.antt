@@ -9,7 +9,7 @@ use lib.Ieee.Bits.{toBits-lt, ofBits-toBits}
 use borrow.Author.Needs.{needs}
 use Rattle.numbers.specs.Rounding.{narrowOf}
 use Rattle.ground.proofs.Laws.Nan.{is-nan, no-nan}
-use Rattle.numbers.proofs.rounding.Narrowing.{Right, size-of, y-no-nan, small-digits, size-no-nan, narrow-small, narrow-mid, narrow-high, mid-fin}
+use Rattle.numbers.proofs.rounding.Narrowing.{Right, size-of, small-digits, size-no-nan, narrow-small, narrow-mid, narrow-high}
 use Rattle.numbers.proofs.rounding.narrow.Statement.{statement}
 use Rattle.numbers.proofs.rounding.narrow.Tie as tie
 
@@ -39,23 +39,23 @@ mul-sign : tie.Need-mul-sign
 mul-sign c = omega (arith, n-lt (c .before))
 
 float-from-bits-y : tie.Need-float-from-bits-y
-float-from-bits-y c = size-no-nan (n-of (c .before .before)) (mid-fin (n-of (c .before .before)) (omega arith))
+float-from-bits-y c = size-no-nan (n-of (c .before .before)) (omega arith)
 
 float-from-bits-y-2 : tie.Need-float-from-bits-y-2
 unfolding nanBits
 float-from-bits-y-2 c = tt
 
 float-to-bits-q : tie.Need-float-to-bits-q
-float-to-bits-q c = y-no-nan (n-of (c .before .before)) (c .if2 .taken)
+float-to-bits-q c = small-digits (n-of (c .before .before)) (c .if2 .taken) .some
 
 sub-q : tie.Need-sub-q
-sub-q c = small-digits (n-of (c .before .before)) (c .if2 .taken) .0
+sub-q c = small-digits (n-of (c .before .before)) (c .if2 .taken) .lo
 
 cast-result : tie.Need-cast-result
-cast-result c = let d = small-digits (n-of (c .before .before)) (c .if2 .taken) in omega (arith, d .1, d .2)
+cast-result c = let d = small-digits (n-of (c .before .before)) (c .if2 .taken) in omega arith
 
 add-result : tie.Need-add-result
-add-result c = let d = small-digits (n-of (c .before .before)) (c .if2 .taken) in omega (arith, d .1, d .2, n-lt (c .before .before))
+add-result c = let d = small-digits (n-of (c .before .before)) (c .if2 .taken) in omega (arith, n-lt (c .before .before))
 
 float-from-bits-result : tie.Need-float-from-bits-result
 float-from-bits-result c = narrow-small (n-of (c .before .before)) (n-lt (c .before .before)) (c .if2 .taken) .1
