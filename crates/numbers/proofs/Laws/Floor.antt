@@ -134,7 +134,6 @@ floor-size n true m e h = abs-neg (min (ceiling (m * up e) (down e)) 92233720368
     abs-neg : (k : ℕ) → k ≤ n → natAbs (negℤ (pos k)) ≤ n
     abs-neg zero l = l
     abs-neg (suc k) l = l
-
 floor-size n false m e h = omega (arith, div-le-of-le-mul (down e) (le-trans h (le-of-eq (mul-comm n (down e)))))
 
 -- A value between two has a floor of a size up to that of theirs.

@@ -44,8 +44,8 @@ abs-bits f (fin true m e) h n =
 abs-bits f (fin false m e) h n = mod-eq-of-lt (size-lt-top f m e h)
 
 -- so the pattern's rest is read as the value's size, and is no NaN's
-pub read-abs : (f : Format) (x : Float) → T (fits f x) → T (not (isNan x)) → ofBits f (toBits f x % top f) ≡ absOf x
-read-abs f x h n = ap (ofBits f) (abs-bits f x h n) ∙ ofBits-toBits f (absOf x) (abs-fits f x h)
-
-pub abs-pattern : (f : Format) (x : Float) → T (fits f x) → T (not (isNan x)) → T (not (nanBits f (toBits f x % top f)))
-abs-pattern f x h n = subst (λ (b : Bool). T (not b)) (sym (nanBits-is f (toBits f x % top f) ∙ ap isNan (read-abs f x h n))) (subst (λ (b : Bool). T (not b)) (sym (abs-number x)) n)
+pub read-abs : (f : Format) (x : Float) → fits f x ≡ true → T (not (isNan x)) → (ofBits f (toBits f x % top f) ≡ absOf x) × T (not (nanBits f (toBits f x % top f)))
+read-abs f x g n =
+    let h : T (fits f x) = subst T (sym g) tt in
+    let is : ofBits f (toBits f x % top f) ≡ absOf x = ap (ofBits f) (abs-bits f x h n) ∙ ofBits-toBits f (absOf x) (abs-fits f x h) in
+    (is, subst (λ (b : Bool). T (not b)) (sym (nanBits-is f (toBits f x % top f) ∙ ap isNan is ∙ abs-number x)) n)

@@ -43,9 +43,6 @@ in-range r m e h a b = subst (λ (q : ℕ). q < 9223372036854775808) (sym h) (sc
 first : (c : tie.After-scale) → c .scale .result < 9223372036854775808
 first c = let n = n-of (c .before .before .before .before) in in-range (c .scale .result) (m-of n) (exp n) (c .scale .ensures) (omega arith) (omega arith)
 
-cast-result : tie.Need-cast-result
-cast-result c = kept-fits (c .scale .result) (first c)
-
 returns-2 : tie.Need-returns-2
 returns-2 c =
     let s = c .before .before .before .before in
@@ -62,12 +59,6 @@ returns-4 c = let s = c .before .before .before in by s (pos 0) (minus-none (n-o
 second : (c : tie.After-scale2) → c .scale2 .result < 9223372036854775808
 second c = let n = n-of (c .before .before .before .before .before) in in-range (c .scale2 .result) (m-of n - 1) (exp n) (c .scale2 .ensures) (omega arith) (omega arith)
 
-cast-result-2 : tie.Need-cast-result-2
-cast-result-2 c = kept-fits (c .scale2 .result) (second c)
-
-sub-result : tie.Need-sub-result
-sub-result c = after-fits (c .scale2 .result) (second c)
-
 returns-5 : tie.Need-returns-5
 returns-5 c =
     let s = c .before .before .before .before .before in
@@ -77,12 +68,6 @@ returns-5 c =
 
 third : (c : tie.After-scale3) → c .scale3 .result < 9223372036854775808
 third c = let n = n-of (c .before .before .before .before .before .before) in in-range (c .scale3 .result) (m-of n) (exp n) (c .scale3 .ensures) (omega arith) (omega arith)
-
-cast-result-3 : tie.Need-cast-result-3
-cast-result-3 c = kept-fits (c .scale3 .result) (third c)
-
-sub-result-2 : tie.Need-sub-result-2
-sub-result-2 c = minus-fits (c .scale3 .result) (third c)
 
 returns-6 : tie.Need-returns-6
 returns-6 c =
@@ -97,4 +82,8 @@ returns-7 c =
     by s (negsuc 9223372036854775807) (out (n-of s) true (sign (n-of s) (c .before .before .before .if2 .left)) (c .if6 .left) (some (c .before .before .before .before)))
 
 pub floor-to-i64-spec : {M : Type 1} → statement M
-floor-to-i64-spec = tie.close (tie.spec returns float-to-bits-bits (λ c. search needs) (λ c κs. search needs) cast-result returns-2 returns-3 returns-4 (λ c. search needs) (λ c κs. search needs) cast-result-2 sub-result returns-5 (λ c κs. search needs) cast-result-3 sub-result-2 returns-6 (λ c. search needs) returns-7)
+floor-to-i64-spec = tie.close (tie.spec
+    returns float-to-bits-bits (λ c. search needs) (λ c κs. search needs) (λ c. kept-fits (c .scale .result) (first c)) returns-2 returns-3 returns-4
+    (λ c. search needs) (λ c κs. search needs) (λ c. kept-fits (c .scale2 .result) (second c)) (λ c. after-fits (c .scale2 .result) (second c))
+    returns-5 (λ c κs. search needs) (λ c. kept-fits (c .scale3 .result) (third c)) (λ c. minus-fits (c .scale3 .result) (third c)) returns-6
+    (λ c. search needs) returns-7)

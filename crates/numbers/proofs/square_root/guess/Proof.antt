@@ -25,4 +25,6 @@ float-to-bits-result : tie.Need-float-to-bits-result
 float-to-bits-result c = number-right _ _ (subst T (sym (c .before .if1 .taken)) tt)
 
 pub guess-spec : {M : Type 1} → statement M
-guess-spec = tie.close (tie.spec (λ c κs. search needs) float-from-bits-x (λ c. search needs) float-from-bits-newton (λ c κs. search needs) (λ c κs. search needs) (λ c κs. search needs) float-to-bits-result (λ c. search needs) (λ c. search needs) (λ c. search needs) (λ c. search needs))
+guess-spec = tie.close (tie.spec
+    (λ c κs. search needs) float-from-bits-x (λ c. search needs) float-from-bits-newton (λ c κs. search needs) (λ c κs. search needs)
+    (λ c κs. search needs) float-to-bits-result (λ c. search needs) (λ c. search needs) (λ c. search needs) (λ c. search needs))
