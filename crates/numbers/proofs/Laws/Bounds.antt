@@ -12,8 +12,9 @@ use lib.Ieee.Fits.{down-pos}
 use lib.Ieee.Order.{round-mono}
 use Rattle.numbers.specs.Constants.{zeroOf, oneOf}
 use Rattle.numbers.specs.Rounding.{narrowOf}
+use Rattle.numbers.specs.Nearest.{sumSize, sumSign}
 use Rattle.numbers.specs.Scalar.{mixOf, minOf, maxOf, medianOf, absOf}
-use Rattle.numbers.proofs.floats.Differences.{sum-is, sum-size, round-neg, Signed, round-signed}
+use Rattle.numbers.proofs.floats.Differences.{summed, sum-size, round-neg, Signed, round-signed}
 use Rattle.numbers.proofs.Laws.Order.{AtMost, nought, one, finite, finite-number, le→at-most, at-most→le}
 use Rattle.numbers.proofs.Laws.Monotone.{rest-lo, rest-hi}
 use Rattle.numbers.proofs.Laws.Exact.{round-value}
@@ -173,12 +174,12 @@ add-within f j k n x y J K N v w = go x y (within-more j n x J v) (within-more k
     go (fin s m e) (fin t o d) v w =
         let a = m * up e * down d in
         let b = o * up d * down e in
-        let r = sum-is f s a t b (down e * down d) in
+        let r = sumSize s a t b in
         unfold add in
-        subst (Within (n + 1)) (sym (r .is))
-        (round-within f (n + 1) (r .sign) (r .size) (down e * down d) (mul-pos (down-pos e) (down-pos d)) N
-        (subst (λ (p : ℕ). r .size ≤ p * (down e * down d)) (sym (pow-add 2 n 1))
-        (total (r .size) (2 ^ n) (m * up e) (down e) (o * up d) (down d) v w (sum-size (r .sign) (r .size) s a t b (r .value)))))
+        subst (Within (n + 1)) (sym (summed f s a t b (down e * down d) .is))
+        (round-within f (n + 1) (sumSign s a t b) r (down e * down d) (mul-pos (down-pos e) (down-pos d)) N
+        (subst (λ (p : ℕ). r ≤ p * (down e * down d)) (sym (pow-add 2 n 1))
+        (total r (2 ^ n) (m * up e) (down e) (o * up d) (down d) v w (sum-size s a t b))))
 
 -- A difference of two values of at most 2 ^ n is at most 2 ^ (n + 1).
 pub sub-within : (f : Format) (j k n : ℕ) (x y : Float) → j ≤ n → k ≤ n → n + 1 ≤ emax f → Within j x → Within k y → Within (n + 1) (sub f x y)

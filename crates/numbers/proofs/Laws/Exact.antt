@@ -13,7 +13,8 @@ use lib.Ieee.Exact.{HasValue, round-exact}
 use lib.Ieee.Scale.{round-same}
 use Rattle.numbers.specs.Constants.{oneOf}
 use Rattle.numbers.specs.Rounding.{narrowOf}
-use Rattle.numbers.proofs.floats.Differences.{scale-plus, scale-minus, sum-is, unlike-false, zero-of}
+use Rattle.numbers.specs.Nearest.{sumSize, sumSign}
+use Rattle.numbers.proofs.floats.Differences.{scale-plus, scale-minus, summed, unlike-false, zero-of}
 use Rattle.numbers.proofs.Laws.Order.{plus, minus, eq-refl, eq-zeros}
 use Rattle.numbers.proofs.floats.Held.{held, count, value-unique}
 
@@ -126,10 +127,12 @@ add-exact f (fin s m e) (fin t n d) u k g p h =
     let R = suc k * up g in
     let a = m * up e * down d in
     let b = n * up d * down e in
-    let w = sum-is f s a t b c in
+    let w = summed f s a t b c in
+    let v = sumSign s a t b in
+    let r = sumSize s a t b in
     let C : 0 < c = mul-pos (down-pos e) (down-pos d) in
-    let same = agree s a t b u R c (down g) (w .sign) (w .size) h (w .value) in
-    w .is ∙ round-value f (fin u (suc k) g) (w .sign) (w .size) c C p (signs u R c (down g) (w .sign) (w .size) (mul-pos (mul-pos (zero-lt-suc k) (up-pos g)) C) same)
+    let same = agree s a t b u R c (down g) v r h (w .value) in
+    w .is ∙ round-value f (fin u (suc k) g) v r c C p (signs u R c (down g) v r (mul-pos (mul-pos (zero-lt-suc k) (up-pos g)) C) same)
 
 zero-fits : (f : Format) (s : Bool) → T (fits f (fin s 0 (pos 0)))
 unfolding fits
@@ -159,10 +162,12 @@ add-exact-zero f (fin s m e) (fin t n d) u g h =
     let R = 0 * up g in
     let a = m * up e * down d in
     let b = n * up d * down e in
-    let w = sum-is f s a t b c in
+    let w = summed f s a t b c in
+    let v = sumSign s a t b in
+    let r = sumSize s a t b in
     let C : 0 < c = mul-pos (down-pos e) (down-pos d) in
-    let z : w .size ≡ 0 = zero-of (w .size) (down g) (down-pos g) (no-size u (w .sign) (w .size) (down g) c R (zero-mul (up g)) (agree s a t b u R c (down g) (w .sign) (w .size) h (w .value))) in
-    (w .sign, w .is ∙ ap (λ (x : ℕ). round f (w .sign) x c) z ∙ round-value f (fin (w .sign) 0 (pos 0)) (w .sign) 0 c C (zero-fits f (w .sign)) (refl, ap (λ (x : ℕ). x * c) (zero-mul 1) ∙ zero-mul c ∙ sym (zero-mul 1)))
+    let z : r ≡ 0 = zero-of r (down g) (down-pos g) (no-size u v r (down g) c R (zero-mul (up g)) (agree s a t b u R c (down g) v r h (w .value))) in
+    (v, w .is ∙ ap (λ (x : ℕ). round f v x c) z ∙ round-value f (fin v 0 (pos 0)) v 0 c C (zero-fits f v) (refl, ap (λ (x : ℕ). x * c) (zero-mul 1) ∙ zero-mul c ∙ sym (zero-mul 1)))
 
 -- ---- equality
 -- So a sum that is exactly a value of the format equals that value, a zero of either sign.

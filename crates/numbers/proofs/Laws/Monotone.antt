@@ -14,7 +14,8 @@ use lib.Ieee.Bits.{is-true, is-false}
 use lib.Ieee.Order.{round-mono}
 use Rattle.numbers.specs.Scalar.{absOf, mixOf}
 use Rattle.numbers.specs.Rounding.{narrowOf}
-use Rattle.numbers.proofs.floats.Differences.{of-at-most, sum-is, sum-comm, sums-order, products-order, unlike-false, round-neg, Signed, round-signed, round-zero, zero-of}
+use Rattle.numbers.specs.Nearest.{sumSize, sumSign}
+use Rattle.numbers.proofs.floats.Differences.{of-at-most, summed, sum-comm, sums-order, products-order, unlike-false, round-neg, Signed, round-signed, round-zero, zero-of}
 use Rattle.numbers.proofs.Laws.Order.{plus, minus, AtMost, nought, one, finite, finite-number, le→at-most, at-most→le, le-refl, le-trans, le-inf, inf-le, le-neg, neg-neg, neg-number, between-finite, le-of-abs-le, ge-of-abs-le}
 
 -- ---- rounding
@@ -80,8 +81,9 @@ unfolding add isNan
 finite-add-number f (fin s m e) nan i j = j
 finite-add-number f (fin s m e) (inf t) i j = tt
 finite-add-number f (fin s m e) (fin t n d) i j =
-    let a = sum-is f s (m * up e * down d) t (n * up d * down e) (down e * down d) in
-    subst (λ (z : Float). T (not (isNan z))) (sym (a .is)) (round-number f (a .sign) (a .size) (down e * down d))
+    let a = m * up e * down d in
+    let b = n * up d * down e in
+    subst (λ (z : Float). T (not (isNan z))) (sym (summed f s a t b (down e * down d) .is)) (round-number f (sumSign s a t b) (sumSize s a t b) (down e * down d))
 
 -- A sum of finite values is no NaN.
 pub add-number : (f : Format) (x y : Float) → finite x → finite y → T (not (isNan (add f x y)))
@@ -120,11 +122,15 @@ add-nan f x = add-comm f x nan ∙ (unfold add in refl)
 sum-mono : (f : Format) (s : Bool) (X p : ℕ) (s' : Bool) (X' p' : ℕ) (t : Bool) (Y q : ℕ) → 0 < p → 0 < p' → 0 < q → AtMost s (X * p') s' (X' * p)
     → T (le (sum f s (X * q) t (Y * p) (p * q)) (sum f s' (X' * q) t (Y * p') (p' * q)))
 sum-mono f s X p s' X' p' t Y q P P' Q h =
-    let a = sum-is f s (X * q) t (Y * p) (p * q) in
-    let b = sum-is f s' (X' * q) t (Y * p') (p' * q) in
+    let a = summed f s (X * q) t (Y * p) (p * q) in
+    let u = sumSign s (X * q) t (Y * p) in
+    let r = sumSize s (X * q) t (Y * p) in
+    let b = summed f s' (X' * q) t (Y * p') (p' * q) in
+    let v = sumSign s' (X' * q) t (Y * p') in
+    let w = sumSize s' (X' * q) t (Y * p') in
     subst (λ (z : Float). T (le z (sum f s' (X' * q) t (Y * p') (p' * q)))) (sym (a .is))
-    (subst (λ (z : Float). T (le (round f (a .sign) (a .size) (p * q)) z)) (sym (b .is))
-    (round-at-most f (a .sign) (a .size) (p * q) (b .sign) (b .size) (p' * q) (mul-pos P Q) (mul-pos P' Q) (sums-order s X p s' X' p' t Y q (a .sign) (a .size) (b .sign) (b .size) h (a .value) (b .value))))
+    (subst (λ (z : Float). T (le (round f u r (p * q)) z)) (sym (b .is))
+    (round-at-most f u r (p * q) v w (p' * q) (mul-pos P Q) (mul-pos P' Q) (sums-order s X p s' X' p' t Y q u r v w h (a .value) (b .value))))
 
 add-mono : (f : Format) (y x x' : Float) → T (le x x') → T (not (isNan (add f x y))) → T (not (isNan (add f x' y))) → T (le (add f x y) (add f x' y))
 unfolding add le isNan
@@ -190,8 +196,10 @@ sub-not-negative f (fin s m e) (fin t n d) h i =
     let A = m * up e * down d in
     let B = n * up d * down e in
     let c = down e * down d in
-    let a = sum-is f s A (not t) B c in
-    subst (λ (z : Float). T (le nought z)) (sym (a .is)) (round-not-negative f (a .sign) (a .size) c (mul-pos (down-pos e) (down-pos d)) (gap (a .sign) (a .size) c s A t B (le→at-most t n d s m e h) (a .value)))
+    let a = summed f s A (not t) B c in
+    let u = sumSign s A (not t) B in
+    let r = sumSize s A (not t) B in
+    subst (λ (z : Float). T (le nought z)) (sym (a .is)) (round-not-negative f u r c (mul-pos (down-pos e) (down-pos d)) (gap u r c s A t B (le→at-most t n d s m e h) (a .value)))
   where
     gap : (u : Bool) (r c : ℕ) (s : Bool) (A : ℕ) (t : Bool) (B : ℕ) → AtMost t B s A → plus u r + minus s A + minus (not t) B ≡ minus u r + plus s A + plus (not t) B → AtMost false (0 * c) u (r * 1)
     gap true r c s A true B h k = omega (arith, zero-mul c)

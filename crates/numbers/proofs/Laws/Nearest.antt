@@ -15,7 +15,7 @@ use lib.Ieee.Scale.{grid}
 use Rattle.numbers.specs.Rounding.{narrowOf}
 use Rattle.numbers.specs.Nearest.{apart, distance, largest, middle, Closest, Nearest, sumSize, sumSign}
 use Rattle.numbers.proofs.floats.Compared.{le-or-lt}
-use Rattle.numbers.proofs.floats.Differences.{plus, minus}
+use Rattle.numbers.proofs.floats.Differences.{plus, minus, summed}
 use Rattle.numbers.proofs.floats.Distances.{closest-is, closest-only, exponents, wide, overflowed, counted}
 use Rattle.numbers.proofs.floats.Held.{held, count}
 use Rattle.numbers.proofs.floats.Multiples.{most}
@@ -87,50 +87,6 @@ nearest-only f s num den x y D p q = sym (round-is f s num den x D p) ∙ round-
 pub narrow-nearest : (s : Bool) (m : ℕ) (e : ℤ) → Nearest binary32 s (m * up e) (down e) (narrowOf (fin s m e))
 unfolding narrowOf
 narrow-nearest s m e = round-nearest binary32 s (m * up e) (down e) (down-pos e)
-
--- v is ±r rounded over c, and ±r is ±a + ±b
-record Summed (f : Format) (v : Float) (s : Bool) (a : ℕ) (t : Bool) (b c : ℕ) (u : Bool) (r : ℕ) : Type 0 where
-  is : v ≡ round f u r c
-  value : plus u r + minus s a + minus t b ≡ minus u r + plus s a + plus t b
-
--- by the order of the two sizes
-by-order : (a b : ℕ) (P : Bool → Bool → Type 0) → (a < b → P true false) → (b < a → P false true) → (a ≡ b → P false false) → P (ltb a b) (ltb b a)
-by-order a b P l g e = go (ltb a b) (ltb→lt a b) (nltb→le a b) (ltb b a) (ltb→lt b a) (nltb→le b a)
-  where
-    go : (x : Bool) → (T x → a < b) → (T (not x) → b ≤ a) → (y : Bool) → (T y → b < a) → (T (not y) → a ≤ b) → P x y
-    go true h k true h' k' = absurd (lt-irrefl a (le-trans (h tt) (le-of-lt (h' tt))))
-    go true h k false h' k' = l (h tt)
-    go false h k true h' k' = g (h' tt)
-    go false h k false h' k' = e (le-antisymm (k' tt) (k tt))
-
--- what `sum` rounds
-summed : (f : Format) (s : Bool) (a : ℕ) (t : Bool) (b c : ℕ) → Summed f (sum f s a t b c) s a t b c (sumSign s a t b) (sumSize s a t b)
-unfolding sum
-summed f s a t b c =
-    by-order a b
-    (λ x y. Summed f (cond (Bool·beq s t) (round f s (a + b) c) (cond x (round f t (b - a) c) (round f (s && y) (a - b) c))) s a t b c (cond x t (cond y s (s && t))) (sumSize s a t b))
-    (less s t) (more s t) (same s t)
-  where
-    size : (x y : ℕ) (u : Bool) → x ≡ y → round f u x c ≡ round f u y c
-    size x y u e = ap (λ (z : ℕ). round f u z c) e
-
-    less : (s t : Bool) → a < b → Summed f (cond (Bool·beq s t) (round f s (a + b) c) (round f t (b - a) c)) s a t b c t (sumSize s a t b)
-    less true true l = record { is = refl; value = omega arith }
-    less false false l = record { is = refl; value = omega arith }
-    less true false l = record { is = size (b - a) (apart a b) false (omega arith); value = omega arith }
-    less false true l = record { is = size (b - a) (apart a b) true (omega arith); value = omega arith }
-
-    more : (s t : Bool) → b < a → Summed f (cond (Bool·beq s t) (round f s (a + b) c) (round f (s && true) (a - b) c)) s a t b c s (sumSize s a t b)
-    more true true l = record { is = refl; value = omega arith }
-    more false false l = record { is = refl; value = omega arith }
-    more true false l = record { is = size (a - b) (apart a b) true (omega arith); value = omega arith }
-    more false true l = record { is = size (a - b) (apart a b) false (omega arith); value = omega arith }
-
-    same : (s t : Bool) → a ≡ b → Summed f (cond (Bool·beq s t) (round f s (a + b) c) (round f (s && false) (a - b) c)) s a t b c (s && t) (sumSize s a t b)
-    same true true e = record { is = refl; value = omega arith }
-    same false false e = record { is = refl; value = omega arith }
-    same true false e = record { is = size (a - b) (apart a b) false (omega arith); value = omega arith }
-    same false true e = record { is = size (a - b) (apart a b) false (omega arith); value = omega arith }
 
 -- The sign and the size that `sumSign` and `sumSize` give are those of the exact sum.
 pub sum-exact : (s : Bool) (a : ℕ) (t : Bool) (b : ℕ)
