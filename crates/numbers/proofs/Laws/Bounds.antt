@@ -15,7 +15,7 @@ use Rattle.numbers.specs.Rounding.{narrowOf}
 use Rattle.numbers.specs.Nearest.{sumSize, sumSign}
 use Rattle.numbers.specs.Scalar.{mixOf, minOf, maxOf, medianOf, absOf}
 use Rattle.numbers.proofs.floats.Differences.{summed, sum-size, round-neg, Signed, round-signed}
-use Rattle.numbers.proofs.Laws.Order.{AtMost, nought, one, finite, finite-number, le→at-most, at-most→le}
+use Rattle.numbers.proofs.Laws.Order.{AtMost, nought, one, finite, finite-number, le→at-most, at-most→le, number-right, le-of-lt, not-below, not-above}
 use Rattle.numbers.proofs.Laws.Monotone.{rest-lo, rest-hi}
 use Rattle.numbers.proofs.Laws.Exact.{round-value}
 use Rattle.numbers.proofs.Laws.Median.{min-keeps, max-keeps, median-keeps}
@@ -108,21 +108,10 @@ between-within k (fin s m e) (fin true o q) (fin t n d) v w h g =
 
 -- What lies strictly between two values is finite.
 pub between-strictly : (lo x hi : Float) → T (lt lo x) → T (lt x hi) → finite x
-unfolding lt
-between-strictly nan x hi h g = absurd h
-between-strictly (inf s) nan hi h g = absurd h
-between-strictly (inf true) (inf true) hi h g = absurd h
-between-strictly (inf false) (inf true) hi h g = absurd h
-between-strictly (fin s m e) nan hi h g = absurd h
-between-strictly (fin s m e) (inf true) hi h g = absurd h
-between-strictly (inf s) (inf false) nan h g = absurd g
-between-strictly (inf s) (inf false) (inf t) h g = absurd g
-between-strictly (inf s) (inf false) (fin t n d) h g = absurd g
-between-strictly (fin s m e) (inf false) nan h g = absurd g
-between-strictly (fin s m e) (inf false) (inf t) h g = absurd g
-between-strictly (fin s m e) (inf false) (fin t n d) h g = absurd g
-between-strictly (inf s) (fin t n d) hi h g = tt
-between-strictly (fin s m e) (fin t n d) hi h g = tt
+between-strictly lo nan hi h g = unfold isNan in number-right lo nan (le-of-lt lo nan h)
+between-strictly lo (inf true) hi h g = not-below lo h
+between-strictly lo (inf false) hi h g = not-above hi g
+between-strictly lo (fin t n d) hi h g = tt
 
 -- ---- rounding
 power-lt : (k n : ℕ) → k ≤ n → 1 * 2 ^ k < 2 ^ suc n * 1

@@ -14,7 +14,7 @@ use mir.Syntax.{w64}
 use mir.Val.{SFits}
 use Rattle.numbers.specs.Rounding.{floorOf}
 use Rattle.numbers.proofs.floats.Differences.{zero-of}
-use Rattle.numbers.proofs.Laws.Order.{AtMost, le→at-most}
+use Rattle.numbers.proofs.Laws.Order.{AtMost, le-cases}
 use Rattle.numbers.proofs.rounding.Flooring.{ceiling, ceiling-le, ceiling-mono, ceiling-suc, ceiling-zero, capped, capped-most}
 
 -- ---- what it is
@@ -87,35 +87,25 @@ floor-most (fin false m e) = le→leb (min (m * up e / down e) 92233720368547758
 
 -- The floor of a value is at most that of a larger one.
 pub floor-mono : (x y : Float) → T (le x y) → T (leZ (floorOf x) (floorOf y))
-unfolding floorOf le
-floor-mono nan y h = absurd h
-floor-mono (inf true) y h = floor-least y
-floor-mono (inf false) nan h = absurd h
-floor-mono (inf false) (inf true) h = absurd h
-floor-mono (inf false) (inf false) h = tt
-floor-mono (inf false) (fin t n d) h = absurd h
-floor-mono (fin s m e) nan h = absurd h
-floor-mono (fin s m e) (inf true) h = absurd h
-floor-mono (fin s m e) (inf false) h = floor-most (fin s m e)
-floor-mono (fin false m e) (fin false n d) h =
-    let q = m * up e / down e in
-    let r = n * up d / down d in
-    le→leb (min q 9223372036854775807) (min r 9223372036854775807)
-    (omega (arith, div-mono (m * up e) (down e) (n * up d) (down d) (down-pos e) (down-pos d) (omega (arith, le→at-most false m e false n d h))))
-floor-mono (fin false m e) (fin true n d) h =
-    let z = none (m * up e * down d) (n * up d * down e) (le→at-most false m e true n d h) in
-    subst (λ (k : ℕ). T (leZ (floorOf (fin false k e)) (floorOf (fin true n d)))) (sym (zero-of m (up e) (up-pos e) (zero-of (m * up e) (down d) (down-pos d) (z .0))))
-    (subst (λ (k : ℕ). T (leZ (floorOf (fin false 0 e)) (floorOf (fin true k d)))) (sym (zero-of n (up d) (up-pos d) (zero-of (n * up d) (down e) (down-pos e) (z .1))))
-    (subst (λ (u : ℤ). T (leZ u (floorOf (fin true 0 d)))) (sym (floor-zero false e)) (subst (λ (u : ℤ). T (leZ (pos 0) u)) (sym (floor-zero true d)) tt)))
+unfolding floorOf
+floor-mono = le-cases (λ x y. T (leZ (floorOf x) (floorOf y))) (λ y n. floor-least y) (λ x n. floor-most x) finite-mono
   where
-    none : (a b : ℕ) → AtMost false a true b → (a ≡ 0) × (b ≡ 0)
-    none a b h = (omega arith, omega arith)
-floor-mono (fin true m e) (fin false n d) h = neg-pos (min (ceiling (m * up e) (down e)) 9223372036854775808) (min (n * up d / down d) 9223372036854775807)
-floor-mono (fin true m e) (fin true n d) h =
-    let q = ceiling (m * up e) (down e) in
-    let r = ceiling (n * up d) (down d) in
-    neg-neg (min q 9223372036854775808) (min r 9223372036854775808)
-    (omega (arith, ceiling-mono (n * up d) (down d) (m * up e) (down e) (down-pos d) (down-pos e) (omega (arith, le→at-most true m e true n d h))))
+    finite-mono : (s : Bool) (m : ℕ) (e : ℤ) (t : Bool) (n : ℕ) (d : ℤ) → AtMost s (m * up e * down d) t (n * up d * down e) → T (leZ (floorOf (fin s m e)) (floorOf (fin t n d)))
+    finite-mono false m e false n d h =
+        let q = m * up e / down e in
+        let r = n * up d / down d in
+        let l : q ≤ r = div-mono (m * up e) (down e) (n * up d) (down d) (down-pos e) (down-pos d) (omega arith) in
+        le→leb (min q 9223372036854775807) (min r 9223372036854775807) (omega arith)
+    finite-mono false m e true n d h =
+        let a : m ≡ 0 = zero-of m (up e) (up-pos e) (zero-of (m * up e) (down d) (down-pos d) (omega arith)) in
+        let b : n ≡ 0 = zero-of n (up d) (up-pos d) (zero-of (n * up d) (down e) (down-pos e) (omega arith)) in
+        rw (a, b, floor-zero false e, floor-zero true d) tt
+    finite-mono true m e false n d h = neg-pos (min (ceiling (m * up e) (down e)) 9223372036854775808) (min (n * up d / down d) 9223372036854775807)
+    finite-mono true m e true n d h =
+        let q = ceiling (m * up e) (down e) in
+        let r = ceiling (n * up d) (down d) in
+        let l : r ≤ q = ceiling-mono (n * up d) (down d) (m * up e) (down e) (down-pos d) (down-pos e) (omega arith) in
+        neg-neg (min q 9223372036854775808) (min r 9223372036854775808) (omega arith)
 
 -- ---- bounds
 -- Every floor is an i64.

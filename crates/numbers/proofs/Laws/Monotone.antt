@@ -16,7 +16,7 @@ use Rattle.numbers.specs.Scalar.{absOf, mixOf}
 use Rattle.numbers.specs.Rounding.{narrowOf}
 use Rattle.numbers.specs.Nearest.{sumSize, sumSign}
 use Rattle.numbers.proofs.floats.Differences.{of-at-most, summed, sum-comm, sums-order, products-order, unlike-false, round-neg, Signed, round-signed, round-zero, zero-of}
-use Rattle.numbers.proofs.Laws.Order.{plus, minus, AtMost, nought, one, finite, finite-number, le→at-most, at-most→le, le-refl, le-trans, le-inf, inf-le, le-neg, neg-neg, neg-number, between-finite, le-of-abs-le, ge-of-abs-le}
+use Rattle.numbers.proofs.Laws.Order.{plus, minus, AtMost, nought, one, finite, finite-number, le→at-most, at-most→le, le-cases, le-refl, le-trans, le-inf, inf-le, le-neg, neg-neg, neg-number, between-finite, le-of-abs-le, ge-of-abs-le}
 
 -- ---- rounding
 signed-number : (s : Bool) (x : Float) → Signed s x → T (not (isNan x))
@@ -63,16 +63,9 @@ narrow-number (fin s m e) = is-false (isNan (round binary32 s (m * up e) (down e
 
 -- Narrowing keeps the order.
 pub narrow-mono : (x y : Float) → T (le x y) → T (le (narrowOf x) (narrowOf y))
-unfolding narrowOf le
-narrow-mono nan y h = absurd h
-narrow-mono (inf s) nan h = absurd h
-narrow-mono (inf s) (inf t) h = h
-narrow-mono (inf true) (fin t n d) h = inf-le (round binary32 t (n * up d) (down d)) (round-number binary32 t (n * up d) (down d))
-narrow-mono (inf false) (fin t n d) h = absurd h
-narrow-mono (fin s m e) nan h = absurd h
-narrow-mono (fin s m e) (inf true) h = absurd h
-narrow-mono (fin s m e) (inf false) h = le-inf (round binary32 s (m * up e) (down e)) (round-number binary32 s (m * up e) (down e))
-narrow-mono (fin s m e) (fin t n d) h = round-at-most binary32 s (m * up e) (down e) t (n * up d) (down d) (down-pos e) (down-pos d) (le→at-most s m e t n d h)
+unfolding narrowOf
+narrow-mono = le-cases (λ x y. T (le (narrowOf x) (narrowOf y))) (λ y n. inf-le (narrowOf y) (rw narrow-number n)) (λ x n. le-inf (narrowOf x) (rw narrow-number n))
+    (λ s m e t n d h. round-at-most binary32 s (m * up e) (down e) t (n * up d) (down d) (down-pos e) (down-pos d) h)
 
 -- ---- sums
 -- A sum of a finite value and one that is no NaN is none.
@@ -133,21 +126,13 @@ sum-mono f s X p s' X' p' t Y q P P' Q h =
     (round-at-most f u r (p * q) v w (p' * q) (mul-pos P Q) (mul-pos P' Q) (sums-order s X p s' X' p' t Y q u r v w h (a .value) (b .value))))
 
 add-mono : (f : Format) (y x x' : Float) → T (le x x') → T (not (isNan (add f x y))) → T (not (isNan (add f x' y))) → T (le (add f x y) (add f x' y))
-unfolding add le isNan
+unfolding add isNan
 add-mono f nan x x' h m n = absurd (subst (λ (z : Float). T (not (isNan z))) (add-nan f x) m)
-add-mono f (inf t) x x' h m n =
-    subst (λ (z : Float). T (le z (add f x' (inf t)))) (sym (add-inf f x t m)) (subst (λ (z : Float). T (le (inf t) z)) (sym (add-inf f x' t n)) (le-refl (inf t) tt))
-add-mono f (fin t n d) nan x' h i j = absurd h
-add-mono f (fin t n d) (inf true) x' h i j = inf-le (add f x' (fin t n d)) j
-add-mono f (fin t n d) (inf false) nan h i j = absurd h
-add-mono f (fin t n d) (inf false) (inf true) h i j = absurd h
-add-mono f (fin t n d) (inf false) (inf false) h i j = tt
-add-mono f (fin t n d) (inf false) (fin s' m' e') h i j = absurd h
-add-mono f (fin t n d) (fin s m e) nan h i j = absurd h
-add-mono f (fin t n d) (fin s m e) (inf true) h i j = absurd h
-add-mono f (fin t n d) (fin s m e) (inf false) h i j = le-inf (add f (fin s m e) (fin t n d)) i
-add-mono f (fin t n d) (fin s m e) (fin s' m' e') h i j =
-    sum-mono f s (m * up e) (down e) s' (m' * up e') (down e') t (n * up d) (down d) (down-pos e) (down-pos e') (down-pos d) (le→at-most s m e s' m' e' h)
+add-mono f (inf t) x x' h m n = rw (add-inf f x t m, add-inf f x' t n) (le-refl (inf t) tt)
+add-mono f (fin t n d) x x' h i j =
+    let y = fin t n d in
+    le-cases (λ x x'. T (not (isNan (add f x y))) → T (not (isNan (add f x' y))) → T (le (add f x y) (add f x' y))) (λ x' k i j. inf-le (add f x' y) j) (λ x k i j. le-inf (add f x y) i)
+    (λ s m e s' m' e' h i j. sum-mono f s (m * up e) (down e) s' (m' * up e') (down e') t (n * up d) (down d) (down-pos e) (down-pos e') (down-pos d) h) x x' h i j
 
 -- A sum grows with its first operand.
 pub add-mono-left : (f : Format) (x x' y : Float) → T (le x x') → T (not (isNan (add f x y))) → T (not (isNan (add f x' y))) → T (le (add f x y) (add f x' y))
@@ -287,37 +272,31 @@ mul-inf f (inf false) n = inr tt
 mul-inf f (fin true m e) n = inl (decided (eqb m 0) true n)
 mul-inf f (fin false m e) n = inr (positive m e)
 
-mul-finite : (f : Format) (s : Bool) (m : ℕ) (e : ℤ) (s' : Bool) (m' : ℕ) (e' : ℤ) (t : Bool) (n : ℕ) (d : ℤ) → T (le nought (fin t n d)) → T (le (fin s m e) (fin s' m' e'))
+mul-finite : (f : Format) (s : Bool) (m : ℕ) (e : ℤ) (s' : Bool) (m' : ℕ) (e' : ℤ) (t : Bool) (n : ℕ) (d : ℤ) → T (le nought (fin t n d)) → AtMost s (m * up e * down e') s' (m' * up e' * down e)
     → T (le (mul f (fin s m e) (fin t n d)) (mul f (fin s' m' e') (fin t n d)))
 unfolding mul
 mul-finite f s m e s' m' e' t n d z h =
     round-at-most f (unlike s t) (m * up e * (n * up d)) (down e * down d) (unlike s' t) (m' * up e' * (n * up d)) (down e' * down d) (mul-pos (down-pos e) (down-pos d)) (mul-pos (down-pos e') (down-pos d))
-    (products-order s (m * up e) (down e) s' (m' * up e') (down e') t (n * up d) (down d) (none t z) (le→at-most s m e s' m' e' h))
+    (products-order s (m * up e) (down e) s' (m' * up e') (down e') t (n * up d) (down d) (none t z) h)
   where
     none : (t : Bool) → T (le nought (fin t n d)) → t ≡ true → n * up d ≡ 0
     none true z q = ap (λ (k : ℕ). k * up d) (negative-zero n d z) ∙ zero-mul (up d)
     none false z q = absurd (false≢true q)
 
 times-mono : (f : Format) (y x x' : Float) → T (le nought y) → T (le x x') → T (not (isNan (mul f x y))) → T (not (isNan (mul f x' y))) → T (le (mul f x y) (mul f x' y))
-unfolding le
-times-mono f nan x x' z h i j = absurd z
-times-mono f (inf true) x x' z h i j = absurd z
+times-mono f nan x x' z h i j = absurd (unfold le in z)
+times-mono f (inf true) x x' z h i j = absurd (unfold le in z)
 times-mono f (inf false) x x' z h i j = elim (mul-inf f x i) [
-  | inl e ↦ subst (λ (v : Float). T (le v (mul f x' (inf false)))) (sym e) (inf-le (mul f x' (inf false)) j)
+  | inl e ↦ rw e (inf-le (mul f x' (inf false)) j)
   | inr g ↦
       let e = mul-comm f x' (inf false) in
-      subst (λ (v : Float). T (le (mul f x (inf false)) v)) (sym (e ∙ inf-mul f false x' (le-trans nought x x' g h) (subst (λ (v : Float). T (not (isNan v))) e j))) (le-inf (mul f x (inf false)) i)
+      rw (e ∙ inf-mul f false x' (le-trans nought x x' g h) (subst (λ (v : Float). T (not (isNan v))) e j)) (le-inf (mul f x (inf false)) i)
 ]
-times-mono f (fin t n d) nan x' z h i j = absurd h
-times-mono f (fin t n d) (inf true) x' z h i j = subst (λ (v : Float). T (le v (mul f x' (fin t n d)))) (sym (inf-mul f true (fin t n d) z i)) (inf-le (mul f x' (fin t n d)) j)
-times-mono f (fin t n d) (inf false) nan z h i j = absurd h
-times-mono f (fin t n d) (inf false) (inf true) z h i j = absurd h
-times-mono f (fin t n d) (inf false) (inf false) z h i j = le-refl (mul f (inf false) (fin t n d)) i
-times-mono f (fin t n d) (inf false) (fin s' m' e') z h i j = absurd h
-times-mono f (fin t n d) (fin s m e) nan z h i j = absurd h
-times-mono f (fin t n d) (fin s m e) (inf true) z h i j = absurd h
-times-mono f (fin t n d) (fin s m e) (inf false) z h i j = subst (λ (v : Float). T (le (mul f (fin s m e) (fin t n d)) v)) (sym (inf-mul f false (fin t n d) z j)) (le-inf (mul f (fin s m e) (fin t n d)) i)
-times-mono f (fin t n d) (fin s m e) (fin s' m' e') z h i j = mul-finite f s m e s' m' e' t n d z h
+times-mono f (fin t n d) x x' z h i j =
+    let y = fin t n d in
+    le-cases (λ x x'. T (not (isNan (mul f x y))) → T (not (isNan (mul f x' y))) → T (le (mul f x y) (mul f x' y)))
+    (λ x' k i j. rw (inf-mul f true y z i) (inf-le (mul f x' y) j)) (λ x k i j. rw (inf-mul f false y z j) (le-inf (mul f x y) i))
+    (λ s m e s' m' e' h i j. mul-finite f s m e s' m' e' t n d z h) x x' h i j
 
 -- A product with a value that is not negative grows with its first operand.
 pub mul-mono-left : (f : Format) (x x' y : Float) → T (le nought y) → T (le x x') → T (not (isNan (mul f x y))) → T (not (isNan (mul f x' y))) → T (le (mul f x y) (mul f x' y))

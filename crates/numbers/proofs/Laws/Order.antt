@@ -45,24 +45,48 @@ pub at-most→le : (s : Bool) (m : ℕ) (e : ℤ) (t : Bool) (n : ℕ) (d : ℤ)
 unfolding le
 at-most→le s m e t n d h = of-at-most s (m * up e * down d) t (n * up d * down e) h
 
--- ---- what a comparison says of its operands
+-- ---- the order by cases
+-- -∞ is at most each value.
+pub inf-le : (x : Float) → T (not (isNan x)) → T (le (inf true) x)
+unfolding le isNan
+inf-le nan n = absurd n
+inf-le (inf true) n = tt
+inf-le (inf false) n = tt
+inf-le (fin s m e) n = tt
+
+-- Each value is at most ∞.
+pub le-inf : (x : Float) → T (not (isNan x)) → T (le x (inf false))
+unfolding le isNan
+le-inf nan n = absurd n
+le-inf (inf true) n = tt
+le-inf (inf false) n = tt
+le-inf (fin s m e) n = tt
+
+-- What holds of -∞ and any number, of any number and ∞, and of two finite values in order holds wherever one value is at most another.
+pub le-cases : (P : Float → Float → Type 0) → ((y : Float) → T (not (isNan y)) → P (inf true) y) → ((x : Float) → T (not (isNan x)) → P x (inf false))
+    → ((s : Bool) (m : ℕ) (e : ℤ) (t : Bool) (n : ℕ) (d : ℤ) → AtMost s (m * up e * down d) t (n * up d * down e) → P (fin s m e) (fin t n d)) → (x y : Float) → T (le x y) → P x y
+unfolding le isNan
+le-cases P a b c nan y h = absurd h
+le-cases P a b c (inf s) nan h = absurd h
+le-cases P a b c (inf true) (inf t) h = a (inf t) tt
+le-cases P a b c (inf true) (fin t n d) h = a (fin t n d) tt
+le-cases P a b c (inf false) (inf true) h = absurd h
+le-cases P a b c (inf false) (inf false) h = b (inf false) tt
+le-cases P a b c (inf false) (fin t n d) h = absurd h
+le-cases P a b c (fin s m e) nan h = absurd h
+le-cases P a b c (fin s m e) (inf true) h = absurd h
+le-cases P a b c (fin s m e) (inf false) h = b (fin s m e) tt
+le-cases P a b c (fin s m e) (fin t n d) h = c s m e t n d (at-most s (m * up e * down d) t (n * up d * down e) h)
+
 -- A value that is at most another is no NaN.
 pub number-left : (x y : Float) → T (le x y) → T (not (isNan x))
-unfolding le isNan
-number-left nan y h = h
-number-left (inf s) y h = tt
-number-left (fin s m e) y h = tt
+unfolding isNan
+number-left = le-cases (λ x y. T (not (isNan x))) (λ y n. tt) (λ x n. n) (λ s m e t n d h. tt)
 
 -- A value that another is at most is no NaN.
 pub number-right : (x y : Float) → T (le x y) → T (not (isNan y))
-unfolding le isNan
-number-right nan y h = absurd h
-number-right (inf s) nan h = h
-number-right (inf s) (inf t) h = tt
-number-right (inf s) (fin t n d) h = tt
-number-right (fin s m e) nan h = h
-number-right (fin s m e) (inf t) h = tt
-number-right (fin s m e) (fin t n d) h = tt
+unfolding isNan
+number-right = le-cases (λ x y. T (not (isNan y))) (λ y n. n) (λ x n. tt) (λ s m e t n d h. tt)
 
 -- ---- `le` is an order
 -- What is less is at most.
@@ -99,20 +123,27 @@ le-of-not-lt (fin s k e) (inf true) m n h = tt
 le-of-not-lt (fin s k e) (inf false) m n h = absurd h
 le-of-not-lt (fin s k e) (fin t o d) m n h = of-at-most t (o * up d * down e) s (k * up e * down d) (of-not-below s (k * up e * down d) t (o * up d * down e) h)
 
+-- Nothing is below -∞.
+pub not-below : (x : Float) → T (lt x (inf true)) → ⊥
+unfolding lt
+not-below nan h = h
+not-below (inf true) h = h
+not-below (inf false) h = h
+not-below (fin s m e) h = h
+
+-- Nothing is above ∞.
+pub not-above : (y : Float) → T (lt (inf false) y) → ⊥
+unfolding lt
+not-above nan h = h
+not-above (inf t) h = h
+not-above (fin t n d) h = h
+
 -- What is less is not at least.
 pub lt-not-le : (x y : Float) → T (lt x y) → T (le y x) → ⊥
-unfolding le
-lt-not-le nan y h k = absurd h
-lt-not-le (inf s) nan h k = absurd h
-lt-not-le (inf true) (inf true) h k = absurd h
-lt-not-le (inf true) (inf false) h k = absurd k
-lt-not-le (inf false) (inf t) h k = absurd h
-lt-not-le (inf true) (fin t n d) h k = absurd k
-lt-not-le (inf false) (fin t n d) h k = absurd h
-lt-not-le (fin s m e) nan h k = absurd h
-lt-not-le (fin s m e) (inf true) h k = absurd h
-lt-not-le (fin s m e) (inf false) h k = absurd k
-lt-not-le (fin s m e) (fin t n d) h k = omega (arith, of-below s (m * up e * down d) t (n * up d * down e) h, at-most t (n * up d * down e) s (m * up e * down d) k)
+unfolding lt
+lt-not-le x y h k =
+    le-cases (λ y x. T (lt x y) → ⊥) (λ x n. not-below x) (λ y n. not-above y)
+    (λ t n d s m e g l. omega (arith, of-below s (m * up e * down d) t (n * up d * down e) l)) y x k h
 
 opposite : (a b : Bool) → (T a → T b → ⊥) → (T (not b) → T a) → a ≡ not b
 opposite true true h k = absurd (h tt tt)
@@ -142,43 +173,22 @@ le-total x y m n = go (lt x y) (le-of-lt x y) (le-of-not-lt x y m n)
     go true h k = inl (h tt)
     go false h k = inr (k tt)
 
--- -∞ is at most each value.
-pub inf-le : (x : Float) → T (not (isNan x)) → T (le (inf true) x)
-unfolding le isNan
-inf-le nan n = absurd n
-inf-le (inf true) n = tt
-inf-le (inf false) n = tt
-inf-le (fin s m e) n = tt
-
--- Each value is at most ∞.
-pub le-inf : (x : Float) → T (not (isNan x)) → T (le x (inf false))
-unfolding le isNan
-le-inf nan n = absurd n
-le-inf (inf true) n = tt
-le-inf (inf false) n = tt
-le-inf (fin s m e) n = tt
-
 -- The order passes on.
 pub le-trans : (x y z : Float) → T (le x y) → T (le y z) → T (le x z)
-unfolding le
-le-trans nan y z h k = absurd h
-le-trans (inf true) y z h k = inf-le z (number-right y z k)
-le-trans (inf false) nan z h k = absurd h
-le-trans (inf false) (inf true) z h k = absurd h
-le-trans (inf false) (inf false) z h k = k
-le-trans (inf false) (fin t n d) z h k = absurd h
-le-trans (fin s m e) nan z h k = absurd h
-le-trans (fin s m e) (inf true) z h k = absurd h
-le-trans (fin s m e) (inf false) nan h k = absurd k
-le-trans (fin s m e) (inf false) (inf true) h k = absurd k
-le-trans (fin s m e) (inf false) (inf false) h k = tt
-le-trans (fin s m e) (inf false) (fin v o g) h k = absurd k
-le-trans (fin s m e) (fin t n d) nan h k = absurd k
-le-trans (fin s m e) (fin t n d) (inf true) h k = absurd k
-le-trans (fin s m e) (fin t n d) (inf false) h k = tt
-le-trans (fin s m e) (fin t n d) (fin v o g) h k =
-    of-at-most s (m * up e * down g) v (o * up g * down e)
-    (through s (m * up e) (down e) t (n * up d) (down d) v (o * up g) (down g) (down-pos d) (at-most s (m * up e * down d) t (n * up d * down e) h) (at-most t (n * up d * down g) v (o * up g * down d) k))
+le-trans x y z h k = le-cases (λ x y. T (le y z) → T (le x z)) (λ y n l. inf-le z (number-right y z l)) (λ x n. top x z n) (λ s m e t n d g. past s m e t n d z g) x y h k
+  where
+    top : (x z : Float) → T (not (isNan x)) → T (le (inf false) z) → T (le x z)
+    top x nan n l = absurd (unfold le in l)
+    top x (inf true) n l = absurd (unfold le in l)
+    top x (inf false) n l = le-inf x n
+    top x (fin v o g) n l = absurd (unfold le in l)
+
+    past : (s : Bool) (m : ℕ) (e : ℤ) (t : Bool) (n : ℕ) (d : ℤ) (z : Float) → AtMost s (m * up e * down d) t (n * up d * down e) → T (le (fin t n d) z) → T (le (fin s m e) z)
+    past s m e t n d nan h k = absurd (unfold le in k)
+    past s m e t n d (inf true) h k = absurd (unfold le in k)
+    past s m e t n d (inf false) h k = unfold le in tt
+    past s m e t n d (fin v o g) h k =
+        at-most→le s m e v o g (through s (m * up e) (down e) t (n * up d) (down d) v (o * up g) (down g) (down-pos d) h (le→at-most t n d v o g k))
 
 -- What lies between two finite values is finite.
 pub between-finite : (lo x hi : Float) → finite lo → finite hi → T (le lo x) → T (le x hi) → finite x
@@ -272,20 +282,9 @@ neg-number (fin s m e) = refl
 
 -- `neg` turns the order round.
 pub le-neg : (x y : Float) → T (le x y) → T (le (neg y) (neg x))
-unfolding le neg
-le-neg nan y h = absurd h
-le-neg (inf s) nan h = absurd h
-le-neg (inf true) (inf true) h = tt
-le-neg (inf true) (inf false) h = tt
-le-neg (inf false) (inf true) h = absurd h
-le-neg (inf false) (inf false) h = tt
-le-neg (inf true) (fin t n d) h = tt
-le-neg (inf false) (fin t n d) h = absurd h
-le-neg (fin s m e) nan h = absurd h
-le-neg (fin s m e) (inf true) h = absurd h
-le-neg (fin s m e) (inf false) h = tt
-le-neg (fin s m e) (fin t n d) h =
-    of-at-most (not t) (n * up d * down e) (not s) (m * up e * down d) (flip s (m * up e * down d) t (n * up d * down e) (at-most s (m * up e * down d) t (n * up d * down e) h))
+unfolding neg
+le-neg = le-cases (λ x y. T (le (neg y) (neg x))) (λ y n. le-inf (neg y) (rw neg-number n)) (λ x n. inf-le (neg x) (rw neg-number n))
+    (λ s m e t n d h. at-most→le (not t) n d (not s) m e (flip s (m * up e * down d) t (n * up d * down e) h))
 
 -- `neg` turns the strict order round.
 pub lt-neg : (x y : Float) → T (lt x y) → T (lt (neg y) (neg x))
