@@ -16,6 +16,7 @@ use Rattle.numbers.specs.Rounding.{narrowOf}
 use Rattle.numbers.specs.Nearest.{sumSize, sumSign}
 use Rattle.numbers.proofs.floats.Differences.{scale-plus, scale-minus, summed, unlike-false, zero-of}
 use Rattle.numbers.proofs.Laws.Order.{plus, minus, eq-refl, eq-zeros}
+use Rattle.numbers.proofs.floats.Values.{with-value}
 use Rattle.numbers.proofs.floats.Held.{held, count, value-unique}
 
 -- ---- rounding
@@ -28,10 +29,9 @@ round-held f s m e p =
 
 -- It is what any fraction of its value rounds to.
 pub round-value : (f : Format) (v : Float) (s : Bool) (a c : ℕ) → 0 < c → T (fits f v) → HasValue v s a c → round f s a c ≡ v
-round-value f nan s a c C p h = absurd h
-round-value f (inf t) s a c C p h = absurd h
-round-value f (fin t m e) s a c C p h =
-    ap (λ (b : Bool). round f b a c) (sym (h .0)) ∙ round-same f t a c (m * up e) (down e) C (down-pos e) (sym (h .1)) ∙ round-held f t m e p
+round-value f v s a c C p h =
+    with-value (λ v. T (fits f v) → round f s a c ≡ v) v s a c h
+    (λ m e q p. round-same f s a c (m * up e) (down e) C (down-pos e) (sym q) ∙ round-held f s m e p) p
 
 -- A value of binary32 narrows to itself.
 pub narrow-held : (x : Float) → T (fits binary32 x) → narrowOf x ≡ x
@@ -100,6 +100,16 @@ Adds (fin s m e) (fin t n d) (fin u k g) =
     let b = n * up d * down e * down g in
     let r = k * up g * (down e * down d) in
     plus s a + plus t b + minus u r ≡ plus u r + minus s a + minus t b
+
+adds-cases : (P : Float → Float → Float → Type 0)
+    → ((s : Bool) (m : ℕ) (e : ℤ) (t : Bool) (n : ℕ) (d : ℤ) (u : Bool) (k : ℕ) (g : ℤ) → Adds (fin s m e) (fin t n d) (fin u k g) → P (fin s m e) (fin t n d) (fin u k g)) → (x y v : Float) → Adds x y v → P x y v
+adds-cases P c nan y v h = absurd h
+adds-cases P c (inf s) y v h = absurd h
+adds-cases P c (fin s m e) nan v h = absurd h
+adds-cases P c (fin s m e) (inf t) v h = absurd h
+adds-cases P c (fin s m e) (fin t n d) nan h = absurd h
+adds-cases P c (fin s m e) (fin t n d) (inf u) h = absurd h
+adds-cases P c (fin s m e) (fin t n d) (fin u k g) h = c s m e t n d u k g h
 
 -- the sum as `add` has it, and the value v = ±R / p, agree
 agree : (s : Bool) (a : ℕ) (t : Bool) (b : ℕ) (u : Bool) (R : ℕ) (c p : ℕ) (w : Bool) (r : ℕ)
@@ -172,29 +182,16 @@ add-exact-zero f (fin s m e) (fin t n d) u g h =
 -- ---- equality
 -- So a sum that is exactly a value of the format equals that value, a zero of either sign.
 pub add-exact-eq : (f : Format) (x y v : Float) → T (fits f v) → Adds x y v → T (eq (add f x y) v)
-add-exact-eq f nan y v p h = absurd h
-add-exact-eq f (inf s) y v p h = absurd h
-add-exact-eq f (fin s m e) nan v p h = absurd h
-add-exact-eq f (fin s m e) (inf t) v p h = absurd h
-add-exact-eq f (fin s m e) (fin t n d) nan p h = absurd h
-add-exact-eq f (fin s m e) (fin t n d) (inf u) p h = absurd h
-add-exact-eq f (fin s m e) (fin t n d) (fin u zero g) p h =
-    let z = add-exact-zero f (fin s m e) (fin t n d) u g h in
-    subst (λ (x : Float). T (eq x (fin u 0 g))) (sym (z .1)) (eq-zeros (z .0) (pos 0) u g)
-add-exact-eq f (fin s m e) (fin t n d) (fin u (suc k) g) p h =
-    subst (λ (x : Float). T (eq x (fin u (suc k) g))) (sym (add-exact f (fin s m e) (fin t n d) u k g p h)) (eq-refl (fin u (suc k) g) (unfold isNan in tt))
+add-exact-eq f x y v p h = adds-cases (λ x y v. T (fits f v) → T (eq (add f x y) v)) go x y v h p
+  where
+    go : (s : Bool) (m : ℕ) (e : ℤ) (t : Bool) (n : ℕ) (d : ℤ) (u : Bool) (k : ℕ) (g : ℤ) → Adds (fin s m e) (fin t n d) (fin u k g) → T (fits f (fin u k g)) → T (eq (add f (fin s m e) (fin t n d)) (fin u k g))
+    go s m e t n d u zero g h p = let z = add-exact-zero f (fin s m e) (fin t n d) u g h in rw (z .1) (eq-zeros (z .0) (pos 0) u g)
+    go s m e t n d u (suc k) g h p = rw (add-exact f (fin s m e) (fin t n d) u k g p h) (eq-refl (fin u (suc k) g) (unfold isNan in tt))
 
 -- ---- differences: x - y is v where v + y is x
 sub-adds : (x y v : Float) → Adds v y x → Adds x (neg y) v
 unfolding neg
-sub-adds x y nan h = absurd h
-sub-adds x y (inf s) h = absurd h
-sub-adds x nan (fin u k g) h = absurd h
-sub-adds x (inf t) (fin u k g) h = absurd h
-sub-adds nan (fin t n d) (fin u k g) h = absurd h
-sub-adds (inf s) (fin t n d) (fin u k g) h = absurd h
-sub-adds (fin s m e) (fin t n d) (fin u k g) h =
-    turned s (m * up e) (down e) t (n * up d) (down d) u (k * up g) (down g) h
+sub-adds x y v h = adds-cases (λ v y x. Adds x (neg y) v) (λ u k g t n d s m e h. turned s (m * up e) (down e) t (n * up d) (down d) u (k * up g) (down g) h) v y x h
   where
     turned : (s : Bool) (a p : ℕ) (t : Bool) (b q : ℕ) (u : Bool) (c r : ℕ)
         → plus u (c * q * p) + plus t (b * r * p) + minus s (a * (r * q)) ≡ plus s (a * (r * q)) + minus u (c * q * p) + minus t (b * r * p)

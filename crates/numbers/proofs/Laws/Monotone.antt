@@ -15,16 +15,10 @@ use lib.Ieee.Order.{round-mono}
 use Rattle.numbers.specs.Scalar.{absOf, mixOf}
 use Rattle.numbers.specs.Rounding.{narrowOf}
 use Rattle.numbers.specs.Nearest.{sumSize, sumSign}
-use Rattle.numbers.proofs.floats.Differences.{of-at-most, summed, sum-comm, sums-order, products-order, unlike-false, round-neg, Signed, round-signed, round-zero, zero-of}
+use Rattle.numbers.proofs.floats.Differences.{of-at-most, summed, sum-comm, sums-order, products-order, unlike-false, round-neg, Signed, signed-number, round-signed, round-zero, zero-of}
 use Rattle.numbers.proofs.Laws.Order.{plus, minus, AtMost, nought, one, finite, finite-number, le→at-most, at-most→le, le-cases, le-refl, le-trans, le-inf, inf-le, le-neg, neg-neg, neg-number, between-finite, le-of-abs-le, ge-of-abs-le}
 
 -- ---- rounding
-signed-number : (s : Bool) (x : Float) → Signed s x → T (not (isNan x))
-unfolding isNan
-signed-number s nan h = h
-signed-number s (inf t) h = tt
-signed-number s (fin t m e) h = tt
-
 -- A rounded fraction is no NaN.
 pub round-number : (f : Format) (s : Bool) (a c : ℕ) → T (not (isNan (round f s a c)))
 round-number f s a c = signed-number s (round f s a c) (round-signed f s a c)
@@ -167,29 +161,28 @@ round-not-negative f u r c C h = subst (λ (z : Float). T (le z (round f u r c))
 
 -- A difference of a value and one that is at most it is not negative.
 pub sub-not-negative : (f : Format) (x y : Float) → T (le y x) → T (not (isNan (sub f x y))) → T (le nought (sub f x y))
-unfolding sub neg add le isNan
-sub-not-negative f x nan h n = absurd h
-sub-not-negative f x (inf true) h n = subst (λ (z : Float). T (le nought z)) (sym (add-inf f x false n)) tt
-sub-not-negative f nan (inf false) h n = absurd h
-sub-not-negative f (inf true) (inf false) h n = absurd h
-sub-not-negative f (inf false) (inf false) h n = absurd n
-sub-not-negative f (fin s m e) (inf false) h n = absurd h
-sub-not-negative f nan (fin t n d) h i = absurd h
-sub-not-negative f (inf true) (fin t n d) h i = absurd h
-sub-not-negative f (inf false) (fin t n d) h i = tt
-sub-not-negative f (fin s m e) (fin t n d) h i =
-    let A = m * up e * down d in
-    let B = n * up d * down e in
-    let c = down e * down d in
-    let a = summed f s A (not t) B c in
-    let u = sumSign s A (not t) B in
-    let r = sumSize s A (not t) B in
-    subst (λ (z : Float). T (le nought z)) (sym (a .is)) (round-not-negative f u r c (mul-pos (down-pos e) (down-pos d)) (gap u r c s A t B (le→at-most t n d s m e h) (a .value)))
+unfolding sub neg
+sub-not-negative f x y h n =
+    le-cases (λ y x. T (not (isNan (sub f x y))) → T (le nought (sub f x y))) (λ x k n. rw (add-inf f x false n) top)
+    (λ y k n. let e = add-comm f (inf false) (neg y) in rw (e ∙ add-inf f (neg y) false (subst (λ (v : Float). T (not (isNan v))) e n)) top) apart y x h n
   where
+    top : T (le nought (inf false))
+    top = unfold le in tt
+
     gap : (u : Bool) (r c : ℕ) (s : Bool) (A : ℕ) (t : Bool) (B : ℕ) → AtMost t B s A → plus u r + minus s A + minus (not t) B ≡ minus u r + plus s A + plus (not t) B → AtMost false (0 * c) u (r * 1)
     gap true r c s A true B h k = omega (arith, zero-mul c)
     gap true r c s A false B h k = omega (arith, zero-mul c)
     gap false r c s A t B h k = omega (arith, zero-mul c)
+
+    apart : (t : Bool) (n : ℕ) (d : ℤ) (s : Bool) (m : ℕ) (e : ℤ) → AtMost t (n * up d * down e) s (m * up e * down d) → T (not (isNan (sub f (fin s m e) (fin t n d)))) → T (le nought (sub f (fin s m e) (fin t n d)))
+    apart t n d s m e h i =
+        let A = m * up e * down d in
+        let B = n * up d * down e in
+        let c = down e * down d in
+        let a = summed f s A (not t) B c in
+        let u = sumSign s A (not t) B in
+        let r = sumSize s A (not t) B in
+        unfold add in subst (λ (z : Float). T (le nought z)) (sym (a .is)) (round-not-negative f u r c (mul-pos (down-pos e) (down-pos d)) (gap u r c s A t B h (a .value)))
 
 -- ---- products
 -- A product of finite values is no NaN.

@@ -8,7 +8,7 @@ use native.Mathlib.Omega.{arith}
 use mathlib.Core.Bool.{Bool, true, false, not, _&&_, _||_, Bool·beq, cond, and-comm}
 use lib.IntN.{pos}
 use lib.Dec.{T, ltb, eqb, ltb→lt, lt→ltb, nltb→le, eqb→eq}
-use lib.Ieee.{Float, nan, inf, fin, Format, binary32, binary64, prec, emax, low, unlike, odd, units, round, sum, neg, below, level}
+use lib.Ieee.{Float, nan, inf, fin, Format, binary32, binary64, prec, emax, low, unlike, odd, units, round, sum, neg, below, level, isNan}
 use lib.Ieee.Fits.{and-i, and-l, and-r, eq→eqb, round-is}
 use lib.Ieee.Scale.{round-same}
 use Rattle.numbers.specs.Nearest.{apart, sumSize, sumSign}
@@ -251,12 +251,18 @@ Signed s nan = ⊥
 Signed s (inf t) = t ≡ s
 Signed s (fin t m e) = t ≡ s
 
+pub signed-number : (s : Bool) (x : Float) → Signed s x → T (not (isNan x))
+unfolding isNan
+signed-number s nan h = h
+signed-number s (inf t) h = tt
+signed-number s (fin t m e) h = tt
+
 odd-signed : (d : ℕ) (s : Bool) (q k l : ℕ) → Signed s (odd d s q k l)
 unfolding odd
 odd-signed d s zero k l = refl
 odd-signed d s (suc q) k l = refl
 
-units-signed : (f : Format) (s : Bool) (q k : ℕ) → Signed s (units f s q k)
+pub units-signed : (f : Format) (s : Bool) (q k : ℕ) → Signed s (units f s q k)
 unfolding units
 units-signed f s q k = go (ltb (q * 2 ^ k) (2 ^ (low f + suc (emax f))))
   where

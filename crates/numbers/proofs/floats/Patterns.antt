@@ -15,6 +15,8 @@ use lib.Ieee.Fits.{round-is, two, reach, two-le-pos, odd-fits, inf-fits, down-po
 use lib.Ieee.Exact.{HasValue, odd-sign}
 use lib.Ieee.Nearest.{closest}
 use lib.Ieee.Bits.{ofBits-toBits, nanBits-is}
+use Rattle.numbers.proofs.floats.Differences.{units-signed, signed-number}
+use Rattle.numbers.proofs.floats.Values.{with-value}
 
 -- ---- how many digits are dropped
 pub pow-lt-back : (i p : ℕ) → 2 ^ i < 2 ^ p → i < p
@@ -73,11 +75,9 @@ toBits-is f s m e n p = ap (λ (x : ℕ). cond s (top f) 0 + (size x - prec f) *
 
 pub toBits-val : (f : Format) (x : Float) (s : Bool) (a : ℕ) → HasValue x s a (2 ^ low f)
     → toBits f x ≡ cond s (top f) 0 + (size a - prec f) * hid f + a / 2 ^ (size a - prec f)
-toBits-val f nan s a h = absurd h
-toBits-val f (inf t) s a h = absurd h
-toBits-val f (fin t m e) s a h =
-    toBits-is f t m e a (ap (λ (x : ℕ). x / down e) (h .1) ∙ mul-div-cancel a (down-pos e))
-    ∙ ap (λ (b : Bool). cond b (top f) 0 + (size a - prec f) * hid f + a / 2 ^ (size a - prec f)) (h .0)
+toBits-val f x s a h =
+    with-value (λ x. toBits f x ≡ cond s (top f) 0 + (size a - prec f) * hid f + a / 2 ^ (size a - prec f)) x s a (2 ^ low f) h
+    (λ m e p. toBits-is f s m e a (ap (λ (x : ℕ). x / down e) p ∙ mul-div-cancel a (down-pos e)))
 
 twice-hid : (p : ℕ) → 0 < p → 2 ^ p ≡ 2 * 2 ^ (p - 1)
 twice-hid p h = ap (λ (x : ℕ). 2 ^ x) (omega arith) ∙ pow-succ' 2 (p - 1)
@@ -160,20 +160,7 @@ pattern f s q k hi lo fit = go (ltb (q * 2 ^ k) over) (ltb→lt (q * 2 ^ k) over
         (ap (λ (x : ℕ). cond s (top f) 0 + x) (full (emax f) (hid f) k q d sk (pow-pos (prec f - 1)) q-ge (le-trans hi (le-of-eq (twice-hid (prec f) P))) whole fit) ∙ sym (toBits-inf f s))
         ∙ ofBits-toBits f (inf s) (inf-fits f s)
 
-units-no-nan : (f : Format) (s : Bool) (q k : ℕ) → isNan (units f s q k) ≡ false
-unfolding units odd isNan
-units-no-nan f s zero k = go (ltb (zero * 2 ^ k) (2 ^ (low f + suc (emax f))))
-  where
-    go : (b : Bool) → isNan (cond b (odd (suc (prec f)) s zero k (low f)) (inf s)) ≡ false
-    go true = refl
-    go false = refl
-units-no-nan f s (suc q) k = go (ltb (suc q * 2 ^ k) (2 ^ (low f + suc (emax f))))
-  where
-    go : (b : Bool) → isNan (cond b (odd (suc (prec f)) s (suc q) k (low f)) (inf s)) ≡ false
-    go true = refl
-    go false = refl
-
 pub pattern-no-nan : (f : Format) (s : Bool) (q k : ℕ) → q ≤ 2 ^ prec f → (k ≡ 0) ⊎ (hid f ≤ q) → k * hid f + q ≤ ones f * hid f
     → T (not (nanBits f (cond s (top f) 0 + (k * hid f + q))))
 pattern-no-nan f s q k hi lo fit =
-    subst (λ (b : Bool). T (not b)) (sym (nanBits-is f (cond s (top f) 0 + (k * hid f + q)) ∙ ap isNan (pattern f s q k hi lo fit) ∙ units-no-nan f s q k)) tt
+    rw (nanBits-is f (cond s (top f) 0 + (k * hid f + q)), pattern f s q k hi lo fit) (signed-number s (units f s q k) (units-signed f s q k))

@@ -20,6 +20,7 @@ use mir.ValLaws.{toZ-pos, toZ-ofZ}
 use Rattle.numbers.specs.Rounding.{floorOf}
 use Rattle.numbers.specs.Inner.{scaled}
 use Rattle.numbers.proofs.rounding.Narrowing.{val, fields-value, exp, digits, signed, top-field}
+use Rattle.numbers.proofs.floats.Values.{with-value}
 use Rattle.numbers.proofs.floats.Patterns.{shifted}
 
 -- ---- m * 2 ^ e / 2 ^ 1075, by shifts
@@ -73,10 +74,9 @@ floorFrac s a c = cond s (negℤ (pos (min (ceiling a c) 9223372036854775808))) 
 
 floor-value : (x : Float) (s : Bool) (a c : ℕ) → 0 < c → HasValue x s a c → floorOf x ≡ floorFrac s a c
 unfolding floorOf
-floor-value nan s a c C h = absurd h
-floor-value (inf t) s a c C h = absurd h
-floor-value (fin t m e) s a c C h =
-    (λ i. cond (h .0 i) (negℤ (pos (min (ceiling-same (m * up e) (down e) a c (down-pos e) C (h .1) i) 9223372036854775808))) (pos (min (div-same (m * up e) (down e) a c (down-pos e) C (h .1) i) 9223372036854775807)))
+floor-value x s a c C h =
+    with-value (λ x. floorOf x ≡ floorFrac s a c) x s a c h
+    (λ m e p i. cond s (negℤ (pos (min (ceiling-same (m * up e) (down e) a c (down-pos e) C p i) 9223372036854775808))) (pos (min (div-same (m * up e) (down e) a c (down-pos e) C p i) 9223372036854775807)))
 
 -- ---- the number that the fields stand for, in units of 2 ^ -1074, cut and rounded up
 val-div : (e t : ℕ) → t < 4503599627370496 → val e t / 2 ^ 1074 ≡ scaled (4503599627370496 + t) e

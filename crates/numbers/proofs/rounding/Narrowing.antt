@@ -16,29 +16,13 @@ use lib.Ieee.Scale.{round-same}
 use lib.Arith.{lt→nleb, le→nltb}
 use lib.Ieee.Bits.{cond-no, is-false, toBits-ofBits, nanBits-is}
 use Rattle.numbers.specs.Rounding.{narrowOf}
+use Rattle.numbers.proofs.floats.Values.{with-value, value-no-nan, add-value}
 use Rattle.numbers.proofs.floats.Patterns.{drop-is, drop-none, round-at, closest-shift, pattern, pattern-no-nan}
 
 -- ---- by the fraction that a value equals
 narrow-value : (x : Float) (s : Bool) (a c : ℕ) → 0 < c → HasValue x s a c → narrowOf x ≡ round binary32 s a c
 unfolding narrowOf
-narrow-value nan s a c C h = absurd h
-narrow-value (inf t) s a c C h = absurd h
-narrow-value (fin t m e) s a c C h = round-same binary32 t (m * up e) (down e) a c (down-pos e) C (h .1) ∙ ap (λ (b : Bool). round binary32 b a c) (h .0)
-
-pub add-value : (f : Format) (x y : Float) (a b c : ℕ) → 0 < c → HasValue x false a c → HasValue y false b c → add f x y ≡ round f false (a + b) c
-unfolding add
-add-value f nan y a b c C h k = absurd h
-add-value f (inf s) y a b c C h k = absurd h
-add-value f (fin true m e) y a b c C h k = absurd (true≢false (h .0))
-add-value f (fin false m e) nan a b c C h k = absurd k
-add-value f (fin false m e) (inf t) a b c C h k = absurd k
-add-value f (fin false m e) (fin true n d) a b c C h k = absurd (true≢false (k .0))
-add-value f (fin false m e) (fin false n d) a b c C h k =
-    round-same f false (m * up e * down d + n * up d * down e) (down e * down d) (a + b) c (mul-pos (down-pos e) (down-pos d)) C
-    (joined (m * up e) (n * up d) (down e) (down d) a b c (h .1) (k .1))
-  where
-    joined : (x y p q a b c : ℕ) → x * c ≡ a * p → y * c ≡ b * q → (x * q + y * p) * c ≡ (a + b) * (p * q)
-    joined x y p q a b c h k = omega (arith, ap (λ (z : ℕ). z * q) h, ap (λ (z : ℕ). z * p) k)
+narrow-value x s a c C h = with-value (λ x. narrowOf x ≡ round binary32 s a c) x s a c h (λ m e p. round-same binary32 s (m * up e) (down e) a c (down-pos e) C p)
 
 -- ---- the number that the fields stand for, in units of 2 ^ -1074
 abbrev pub val : ℕ → ℕ → ℕ
@@ -151,12 +135,6 @@ small-digits n h =
     subst (λ (x : Bool). T (not x)) (nanBits-is binary64 (0 + b)) (pattern-no-nan binary64 false (q + 4503599627370496) 925 (omega arith) (inr (omega arith)) (omega arith)) in
     let bits = ap (toBits binary64) is ∙ toBits-ofBits binary64 (0 + b) (omega arith) no-nan in
     record { some = subst (λ (v : Float). T (not (isNan v))) (sym is) no-nan; lo = omega arith; rest = omega arith; small = l }
-
-pub value-no-nan : (x : Float) (s : Bool) (a c : ℕ) → HasValue x s a c → T (not (isNan x))
-unfolding isNan
-value-no-nan nan s a c v = v
-value-no-nan (inf t) s a c v = absurd v
-value-no-nan (fin t m e) s a c v = tt
 
 pub size-no-nan : (n : ℕ) → exp n < 2047 → T (not (nanBits binary64 (size-of n)))
 size-no-nan n h = subst (λ (x : Bool). T (not x)) (sym (nanBits-is binary64 (size-of n))) (value-no-nan (ofBits binary64 (size-of n)) false (value n) (2 ^ 1074) (size-value n h))

@@ -17,8 +17,9 @@ use lib.Ieee.Scale.{round-same}
 use lib.Ieee.Bits.{ofBits-toBits}
 use Rattle.numbers.specs.SquareRoot.{root, sqrtOf}
 use Rattle.numbers.specs.Inner.{nearestRoot, rootBits}
+use Rattle.numbers.proofs.floats.Values.{value-no-nan, same-value, mul-value}
 use Rattle.numbers.proofs.floats.Patterns.{pattern, pattern-no-nan, toBits-val, size-gt}
-use Rattle.numbers.proofs.rounding.Narrowing.{value-no-nan, val, value, exp, digits, size-of, size-value, signed, top-field}
+use Rattle.numbers.proofs.rounding.Narrowing.{val, value, exp, digits, size-of, size-value, signed, top-field}
 use Rattle.numbers.proofs.square_root.Roots.{root-around, rootOf-at, square-le, square-lt, four-pow, doubled}
 use Rattle.numbers.proofs.floats.Signs.{size-lt-top}
 use Rattle.numbers.proofs.Laws.Order.{nought}
@@ -123,18 +124,6 @@ normal-root b lo hi =
     (normal-value b x e (omega arith)) (mul-pos (omega arith) (pow-pos x)) (scaled x t) (wide-of x t (omega arith)) (omega arith) (bits-is b x e)
 
 -- ---- a subnormal pattern: 2 ^ 54 times the value is normal
-mul-value : (f : Format) (x y : Float) (a c b d : ℕ) → 0 < c → 0 < d → HasValue x false a c → HasValue y false b d → mul f x y ≡ round f false (a * b) (c * d)
-unfolding mul
-mul-value f nan y a c b d C D h k = absurd h
-mul-value f (inf s) y a c b d C D h k = absurd h
-mul-value f (fin true m e) y a c b d C D h k = absurd (true≢false (h .0))
-mul-value f (fin false m e) nan a c b d C D h k = absurd k
-mul-value f (fin false m e) (inf t) a c b d C D h k = absurd k
-mul-value f (fin false m e) (fin true n g) a c b d C D h k = absurd (true≢false (k .0))
-mul-value f (fin false m e) (fin false n g) a c b d C D h k =
-    round-same f false (m * up e * (n * up g)) (down e * down g) (a * b) (c * d) (mul-pos (down-pos e) (down-pos g)) (mul-pos C D)
-    (mul-mul-mul-comm (m * up e) (n * up g) c d ∙ ap (λ (z : ℕ). z * (n * up g * d)) (h .1) ∙ ap (λ (z : ℕ). a * down e * z) (k .1) ∙ mul-mul-mul-comm a (down e) b (down g))
-
 scale-value : HasValue (ofBits binary64 4850376798678024192) false (2 ^ 54) 1
 unfolding ofBits
 scale-value = (refl, refl)
@@ -146,11 +135,6 @@ larger-value : (x : Float) (N : ℕ) → HasValue x false N (2 ^ 1074) → N < 4
 larger-value x N h l =
     subst (λ (y : Float). HasValue y false (N * 2 ^ 54) (2 ^ 1074)) (sym (mul-value binary64 x (ofBits binary64 4850376798678024192) N (2 ^ 1074) (2 ^ 54) 1 (pow-pos 1074) (lit< tt) h scale-value))
     (round-exact binary64 false (N * 2 ^ 54) (2 ^ 1074) N 54 (pow-pos 1074) (omega arith) (lt-of-lt-of-le (shl-lt 52 54 l) (lit≤ tt)) refl)
-
-same-value : (x : Float) (a b c : ℕ) → HasValue x false a c → HasValue x false b c → a ≡ b
-same-value nan a b c h k = absurd h
-same-value (inf t) a b c h k = absurd h
-same-value (fin t m e) a b c h k = eq-of-mul-eq-mul-right (down e) (down-pos e) a b (sym (h .1) ∙ k .1)
 
 small-value : (b : ℕ) → b < 4503599627370496 → HasValue (ofBits binary64 b) false b (2 ^ 1074)
 small-value b h =
@@ -189,7 +173,7 @@ small-root b P l =
     let k = (suc x + 1021) / 2 in
     let back : ofBits binary64 c ≡ y = ofBits-toBits binary64 y (mul-fits binary64 v (ofBits binary64 4850376798678024192)) in
     let same : (4503599627370496 + t) * 2 ^ x ≡ b * 2 ^ 54 =
-    same-value y ((4503599627370496 + t) * 2 ^ x) (b * 2 ^ 54) (2 ^ 1074) (subst (λ (z : Float). HasValue z false ((4503599627370496 + t) * 2 ^ x) (2 ^ 1074)) back (normal-value c x e (omega arith))) (larger-value v b h l) in
+    same-value y false ((4503599627370496 + t) * 2 ^ x) (b * 2 ^ 54) (2 ^ 1074) (subst (λ (z : Float). HasValue z false ((4503599627370496 + t) * 2 ^ x) (2 ^ 1074)) back (normal-value c x e (omega arith))) (larger-value v b h l) in
     let kk : k ≡ k - 27 + 27 = omega arith in
     let is = bits-is c x e in
     let exact : b * 2 ^ 1074 ≡ M-of x t * 4 ^ (k - 27) =
