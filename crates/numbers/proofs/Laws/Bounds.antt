@@ -1,4 +1,14 @@
 -- Results of operations on bounded values are finite and bounded. Assumes nothing.
+--     Within                                    x is finite, and at most 2 ^ k in size
+--     within-more, within-finite, within-no-nan  so it is with any larger bound, and it is finite and no NaN
+--     neg-within, abs-within                    the negative and the size are as large
+--     min-within, max-within, median-within     what is chosen keeps the bound of all
+--     within-of-le, le-of-within                the bound as a comparison
+--     between-within, between-strictly          what lies between two bounded values is bounded, and what lies strictly between any two finite
+--     round-within, narrow-within               rounding keeps a bound up to the format's, and narrowing one of up to 2 ^ 127
+--     add-within, sub-within                    a sum and a difference of two of at most 2 ^ n are at most 2 ^ (n + 1)
+--     mul-within                                a product of one of at most 2 ^ j and one of at most 2 ^ k is at most 2 ^ (j + k)
+--     mix-within                                a mix of two of at most 2 ^ k with a weight from 0 to 1 is at most 2 ^ (k + 1)
 use mathlib.Core.Path.{_≡_, refl, sym, ap, _∙_, subst}
 use Prim.Native.Nat.{ℕ, suc, _+_, _*_, _^_, _≤_, _<_, zero-le}
 use native.Mathlib.Nat.{le-trans, le-of-eq, zero-lt-suc, suc-le-suc-iff, mul-pos, mul-one, one-mul, zero-add, mul-le-mul, mul-le-mul-right, le-of-mul-le-mul-right, mul-right-comm, mul-mul-mul-comm}
@@ -18,73 +28,61 @@ use Rattle.numbers.proofs.floats.Differences.{summed, sum-size, round-n
 use Rattle.numbers.proofs.Laws.Order.{AtMost, nought, one, finite, finite-number, le→at-most, at-most→le, number-right, le-of-lt, not-below, not-above}
 use Rattle.numbers.proofs.Laws.Monotone.{rest-lo, rest-hi}
 use Rattle.numbers.proofs.Laws.Exact.{round-value}
-use Rattle.numbers.proofs.Laws.Median.{min-keeps, max-keeps, median-keeps}
+use Rattle.numbers.proofs.Laws.Scalar.{min-keeps, max-keeps, median-keeps}
 
--- x is finite, and at most 2 ^ k in size
 abbrev pub Within : ℕ → Float → Type 0
 Within k nan = ⊥
 Within k (inf s) = ⊥
 Within k (fin s m e) = m * up e ≤ 2 ^ k * down e
 
--- A bound holds with any larger one.
 pub within-more : (j k : ℕ) (x : Float) → j ≤ k → Within j x → Within k x
 within-more j k nan h w = absurd w
 within-more j k (inf s) h w = absurd w
 within-more j k (fin s m e) h w = le-trans w (mul-le-mul-right (down e) (pow-mono h))
 
--- What is bounded is finite.
 pub within-finite : (k : ℕ) (x : Float) → Within k x → finite x
 within-finite k nan w = absurd w
 within-finite k (inf s) w = absurd w
 within-finite k (fin s m e) w = tt
 
--- What is bounded is no NaN.
 pub within-no-nan : (k : ℕ) (x : Float) → Within k x → T (not (isNan x))
 within-no-nan k x w = finite-number x (within-finite k x w)
 
 -- ---- signs and selection
--- The negative of a value is as large.
 pub neg-within : (k : ℕ) (x : Float) → Within k x → Within k (neg x)
 unfolding neg
 neg-within k nan w = absurd w
 neg-within k (inf s) w = absurd w
 neg-within k (fin s m e) w = w
 
--- The size of a value is as large.
 pub abs-within : (k : ℕ) (x : Float) → Within k x → Within k (absOf x)
 unfolding absOf
 abs-within k nan w = absurd w
 abs-within k (inf s) w = absurd w
 abs-within k (fin s m e) w = w
 
--- The smaller of two keeps a bound on both.
 pub min-within : (k : ℕ) (x y : Float) → Within k x → Within k y → Within k (minOf x y)
 min-within k x y = min-keeps (Within k) x y
 
--- The larger of two keeps a bound on both.
 pub max-within : (k : ℕ) (x y : Float) → Within k x → Within k y → Within k (maxOf x y)
 max-within k x y = max-keeps (Within k) x y
 
--- The median of three keeps a bound on all.
 pub median-within : (k : ℕ) (a b c : Float) → Within k a → Within k b → Within k c → Within k (medianOf a b c)
 median-within k a b c = median-keeps (Within k) a b c
 
 -- ---- from comparisons
--- A value whose size is at most 2 ^ k is bounded by it.
 pub within-of-le : (k : ℕ) (x : Float) → T (le (absOf x) (fin false 1 (pos k))) → Within k x
 unfolding absOf
 within-of-le k nan h = unfold le in h
 within-of-le k (inf s) h = unfold le in h
 within-of-le k (fin s m e) h = omega (arith, le→at-most false m e false 1 (pos k) h)
 
--- A bounded value's size is at most 2 ^ k.
 pub le-of-within : (k : ℕ) (x : Float) → Within k x → T (le (absOf x) (fin false 1 (pos k)))
 unfolding absOf
 le-of-within k nan w = absurd w
 le-of-within k (inf s) w = absurd w
 le-of-within k (fin s m e) w = at-most→le false m e false 1 (pos k) (omega arith)
 
--- What lies between two bounded values is bounded.
 pub between-within : (k : ℕ) (lo x hi : Float) → Within k lo → Within k hi → T (le lo x) → T (le x hi) → Within k x
 between-within k nan x hi v w h g = absurd v
 between-within k (inf s) x hi v w h g = absurd v
@@ -106,7 +104,6 @@ between-within k (fin s m e) (fin true o q) (fin t n d) v w h g =
     up-to true a b h = omega arith
     up-to false a b h = omega arith
 
--- What lies strictly between two values is finite.
 pub between-strictly : (lo x hi : Float) → T (lt lo x) → T (lt x hi) → finite x
 between-strictly lo nan hi h g = unfold isNan in number-right lo nan (le-of-lt lo nan h)
 between-strictly lo (inf true) hi h g = not-below lo h
@@ -135,12 +132,10 @@ round-positive f k a c C K h =
     go (fin true m e) s l = absurd (true≢false s)
     go (fin false m e) s l = omega (arith, le→at-most false m e false 1 (pos k) l)
 
--- A fraction of at most 2 ^ k rounds to a value of at most 2 ^ k.
 pub round-within : (f : Format) (k : ℕ) (s : Bool) (a c : ℕ) → 0 < c → k ≤ emax f → a ≤ 2 ^ k * c → Within k (round f s a c)
 round-within f k false a c C K h = round-positive f k a c C K h
 round-within f k true a c C K h = subst (Within k) (sym (round-neg f a c)) (neg-within k (round f false a c) (round-positive f k a c C K h))
 
--- Narrowing keeps a bound of up to 2 ^ 127.
 pub narrow-within : (k : ℕ) (x : Float) → k ≤ 127 → Within k x → Within k (narrowOf x)
 unfolding narrowOf
 narrow-within k nan K w = absurd w
@@ -148,7 +143,6 @@ narrow-within k (inf s) K w = absurd w
 narrow-within k (fin s m e) K w = round-within binary32 k s (m * up e) (down e) (down-pos e) K w
 
 -- ---- arithmetic
--- A sum of two values of at most 2 ^ n is at most 2 ^ (n + 1).
 pub add-within : (f : Format) (j k n : ℕ) (x y : Float) → j ≤ n → k ≤ n → n + 1 ≤ emax f → Within j x → Within k y → Within (n + 1) (add f x y)
 add-within f j k n x y J K N v w = go x y (within-more j n x J v) (within-more k n y K w)
   where
@@ -170,12 +164,10 @@ add-within f j k n x y J K N v w = go x y (within-more j n x J v) (within-more k
         (subst (λ (p : ℕ). r ≤ p * (down e * down d)) (sym (pow-add 2 n 1))
         (total r (2 ^ n) (m * up e) (down e) (o * up d) (down d) v w (sum-size s a t b))))
 
--- A difference of two values of at most 2 ^ n is at most 2 ^ (n + 1).
 pub sub-within : (f : Format) (j k n : ℕ) (x y : Float) → j ≤ n → k ≤ n → n + 1 ≤ emax f → Within j x → Within k y → Within (n + 1) (sub f x y)
 unfolding sub
 sub-within f j k n x y J K N v w = add-within f j k n x (neg y) J K N v (neg-within k y w)
 
--- A product of a value of at most 2 ^ j and one of at most 2 ^ k is at most 2 ^ (j + k).
 pub mul-within : (f : Format) (j k : ℕ) (x y : Float) → j + k ≤ emax f → Within j x → Within k y → Within (j + k) (mul f x y)
 unfolding mul
 mul-within f j k nan y N v w = absurd v
@@ -190,7 +182,6 @@ mul-within f j k (fin s m e) (fin t n d) N v w =
 weight-within : (w : Float) → T (le nought w) → T (le w one) → Within 0 w
 weight-within w lo hi = between-within 0 nought w one zero-le (le-of-eq refl) lo hi
 
--- A mix of two values of at most 2 ^ k with a weight from 0 to 1 is at most 2 ^ (k + 1).
 pub mix-within : (k : ℕ) (a b w : Float) → k + 1 ≤ 127 → Within k a → Within k b → T (le (zeroOf binary64) w) → T (le w (oneOf binary64)) → Within (k + 1) (mixOf a b w)
 unfolding mixOf ofBits
 mix-within k a b w K v u lo hi =

@@ -1,4 +1,13 @@
 -- Where an operation gives the exact value: a value that a format holds rounds to itself, and so does a product or a sum that the format holds. Assumes nothing.
+--     round-held, round-value        a value that the format holds is what its own fraction, and any of its value, rounds to
+--     narrow-held                    a value of binary32 narrows to itself
+--     mul-held, mul-by-one           a product whose exact value the format holds is that value, so one with 1 is the value
+--     mul-exact                      the product in binary64 of two finite values of binary32 is exact, so it is finite
+--     Adds                           x + y = v, as whole numbers over the product of the three denominators: what is positive on either side and negative on the other
+--     add-exact, sub-exact           a sum and a difference that are exactly a value of the format other than zero are that value
+--     add-exact-zero                 a sum that is exactly zero is a zero
+--     add-exact-eq, sub-exact-eq     so they equal any value of the format that they are exactly, a zero of either sign
+--     add-zero-eq, add-zero-nonzero  a value with a zero added equals itself, and one that is not zero is itself
 use mathlib.Core.Path.{_≡_, refl, sym, ap, _∙_, subst}
 use Prim.Native.Nat.{ℕ, zero, suc, _+_, _*_, _^_, _<_}
 use native.Mathlib.Nat.{le-refl, le-of-eq, le-of-lt, lt-of-le-of-lt, zero-lt-suc, zero-mul, mul-pos, mul-le-mul}
@@ -20,20 +29,17 @@ use Rattle.numbers.proofs.floats.Values.{with-value}
 use Rattle.numbers.proofs.floats.Held.{held, count, value-unique}
 
 -- ---- rounding
--- A value that the format holds is what its own fraction rounds to.
 pub round-held : (f : Format) (s : Bool) (m : ℕ) (e : ℤ) → T (fits f (fin s m e)) → round f s (m * up e) (down e) ≡ fin s m e
 round-held f s m e p =
     let h = held f s m e p in
     value-unique f (round f s (m * up e) (down e)) (fin s m e) s (m * up e) (down e) (down-pos e) (round-fits f s (m * up e) (down e)) p
     (round-exact f s (m * up e) (down e) (h .digits) (h .zeros) (down-pos e) (h .few) (h .fine) (h .value)) (refl, refl)
 
--- It is what any fraction of its value rounds to.
 pub round-value : (f : Format) (v : Float) (s : Bool) (a c : ℕ) → 0 < c → T (fits f v) → HasValue v s a c → round f s a c ≡ v
 round-value f v s a c C p h =
     with-value (λ v. T (fits f v) → round f s a c ≡ v) v s a c h
     (λ m e q p. round-same f s a c (m * up e) (down e) C (down-pos e) (sym q) ∙ round-held f s m e p) p
 
--- A value of binary32 narrows to itself.
 pub narrow-held : (x : Float) → T (fits binary32 x) → narrowOf x ≡ x
 unfolding narrowOf
 narrow-held nan p = refl
@@ -41,7 +47,6 @@ narrow-held (inf s) p = refl
 narrow-held (fin s m e) p = round-held binary32 s m e p
 
 -- ---- products
--- A product whose exact value the format holds is that value.
 pub mul-held : (f : Format) (s : Bool) (m : ℕ) (e : ℤ) (t : Bool) (n : ℕ) (d : ℤ) (v : Float) → T (fits f v) → HasValue v (unlike s t) (m * up e * (n * up d)) (down e * down d)
     → mul f (fin s m e) (fin t n d) ≡ v
 unfolding mul
@@ -52,7 +57,6 @@ unfolding ofBits
 one-is binary32 = refl
 one-is binary64 = refl
 
--- A value that the format holds, times 1, is itself.
 pub mul-by-one : (f : Format) (x : Float) → T (fits f x) → mul f x (oneOf f) ≡ x
 mul-by-one f x p = ap (mul f x) (one-is f) ∙ go x p
   where
@@ -61,7 +65,6 @@ mul-by-one f x p = ap (mul f x) (one-is f) ∙ go x p
     go (inf s) p = unfold mul in ap inf (unlike-false s)
     go (fin s m e) p = mul-held f s m e false 1 (pos 0) (fin s m e) p (sym (unlike-false s), omega arith)
 
--- The product in binary64 of two finite values of binary32 is exact, so it is finite.
 pub mul-exact : (s : Bool) (m : ℕ) (e : ℤ) (t : Bool) (n : ℕ) (d : ℤ) → T (fits binary32 (fin s m e)) → T (fits binary32 (fin t n d))
     → HasValue (mul binary64 (fin s m e) (fin t n d)) (unlike s t) (m * up e * (n * up d)) (down e * down d)
 unfolding mul
@@ -87,7 +90,6 @@ mul-exact s m e t n d p q =
     whole a b A B c g L R e h = (omega arith) ∙ ap (λ (x : ℕ). x * (b * L) * R) e ∙ ap (λ (x : ℕ). A * c * x * R) h ∙ (omega arith)
 
 -- ---- sums
--- x + y = v, as whole numbers over the product of the three denominators: what is positive on either side and negative on the other
 abbrev pub Adds : Float → Float → Float → Type 0
 Adds nan y v = ⊥
 Adds (inf s) y v = ⊥
@@ -125,7 +127,6 @@ signs true R c p true r P h = (refl, omega arith)
 signs true R c p false r P h = absurd (omega arith)
 signs false R c p true r P h = absurd (omega arith)
 
--- A sum that is exactly a value of the format other than zero is that value.
 pub add-exact : (f : Format) (x y : Float) (u : Bool) (k : ℕ) (g : ℤ) → T (fits f (fin u (suc k) g)) → Adds x y (fin u (suc k) g) → add f x y ≡ fin u (suc k) g
 unfolding add
 add-exact f nan y u k g p h = absurd h
@@ -160,7 +161,6 @@ no-size false false r p c R z h = h' ∙ ap (λ (x : ℕ). x * c) z ∙ zero-mul
 no-size true false r p c R z h = omega arith
 no-size false true r p c R z h = omega arith
 
--- A sum that is exactly zero is a zero.
 pub add-exact-zero : (f : Format) (x y : Float) (u : Bool) (g : ℤ) → Adds x y (fin u 0 g) → (w : Bool) × (add f x y ≡ fin w 0 (pos 0))
 unfolding add
 add-exact-zero f nan y u g h = absurd h
@@ -180,7 +180,6 @@ add-exact-zero f (fin s m e) (fin t n d) u g h =
     (v, w .is ∙ ap (λ (x : ℕ). round f v x c) z ∙ round-value f (fin v 0 (pos 0)) v 0 c C (zero-fits f v) (refl, ap (λ (x : ℕ). x * c) (zero-mul 1) ∙ zero-mul c ∙ sym (zero-mul 1)))
 
 -- ---- equality
--- So a sum that is exactly a value of the format equals that value, a zero of either sign.
 pub add-exact-eq : (f : Format) (x y v : Float) → T (fits f v) → Adds x y v → T (eq (add f x y) v)
 add-exact-eq f x y v p h = adds-cases (λ x y v. T (fits f v) → T (eq (add f x y) v)) go x y v h p
   where
@@ -205,12 +204,10 @@ sub-adds x y v h = adds-cases (λ v y x. Adds x (neg y) v) (λ u k g t n d s m e
         moved s a a' true b b' u c c' x y z h = omega (arith, ap (plus s) x, ap (minus s) x, ap (plus u) z, ap (minus u) z)
         moved s a a' false b b' u c c' x y z h = omega (arith, ap (plus s) x, ap (minus s) x, ap (plus u) z, ap (minus u) z)
 
--- A difference that is exactly a value of the format other than zero is that value.
 pub sub-exact : (f : Format) (x y : Float) (u : Bool) (k : ℕ) (g : ℤ) → T (fits f (fin u (suc k) g)) → Adds (fin u (suc k) g) y x → sub f x y ≡ fin u (suc k) g
 unfolding sub
 sub-exact f x y u k g p h = add-exact f x (neg y) u k g p (sub-adds x y (fin u (suc k) g) h)
 
--- So a difference that is exactly a value of the format equals that value, a zero of either sign.
 pub sub-exact-eq : (f : Format) (x y v : Float) → T (fits f v) → Adds v y x → T (eq (sub f x y) v)
 unfolding sub
 sub-exact-eq f x y v p h = add-exact-eq f x (neg y) v p (sub-adds x y v h)
@@ -225,13 +222,11 @@ adds-zero s m e t = go s t (m * up e) (down e)
     go false true a c = omega arith
     go false false a c = omega arith
 
--- A value that the format holds, with a zero added, equals itself.
 pub add-zero-eq : (f : Format) (x : Float) (t : Bool) → T (fits f x) → T (not (isNan x)) → T (eq (add f x (fin t 0 (pos 0))) x)
 unfolding isNan
 add-zero-eq f nan t p n = absurd n
 add-zero-eq f (inf s) t p n = unfold add in eq-refl (inf s) (unfold isNan in tt)
 add-zero-eq f (fin s m e) t p n = add-exact-eq f (fin s m e) (fin t 0 (pos 0)) (fin s m e) p (adds-zero s m e t)
 
--- One that is not zero is itself.
 pub add-zero-nonzero : (f : Format) (s : Bool) (m : ℕ) (e : ℤ) (t : Bool) → T (fits f (fin s (suc m) e)) → add f (fin s (suc m) e) (fin t 0 (pos 0)) ≡ fin s (suc m) e
 add-zero-nonzero f s m e t p = add-exact f (fin s (suc m) e) (fin t 0 (pos 0)) s m e p (adds-zero s (suc m) e t)

@@ -1,4 +1,10 @@
 -- The floor of a float: what it is, that it grows with the value, and its bounds. Assumes nothing.
+--     floor-plain                            of an x not negative, and below 2 ^ 63, it is a k with k ≤ x < k + 1
+--     floor-minus                            of an x below 0, and not below -2 ^ 63, it is a -(k + 1) with -(k + 1) ≤ x < -k
+--     floor-zero                             of either zero it is 0
+--     floor-mono                             of a larger value it is at least as large
+--     floor-fits                             it is an i64
+--     floor-size, floor-between, floor-cell  it is at most as large as a whole number that bounds the value, or as the larger of the floors on its two sides, as of 2 ^ 20 + 1
 use mathlib.Core.Path.{_≡_, sym, ap, _∙_, subst}
 use mathlib.Core.Bool.{Bool, true, false}
 use Prim.Native.Nat.{ℕ, zero, suc, _+_, _-_, _*_, _/_, _%_, _^_, _≤_, _<_, min, zero-le, suc-le-suc}
@@ -18,7 +24,6 @@ use Rattle.numbers.proofs.Laws.Order.{AtMost, le-cases}
 use Rattle.numbers.proofs.rounding.Flooring.{ceiling, ceiling-le, ceiling-mono, ceiling-suc, ceiling-zero, capped, capped-most}
 
 -- ---- what it is
--- The floor of a value x that is not negative, and below 2 ^ 63, is a k with k ≤ x < k + 1.
 pub floor-plain : (m : ℕ) (e : ℤ) → m * up e < 2 ^ 63 * down e → (k : ℕ) × (floorOf (fin false m e) ≡ pos k) × (k * down e ≤ m * up e) × (m * up e < suc k * down e)
 unfolding floorOf
 floor-plain m e h =
@@ -31,7 +36,6 @@ floor-plain m e h =
     around : (a c q r : ℕ) → q * c + r ≡ a → r < c → (q * c ≤ a) × (a < suc q * c)
     around a c q r e l = (omega arith, omega arith)
 
--- The floor of a value x below 0, and not below -2 ^ 63, is a -(k + 1) with -(k + 1) ≤ x < -k.
 pub floor-minus : (m : ℕ) (e : ℤ) → 0 < m → m * up e ≤ 2 ^ 63 * down e → (k : ℕ) × (floorOf (fin true m e) ≡ negsuc k) × (k * down e < m * up e) × (m * up e ≤ suc k * down e)
 unfolding floorOf
 floor-minus m e p h =
@@ -50,7 +54,6 @@ floor-minus m e p h =
     around : (a c q r : ℕ) → 0 < a → q * c + r ≡ a - 1 → r < c → (q * c < a) × (a ≤ suc q * c)
     around a c q r A e l = (omega arith, omega arith)
 
--- The floor of either zero is 0.
 pub floor-zero : (s : Bool) (e : ℤ) → floorOf (fin s 0 e) ≡ pos 0
 unfolding floorOf
 floor-zero true e = ap (λ (a : ℕ). negℤ (pos (min (ceiling a (down e)) 9223372036854775808))) (zero-mul (up e)) ∙ ap (λ (k : ℕ). negℤ (pos (min k 9223372036854775808))) (ceiling-zero (down e) (down-pos e))
@@ -85,7 +88,6 @@ floor-most (inf false) = tt
 floor-most (fin true m e) = neg-pos (min (ceiling (m * up e) (down e)) 9223372036854775808) 9223372036854775807
 floor-most (fin false m e) = le→leb (min (m * up e / down e) 9223372036854775807) 9223372036854775807 (omega arith)
 
--- The floor of a value is at most that of a larger one.
 pub floor-mono : (x y : Float) → T (le x y) → T (leZ (floorOf x) (floorOf y))
 unfolding floorOf
 floor-mono = le-cases (λ x y. T (leZ (floorOf x) (floorOf y))) (λ y n. floor-least y) (λ x n. floor-most x) finite-mono
@@ -108,7 +110,6 @@ floor-mono = le-cases (λ x y. T (leZ (floorOf x) (floorOf y))) (λ y n. floor-l
         neg-neg (min q 9223372036854775808) (min r 9223372036854775808) (omega arith)
 
 -- ---- bounds
--- Every floor is an i64.
 pub floor-fits : (x : Float) → SFits w64 (floorOf x)
 floor-fits x = record { sfits = go (floorOf x) (floor-least x) (floor-most x) }
   where
@@ -116,7 +117,6 @@ floor-fits x = record { sfits = go (floorOf x) (floor-least x) (floor-most x) }
     go (pos k) a b = omega (arith, leb→le k 9223372036854775807 b)
     go (negsuc k) a b = omega (arith, leb→le k 9223372036854775807 a)
 
--- A value of a size up to n has a floor of a size up to n.
 pub floor-size : (n : ℕ) (s : Bool) (m : ℕ) (e : ℤ) → m * up e ≤ n * down e → natAbs (floorOf (fin s m e)) ≤ n
 unfolding floorOf
 floor-size n true m e h = abs-neg (min (ceiling (m * up e) (down e)) 9223372036854775808) (omega (arith, ceiling-le (m * up e) (down e) n (down-pos e) h))
@@ -126,7 +126,6 @@ floor-size n true m e h = abs-neg (min (ceiling (m * up e) (down e)) 92233720368
     abs-neg (suc k) l = l
 floor-size n false m e h = omega (arith, div-le-of-le-mul (down e) (le-trans h (le-of-eq (mul-comm n (down e)))))
 
--- A value between two has a floor of a size up to that of theirs.
 pub floor-between : (lo x hi : Float) (n : ℕ) → T (le lo x) → T (le x hi) → natAbs (floorOf lo) ≤ n → natAbs (floorOf hi) ≤ n → natAbs (floorOf x) ≤ n
 floor-between lo x hi n h k a b = go (floorOf lo) (floorOf x) (floorOf hi) (floor-mono lo x h) (floor-mono x hi k) a b
   where
@@ -136,7 +135,6 @@ floor-between lo x hi n h k a b = go (floorOf lo) (floorOf x) (floorOf hi) (floo
     go (pos i) (negsuc k) u h g a b = absurd h
     go (negsuc i) (negsuc k) u h g a b = le-trans (suc-le-suc (leb→le k i h)) a
 
--- A value from -(2 ^ 20 + 1) to 2 ^ 20 + 1 has a floor from -1048577 to 1048577.
 pub floor-cell : (x : Float) → T (le (fin true 1048577 (pos 0)) x) → T (le x (fin false 1048577 (pos 0))) → natAbs (floorOf x) ≤ 1048577
 unfolding floorOf
 floor-cell x h k = floor-between (fin true 1048577 (pos 0)) x (fin false 1048577 (pos 0)) 1048577 h k (lit≤ tt) (lit≤ tt)

@@ -1,5 +1,20 @@
 -- What keeps the order of floats: rounding, narrowing, sums, differences, products and mixes, in either format, the infinities too. Assumes nothing.
 -- The laws on sums, differences, products and mixes ask that both results are no NaN. That of finite operands never is one: `add-number`, `sub-number`, `mul-number`, `mix-number`.
+--     round-number, round-at-most      a rounded fraction is no NaN, and rounding keeps the order of fractions of either sign: ±a / b ≤ ±c / d
+--     narrow-number, narrow-mono       narrowing makes a NaN of nothing else, and keeps the order
+--     finite-add-number, add-number    a sum of a finite value and one that is no NaN is none, so one of finite values is none
+--     number-first, number-second      where a sum is no NaN neither operand is
+--     add-comm, mul-comm               the operands of a sum and of a product may change places
+--     add-mono-left, add-mono-right    a sum grows with each operand
+--     finite-sub-number, sub-number    so of a difference
+--     sub-mono-left, sub-anti-right    it grows with its first operand and falls with its second
+--     sub-not-negative                 it is not negative where the second is at most the first
+--     mul-number, mul-neg              a product of finite values is no NaN, and one with a negative is the product's negative
+--     mul-mono-left, mul-mono-right    a product with a value that is not negative grows with the other
+--     mul-mono, mul-not-negative       one of two such grows with both, and is not negative
+--     rest-lo, rest-hi                 1 less a weight from 0 to 1 is from 0 to 1
+--     mix-mono-first, mix-mono-second  a mix grows with each value, for a weight from 0 to 1
+--     mix-number                       one of two finite values of binary32 is no NaN
 use mathlib.Core.Path.{_≡_, refl, sym, ap, _∙_, subst}
 use mathlib.Core.Logic.{_⊎_, inl, inr}
 use Prim.Native.Nat.{ℕ, zero, suc, _+_, _*_, _%_, _^_, _<_}
@@ -19,7 +34,6 @@ use Rattle.numbers.proofs.floats.Differences.{of-at-most, summed, sum-c
 use Rattle.numbers.proofs.Laws.Order.{plus, minus, AtMost, nought, one, finite, finite-number, le→at-most, at-most→le, le-cases, le-refl, le-trans, le-inf, inf-le, le-neg, neg-neg, neg-number, between-finite, le-of-abs-le, ge-of-abs-le}
 
 -- ---- rounding
--- A rounded fraction is no NaN.
 pub round-number : (f : Format) (s : Bool) (a c : ℕ) → T (not (isNan (round f s a c)))
 round-number f s a c = signed-number s (round f s a c) (round-signed f s a c)
 
@@ -35,7 +49,6 @@ below-above (fin true m e) (fin false n d) h k = of-at-most true (m * up e * dow
 below-above (fin true m e) (fin true n d) h k = absurd (true≢false k)
 below-above (fin false m e) (fin t n d) h k = absurd (false≢true h)
 
--- Rounding keeps the order of fractions, of either sign: ±a / b ≤ ±c / d.
 pub round-at-most : (f : Format) (s : Bool) (a b : ℕ) (t : Bool) (c d : ℕ) → 0 < b → 0 < d → AtMost s (a * d) t (c * b) → T (le (round f s a b) (round f t c d))
 round-at-most f false a b false c d B D h = round-mono f a b c d B D (omega arith)
 round-at-most f true a b false c d B D h = below-above (round f true a b) (round f false c d) (round-signed f true a b) (round-signed f false c d)
@@ -48,21 +61,18 @@ round-at-most f true a b true c d B D h =
     subst (λ (v : Float). T (le v (round f true c d))) (sym (round-neg f a b))
     (subst (λ (v : Float). T (le (neg (round f false a b)) v)) (sym (round-neg f c d)) (le-neg (round f false c d) (round f false a b) (round-mono f c d a b D B (omega arith))))
 
--- Narrowing makes a NaN of nothing else.
 pub narrow-number : (x : Float) → isNan (narrowOf x) ≡ isNan x
 unfolding narrowOf isNan
 narrow-number nan = refl
 narrow-number (inf s) = refl
 narrow-number (fin s m e) = is-false (isNan (round binary32 s (m * up e) (down e))) (round-number binary32 s (m * up e) (down e))
 
--- Narrowing keeps the order.
 pub narrow-mono : (x y : Float) → T (le x y) → T (le (narrowOf x) (narrowOf y))
 unfolding narrowOf
 narrow-mono = le-cases (λ x y. T (le (narrowOf x) (narrowOf y))) (λ y n. inf-le (narrowOf y) (rw narrow-number n)) (λ x n. le-inf (narrowOf x) (rw narrow-number n))
     (λ s m e t n d h. round-at-most binary32 s (m * up e) (down e) t (n * up d) (down d) (down-pos e) (down-pos d) h)
 
 -- ---- sums
--- A sum of a finite value and one that is no NaN is none.
 pub finite-add-number : (f : Format) (x y : Float) → finite x → T (not (isNan y)) → T (not (isNan (add f x y)))
 unfolding add isNan
 finite-add-number f (fin s m e) nan i j = j
@@ -72,11 +82,9 @@ finite-add-number f (fin s m e) (fin t n d) i j =
     let b = n * up d * down e in
     subst (λ (z : Float). T (not (isNan z))) (sym (summed f s a t b (down e * down d) .is)) (round-number f (sumSign s a t b) (sumSize s a t b) (down e * down d))
 
--- A sum of finite values is no NaN.
 pub add-number : (f : Format) (x y : Float) → finite x → finite y → T (not (isNan (add f x y)))
 add-number f x y i j = finite-add-number f x y i (finite-number y j)
 
--- The operands of a sum may change places.
 pub add-comm : (f : Format) (x y : Float) → add f x y ≡ add f y x
 unfolding add
 add-comm f nan nan = refl
@@ -128,30 +136,24 @@ add-mono f (fin t n d) x x' h i j =
     le-cases (λ x x'. T (not (isNan (add f x y))) → T (not (isNan (add f x' y))) → T (le (add f x y) (add f x' y))) (λ x' k i j. inf-le (add f x' y) j) (λ x k i j. le-inf (add f x y) i)
     (λ s m e s' m' e' h i j. sum-mono f s (m * up e) (down e) s' (m' * up e') (down e') t (n * up d) (down d) (down-pos e) (down-pos e') (down-pos d) h) x x' h i j
 
--- A sum grows with its first operand.
 pub add-mono-left : (f : Format) (x x' y : Float) → T (le x x') → T (not (isNan (add f x y))) → T (not (isNan (add f x' y))) → T (le (add f x y) (add f x' y))
 add-mono-left f x x' y h i j = add-mono f y x x' h i j
 
--- A sum grows with its second operand.
 pub add-mono-right : (f : Format) (x y y' : Float) → T (le y y') → T (not (isNan (add f x y))) → T (not (isNan (add f x y'))) → T (le (add f x y) (add f x y'))
 add-mono-right f x y y' = rw (add-comm f x y, add-comm f x y') (add-mono f x y y')
 
 -- ---- differences
--- A difference of a finite value and one that is no NaN is none.
 pub finite-sub-number : (f : Format) (x y : Float) → finite x → T (not (isNan y)) → T (not (isNan (sub f x y)))
 unfolding sub
 finite-sub-number f x y i j = finite-add-number f x (neg y) i (subst (λ (b : Bool). T (not b)) (sym (neg-number y)) j)
 
--- A difference of finite values is no NaN.
 pub sub-number : (f : Format) (x y : Float) → finite x → finite y → T (not (isNan (sub f x y)))
 sub-number f x y i j = finite-sub-number f x y i (finite-number y j)
 
--- A difference grows with its first operand.
 pub sub-mono-left : (f : Format) (x x' y : Float) → T (le x x') → T (not (isNan (sub f x y))) → T (not (isNan (sub f x' y))) → T (le (sub f x y) (sub f x' y))
 unfolding sub
 sub-mono-left f x x' y h i j = add-mono-left f x x' (neg y) h i j
 
--- A difference falls with its second operand.
 pub sub-anti-right : (f : Format) (x y y' : Float) → T (le y y') → T (not (isNan (sub f x y))) → T (not (isNan (sub f x y'))) → T (le (sub f x y') (sub f x y))
 unfolding sub
 sub-anti-right f x y y' h i j = add-mono-right f x (neg y') (neg y) (le-neg y y' h) j i
@@ -159,7 +161,6 @@ sub-anti-right f x y y' h i j = add-mono-right f x (neg y') (neg y) (le-neg y y'
 round-not-negative : (f : Format) (u : Bool) (r c : ℕ) → 0 < c → AtMost false (0 * c) u (r * 1) → T (le nought (round f u r c))
 round-not-negative f u r c C h = subst (λ (z : Float). T (le z (round f u r c))) (round-zero f false 1 (zero-lt-suc 0)) (round-at-most f false 0 1 u r c (zero-lt-suc 0) C h)
 
--- A difference of a value and one that is at most it is not negative.
 pub sub-not-negative : (f : Format) (x y : Float) → T (le y x) → T (not (isNan (sub f x y))) → T (le nought (sub f x y))
 unfolding sub neg
 sub-not-negative f x y h n =
@@ -185,7 +186,6 @@ sub-not-negative f x y h n =
         unfold add in subst (λ (z : Float). T (le nought z)) (sym (a .is)) (round-not-negative f u r c (mul-pos (down-pos e) (down-pos d)) (gap u r c s A t B h (a .value)))
 
 -- ---- products
--- A product of finite values is no NaN.
 pub mul-number : (f : Format) (x y : Float) → finite x → finite y → T (not (isNan (mul f x y)))
 unfolding mul
 mul-number f (fin s m e) (fin t n d) i j = round-number f (unlike s t) (m * up e * (n * up d)) (down e * down d)
@@ -196,7 +196,6 @@ unlike-comm true false = refl
 unlike-comm false true = refl
 unlike-comm false false = refl
 
--- The operands of a product may change places.
 pub mul-comm : (f : Format) (x y : Float) → mul f x y ≡ mul f y x
 unfolding mul
 mul-comm f nan nan = refl
@@ -220,7 +219,6 @@ unfolding neg
 negative true s t = refl
 negative false s t = ap inf (unlike-not s t)
 
--- A product with a negative is the product's negative.
 pub mul-neg : (f : Format) (x y : Float) → mul f x (neg y) ≡ neg (mul f x y)
 unfolding mul neg
 mul-neg f nan y = refl
@@ -291,11 +289,9 @@ times-mono f (fin t n d) x x' z h i j =
     (λ x' k i j. rw (inf-mul f true y z i) (inf-le (mul f x' y) j)) (λ x k i j. rw (inf-mul f false y z j) (le-inf (mul f x y) i))
     (λ s m e s' m' e' h i j. mul-finite f s m e s' m' e' t n d z h) x x' h i j
 
--- A product with a value that is not negative grows with its first operand.
 pub mul-mono-left : (f : Format) (x x' y : Float) → T (le nought y) → T (le x x') → T (not (isNan (mul f x y))) → T (not (isNan (mul f x' y))) → T (le (mul f x y) (mul f x' y))
 mul-mono-left f x x' y z h i j = times-mono f y x x' z h i j
 
--- A product with a value that is not negative grows with its second operand.
 pub mul-mono-right : (f : Format) (x y y' : Float) → T (le nought x) → T (le y y') → T (not (isNan (mul f x y))) → T (not (isNan (mul f x y'))) → T (le (mul f x y) (mul f x y'))
 mul-mono-right f x y y' = rw (mul-comm f x y, mul-comm f x y') (times-mono f x y y')
 
@@ -307,7 +303,6 @@ up-to (inf true) h = absurd h
 up-to (inf false) h = inr refl
 up-to (fin s m e) h = inl tt
 
--- A product of values that are not negative grows with both.
 pub mul-mono : (f : Format) (x x' y y' : Float) → T (le nought x) → T (le x x') → T (le nought y) → T (le y y') → T (not (isNan (mul f x y))) → T (not (isNan (mul f x' y'))) → T (le (mul f x y) (mul f x' y'))
 mul-mono f x x' y y' a h b k i j =
     let a' = le-trans nought x x' a h in
@@ -326,7 +321,6 @@ mul-mono f x x' y y' a h b k i j =
     past : (z : Float) → mul f x' y' ≡ mul f (inf false) z → T (le nought z) → T (le (mul f x y) (mul f x' y'))
     past z e g = subst (λ (v : Float). T (le (mul f x y) v)) (sym (e ∙ inf-mul f false z g (subst (λ (v : Float). T (not (isNan v))) e j))) (le-inf (mul f x y) i)
 
--- A product of values that are not negative is not negative.
 pub mul-not-negative : (f : Format) (x y : Float) → T (le nought x) → T (le nought y) → T (not (isNan (mul f x y))) → T (le nought (mul f x y))
 mul-not-negative f x y a b n =
     subst (λ (v : Float). T (le v (mul f x y))) zeros (mul-mono f nought x nought y (le-refl nought no-nan) a (le-refl nought no-nan) b (mul-number f nought nought tt tt) n)
@@ -355,11 +349,9 @@ add-right f x y n = add-left f y x (subst (λ (v : Float). T (not (isNan v))) (a
 wide : (x : Float) → T (not (isNan (narrowOf x))) → T (not (isNan x))
 wide x n = subst (λ (b : Bool). T (not b)) (narrow-number x) n
 
--- The rest of a weight from 0 to 1 is at least 0.
 pub rest-lo : (w : Float) → T (le nought w) → T (le w one) → T (le nought (sub binary64 one w))
 rest-lo w z h = sub-not-negative binary64 one w h (sub-number binary64 one w tt (between-finite nought w one tt tt z h))
 
--- And it is at most 1.
 pub rest-hi : (w : Float) → T (le nought w) → T (le w one) → T (le (sub binary64 one w) one)
 rest-hi w z h =
     subst (λ (v : Float). T (le (sub binary64 one w) v)) less-nought
@@ -368,7 +360,6 @@ rest-hi w z h =
     less-nought : sub binary64 one nought ≡ one
     less-nought = unfold sub in refl
 
--- A mix grows with its first value, for a weight from 0 to 1.
 pub mix-mono-first : (a a' b w : Float) → T (le nought w) → T (le w one) → T (le a a') → T (not (isNan (mixOf a b w))) → T (not (isNan (mixOf a' b w))) → T (le (mixOf a b w) (mixOf a' b w))
 unfolding mixOf ofBits
 mix-mono-first a a' b w lo hi h i j =
@@ -380,7 +371,6 @@ mix-mono-first a a' b w lo hi h i j =
     let n = wide (add binary64 x' y) j in
     narrow-mono (add binary64 x y) (add binary64 x' y) (add-mono-left binary64 x x' y (mul-mono-right binary64 v a a' (rest-lo w lo hi) h (add-left binary64 x y m) (add-left binary64 x' y n)) m n)
 
--- A mix grows with its second value, for a weight from 0 to 1.
 pub mix-mono-second : (a b b' w : Float) → T (le nought w) → T (le w one) → T (le b b') → T (not (isNan (mixOf a b w))) → T (not (isNan (mixOf a b' w))) → T (le (mixOf a b w) (mixOf a b' w))
 unfolding mixOf ofBits
 mix-mono-second a b b' w lo hi h i j =
@@ -431,7 +421,6 @@ product-finite w x lo hi h =
         le-trans (mul binary64 w x) (mul binary64 w bound) bound (mul-mono-right binary64 w x bound lo h (mul-number binary64 w x i j) n)
         (subst (λ (v : Float). T (le (mul binary64 w bound) v)) whole (mul-mono-left binary64 w one bound (positive 1 (pos 128)) hi n (mul-number binary64 one bound tt tt)))
 
--- A mix of two finite values of binary32 is no NaN.
 pub mix-number : (a b w : Float) → T (fits binary32 a) → T (fits binary32 b) → finite a → finite b → T (le nought w) → T (le w one) → T (not (isNan (mixOf a b w)))
 unfolding mixOf ofBits
 mix-number a b w A B i j lo hi =

@@ -1,4 +1,13 @@
 -- `round` gives the nearest value of its format, at a tie the one that is even, and no other value is it: so with `narrowOf` and with each operation. Assumes nothing.
+--     largest-held, largest-bound  the largest value is one of the format, and no finite one is larger
+--     middle-halfway               the middle is halfway from it to 2 ^ (emax + 1), with no remainder
+--     other-sign                   a value of the other sign is no nearer to ±num / den than the closest of its own: its distance is the sum of the sizes
+--     round-nearest                of every fraction `round` gives a nearest value
+--     round-is, nearest-only       a value that is nearest to a fraction is what `round` gives of it, so there is one only
+--     narrow-nearest               a value narrowed is the binary32 value nearest to it
+--     sum-exact                    the sign and the size that `sumSign` and `sumSize` give are those of the exact sum
+--     add-nearest, sub-nearest     a sum and a difference are the values nearest to the exact ones
+--     mul-nearest, div-nearest     so are a product, and a quotient by a value that is not zero
 use mathlib.Core.Path.{_≡_, refl, sym, ap, _∙_, subst}
 use mathlib.Core.Logic.{inl, inr}
 use Prim.Native.Nat.{ℕ, zero, suc, _+_, _-_, _*_, _^_, _≤_, _<_}
@@ -21,13 +30,11 @@ use Rattle.numbers.proofs.floats.Held.{held, count}
 use Rattle.numbers.proofs.floats.Multiples.{most}
 
 -- ---- that the definitions say what they are called
--- The largest value is one of the format.
 pub largest-held : (f : Format) (s : Bool) → T (fits f (fin s (2 ^ prec f - 1) (pos (suc (emax f) - prec f))))
 unfolding fits
 largest-held binary32 s = tt
 largest-held binary64 s = tt
 
--- No finite value of the format is larger.
 pub largest-bound : (f : Format) (s : Bool) (n : ℕ) (d : ℤ) → T (fits f (fin s n d)) → n * up d ≤ largest f * down d
 largest-bound f s n d g =
     let h = held f s n d g in
@@ -37,12 +44,10 @@ largest-bound f s n d g =
     let b : count f n d h ≤ largest f * L = le-trans (most (prec f) (x .K) (h .digits) (h .zeros) (h .few) (subst (λ (y : ℕ). count f n d h < 2 ^ y) (x .ends) (h .fine))) (le-of-eq e) in
     le-of-mul-le-mul-right (le-trans (le-of-eq (h .value)) (le-trans (mul-le-mul-right (down d) b) (le-of-eq (mul-right-comm (largest f) L (down d))))) (pow-pos (low f))
 
--- The middle is halfway from it to 2 ^ (emax + 1), with no remainder.
 pub middle-halfway : (f : Format) → middle f * 2 ≡ largest f + 2 ^ suc (emax f)
 middle-halfway binary32 = refl
 middle-halfway binary64 = refl
 
--- A value of the other sign is no nearer to ±num / den than the closest of its own: its distance is the sum of the sizes.
 pub other-sign : (f : Format) (s : Bool) (num den m : ℕ) (e : ℤ) (n : ℕ) (d : ℤ) → Closest f s num den m e → distance num den m e * down d ≤ (num * down d + n * up d * den) * down e
 other-sign f s num den m e n d x = further (distance num den m e) (down d) (n * up d * den) (down e) (x .no-nearer 0 (pos 0) (unfold fits in tt))
   where
@@ -53,7 +58,6 @@ other-sign f s num den m e n d x = further (distance num den m e) (down d) (n * 
         omega (arith, mul-le-mul-right p l)
 
 -- ---- `round`
--- Of every fraction `round` gives a nearest value.
 pub round-nearest : (f : Format) (s : Bool) (num den : ℕ) → 0 < den → Nearest f s num den (round f s num den)
 round-nearest f s num den D = elim (le-or-lt (middle f * den) num) [
   | inl l ↦ subst (Nearest f s num den) (sym (overflowed f s num den D l)) (refl, l)
@@ -65,7 +69,6 @@ round-nearest f s num den D = elim (le-or-lt (middle f * den) num) [
     go l (inf t) v fit = absurd v
     go l (fin t m e) v fit = (v .0, l, closest-is f num den D t m e fit (v .1))
 
--- A value that is nearest to a fraction is what `round` gives of it.
 pub round-is : (f : Format) (s : Bool) (num den : ℕ) (x : Float) → 0 < den → Nearest f s num den x → round f s num den ≡ x
 round-is f s num den nan D h = absurd h
 round-is f s num den (inf t) D h = overflowed f s num den D (h .1) ∙ ap inf (sym (h .0))
@@ -78,22 +81,18 @@ round-is f s num den (fin t n d) D h =
     go x (inf t) v fit = absurd v
     go x (fin t m e) v fit = subst (λ (b : Bool). T (fits f (fin b m e)) → fin b m e ≡ fin s n d) (sym (v .0)) (λ g. closest-only f num den D s m e n d g (v .1) x) fit
 
--- No two values are nearest to one fraction.
 pub nearest-only : (f : Format) (s : Bool) (num den : ℕ) (x y : Float) → 0 < den → Nearest f s num den x → Nearest f s num den y → x ≡ y
 nearest-only f s num den x y D p q = sym (round-is f s num den x D p) ∙ round-is f s num den y D q
 
 -- ---- narrowing and the operations, of finite values
--- A value narrowed is the binary32 value nearest to it.
 pub narrow-nearest : (s : Bool) (m : ℕ) (e : ℤ) → Nearest binary32 s (m * up e) (down e) (narrowOf (fin s m e))
 unfolding narrowOf
 narrow-nearest s m e = round-nearest binary32 s (m * up e) (down e) (down-pos e)
 
--- The sign and the size that `sumSign` and `sumSize` give are those of the exact sum.
 pub sum-exact : (s : Bool) (a : ℕ) (t : Bool) (b : ℕ)
     → plus (sumSign s a t b) (sumSize s a t b) + minus s a + minus t b ≡ minus (sumSign s a t b) (sumSize s a t b) + plus s a + plus t b
 sum-exact s a t b = summed binary64 s a t b 1 .value
 
--- A sum is the value nearest to the exact one.
 pub add-nearest : (f : Format) (s : Bool) (m : ℕ) (e : ℤ) (t : Bool) (n : ℕ) (d : ℤ)
     → let a = m * up e * down d in
     let b = n * up d * down e in
@@ -105,7 +104,6 @@ add-nearest f s m e t n d =
     let c = down e * down d in
     subst (Nearest f (sumSign s a t b) (sumSize s a t b) c) (sym (summed f s a t b c .is)) (round-nearest f (sumSign s a t b) (sumSize s a t b) c (mul-pos (down-pos e) (down-pos d)))
 
--- A difference is the value nearest to the exact one, the sum with the other sign.
 pub sub-nearest : (f : Format) (s : Bool) (m : ℕ) (e : ℤ) (t : Bool) (n : ℕ) (d : ℤ)
     → let a = m * up e * down d in
     let b = n * up d * down e in
@@ -113,13 +111,11 @@ pub sub-nearest : (f : Format) (s : Bool) (m : ℕ) (e : ℤ) (t : Bool) (n : �
 unfolding sub neg
 sub-nearest f s m e t n d = add-nearest f s m e (not t) n d
 
--- A product is the value nearest to the exact one.
 pub mul-nearest : (f : Format) (s : Bool) (m : ℕ) (e : ℤ) (t : Bool) (n : ℕ) (d : ℤ)
     → Nearest f (unlike s t) (m * up e * (n * up d)) (down e * down d) (mul f (fin s m e) (fin t n d))
 unfolding mul
 mul-nearest f s m e t n d = round-nearest f (unlike s t) (m * up e * (n * up d)) (down e * down d) (mul-pos (down-pos e) (down-pos d))
 
--- A quotient by a value that is not zero is the value nearest to the exact one.
 pub div-nearest : (f : Format) (s : Bool) (m : ℕ) (e : ℤ) (t : Bool) (n : ℕ) (d : ℤ) → 0 < n
     → Nearest f (unlike s t) (m * up e * down d) (n * up d * down e) (div f (fin s m e) (fin t n d))
 unfolding div

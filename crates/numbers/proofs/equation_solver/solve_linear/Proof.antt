@@ -4,7 +4,7 @@ use mathlib.Core.List.{List}
 use lib.Ieee.{Float, binary64, div, neg}
 use Rattle.numbers.specs.Constants.{zeroOf}
 use Rattle.numbers.specs.EquationSolver.{Listed}
-use Rattle.numbers.proofs.Laws.Quadratic.{linear-none, linear-one, listed-none, listed-one}
+use Rattle.numbers.proofs.Laws.EquationSolver.{linear-none, linear-one, listed-none, listed-one}
 use Rattle.numbers.proofs.equation_solver.solve_linear.Statement.{statement}
 use Rattle.numbers.proofs.equation_solver.solve_linear.Tie as tie
 

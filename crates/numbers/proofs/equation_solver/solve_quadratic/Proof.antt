@@ -6,7 +6,7 @@ use lib.Ieee.{Float, binary64, lt, mul}
 use Rattle.numbers.specs.Constants.{dominance}
 use Rattle.numbers.specs.Scalar.{absOf}
 use Rattle.numbers.specs.EquationSolver.{Listed, discriminant}
-use Rattle.numbers.proofs.Laws.Quadratic.{linear-at-zero, linear-dominated, not-linear, roots-linear, roots-square}
+use Rattle.numbers.proofs.Laws.EquationSolver.{linear-at-zero, linear-dominated, not-linear, roots-linear, roots-square}
 use Rattle.numbers.proofs.equation_solver.solve_quadratic.Statement.{statement}
 use Rattle.numbers.proofs.equation_solver.solve_quadratic.Tie as tie
 

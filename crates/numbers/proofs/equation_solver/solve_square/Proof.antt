@@ -5,7 +5,7 @@ use mathlib.Core.List.{List, [], _∷_}
 use lib.Ieee.{Float, binary64, div, neg, mul}
 use Rattle.numbers.specs.Constants.{zeroOf, two}
 use Rattle.numbers.specs.EquationSolver.{Listed, upperRoot, lowerRoot}
-use Rattle.numbers.proofs.Laws.Quadratic.{square-two, square-one, square-none, listed-none, listed-one, listed-two}
+use Rattle.numbers.proofs.Laws.EquationSolver.{square-two, square-one, square-none, listed-none, listed-one, listed-two}
 use Rattle.numbers.proofs.equation_solver.solve_square.Statement.{statement}
 use Rattle.numbers.proofs.equation_solver.solve_square.Tie as tie
 

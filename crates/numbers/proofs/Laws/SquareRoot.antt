@@ -1,4 +1,7 @@
 -- The square root's definition is the right one: it is the one value that is nearest to the root. Assumes nothing.
+--     root-nearest  the square root of a positive value that binary64 holds is a value nearest to its root
+--     root-only     two values that are nearest to the root of one fraction are the same
+--     root-is       so whatever value is nearest to the root of x is the square root of x
 use mathlib.Core.Path.{_≡_, refl, sym, ap, _∙_, subst}
 use mathlib.Core.Logic.{_⊎_, inl, inr}
 use Prim.Native.Nat.{ℕ, zero, suc, _+_, _-_, _*_, _/_, _%_, _^_, _≤_, _<_}
@@ -222,7 +225,6 @@ near num den N M k n d E is sq w K fit v = record {
     q : ℕ
     q = nearestRoot M
 
--- The square root of a positive value that binary64 holds is a value nearest to its root.
 pub root-nearest : (m : ℕ) (e : ℤ) → T (fits binary64 (fin false (suc m) e))
     → (n : ℕ) × (d : ℤ) × (sqrtOf (fin false (suc m) e) ≡ fin false n d) × NearestRoot binary64 (suc m * up e) (down e) n d
 root-nearest m e fit =
@@ -249,7 +251,6 @@ root-nearest m e fit =
     finish (fin true n d) A c is v f k = absurd (true≢false (v .0))
     finish (fin false n d) A c is v f k = (n, d, is, k n d f (v .1))
 
--- Of two values that are nearest to the root of one fraction neither is the larger: they are the same value.
 pub root-only : (f : Format) (num den m : ℕ) (e : ℤ) (n : ℕ) (d : ℤ) → NearestRoot f num den m e → NearestRoot f num den n d → fin false m e ≡ fin false n d
 root-only f num den m e n d x y = go (le-or-lt (m * up e * down d) (n * up d * down e))
   where
@@ -263,7 +264,6 @@ root-only f num den m e n d x y = go (le-or-lt (m * up e * down d) (n * up d * d
     ]
     go (inr g) = absurd (clash (n * up d) (down d) (m * up e) (down e) num den (y .above m e (x .held) g) (x .below n d (y .held) g))
 
--- So whatever value is nearest to the root of x is the square root of x.
 pub root-is : (m : ℕ) (e : ℤ) (n : ℕ) (d : ℤ) → T (fits binary64 (fin false (suc m) e)) → NearestRoot binary64 (suc m * up e) (down e) n d → sqrtOf (fin false (suc m) e) ≡ fin false n d
 root-is m e n d fit x =
     let r = root-nearest m e fit in
