@@ -9,7 +9,7 @@
 --     add-within, sub-within                    a sum and a difference of two of at most 2 ^ n are at most 2 ^ (n + 1)
 --     mul-within                                a product of one of at most 2 ^ j and one of at most 2 ^ k is at most 2 ^ (j + k)
 --     mix-within                                a mix of two of at most 2 ^ k with a weight from 0 to 1 is at most 2 ^ (k + 1)
-use mathlib.Core.Path.{_≡_, refl, sym, ap, _∙_, subst}
+use mathlib.Core.Path.{refl, sym, ap, _∙_, subst}
 use Prim.Native.Nat.{ℕ, suc, _+_, _*_, _^_, _≤_, _<_, zero-le}
 use native.Mathlib.Nat.{le-trans, le-of-eq, zero-lt-suc, suc-le-suc-iff, mul-pos, mul-one, one-mul, zero-add, mul-le-mul, mul-le-mul-right, le-of-mul-le-mul-right, mul-right-comm, mul-mul-mul-comm}
 use native.Mathlib.Omega.{arith}

@@ -8,7 +8,7 @@
 --     add-exact-zero                 a sum that is exactly zero is a zero
 --     add-exact-eq, sub-exact-eq     so they equal any value of the format that they are exactly, a zero of either sign
 --     add-zero-eq, add-zero-nonzero  a value with a zero added equals itself, and one that is not zero is itself
-use mathlib.Core.Path.{_≡_, refl, sym, ap, _∙_, subst}
+use mathlib.Core.Path.{_≡_, refl, sym, ap, _∙_}
 use Prim.Native.Nat.{ℕ, zero, suc, _+_, _*_, _^_, _<_}
 use native.Mathlib.Nat.{le-refl, le-of-eq, le-of-lt, lt-of-le-of-lt, zero-lt-suc, zero-mul, mul-pos, mul-le-mul}
 use native.Mathlib.Omega.{arith}

@@ -5,7 +5,7 @@
 --     floor-mono                             of a larger value it is at least as large
 --     floor-fits                             it is an i64
 --     floor-size, floor-between, floor-cell  it is at most as large as a whole number that bounds the value, or as the larger of the floors on its two sides, as of 2 ^ 20 + 1
-use mathlib.Core.Path.{_≡_, sym, ap, _∙_, subst}
+use mathlib.Core.Path.{_≡_, sym, ap, _∙_}
 use mathlib.Core.Bool.{Bool, true, false}
 use Prim.Native.Nat.{ℕ, zero, suc, _+_, _-_, _*_, _/_, _%_, _^_, _≤_, _<_, min, zero-le, suc-le-suc}
 use native.Mathlib.Nat.{zero-div, le-trans, le-of-eq, le-of-suc-le-suc, div-le-of-le-mul, div-lt-iff-lt-mul, div-add-mod', mod-lt, mul-comm, mul-pos, zero-mul}

@@ -3,7 +3,7 @@
 use mathlib.Core.Path.{_≡_, refl, sym, ap, _∙_, subst}
 use mathlib.Core.Logic.{_⊎_, inl, inr}
 use Prim.Native.Nat.{ℕ, zero, suc, _+_, _-_, _*_, _^_, _≤_, _<_}
-use native.Mathlib.Nat.{le-of-mul-le-mul-right, lt-irrefl, zero-lt-suc, mul-pos, mul-le-mul-right, zero-mul, mul-zero, mul-mul-mul-comm, eq-zero-or-pos, eq-or-lt-of-le, add-comm as plus-comm}
+use native.Mathlib.Nat.{le-of-mul-le-mul-right, lt-irrefl, zero-lt-suc, mul-pos, mul-le-mul-right, zero-mul, mul-zero, mul-mul-mul-comm, eq-zero-or-pos, eq-or-lt-of-le}
 use native.Mathlib.Omega.{arith}
 use mathlib.Core.Bool.{Bool, true, false, not, _&&_, _||_, Bool·beq, cond, and-comm}
 use lib.IntN.{pos}

@@ -6,7 +6,7 @@ use native.Mathlib.Nat.{le-trans, le-of-eq, le-of-lt, le-antisymm, le-dest, lt-o
 use native.Mathlib.Omega.{arith}
 use lib.Arith.{add-le-cancel-left}
 use lib.Pow.{pow-add, pow-pos, pow-mono, shl-lt, le-ones}
-use lib.Ieee.{size, nearest}
+use lib.Ieee.{nearest}
 use lib.Ieee.Digits.{size-reaches, size-le}
 use lib.Ieee.Fits.{kept-lt, nearest-le}
 use lib.Ieee.Nearest.{closest}

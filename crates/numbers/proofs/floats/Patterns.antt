@@ -9,7 +9,7 @@ use mathlib.Core.Bool.{Bool, true, false, not, cond}
 use lib.IntN.{ℤ}
 use lib.Dec.{T, ltb, ltb→lt, nltb→le}
 use lib.Pow.{pow-add, pow-pos, pow-mono, pow-lt, shl-lt}
-use lib.Ieee.{Float, nan, inf, fin, Format, prec, emax, low, up, down, size, nearest, odd, units, round, isNan, hid, ones, top, ofBits, toBits, nanBits}
+use lib.Ieee.{Float, inf, fin, Format, prec, emax, low, up, down, size, nearest, odd, units, round, hid, ones, top, ofBits, toBits, nanBits}
 use lib.Ieee.Digits.{back, size-lt, size-le}
 use lib.Ieee.Fits.{round-is, two, reach, two-le-pos, odd-fits, inf-fits, down-pos}
 use lib.Ieee.Exact.{HasValue, odd-sign}

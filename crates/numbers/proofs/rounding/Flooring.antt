@@ -9,7 +9,7 @@ use lib.IntN.{ℤ, pos, negsuc, negℤ, _-ℤ_, +ℤ-idl}
 use lib.Dec.{T, leb, le→leb, lit<, lit≤}
 use lib.Pow.{pow-add, pow-pos, pow-mono, shl-lt, shl-shr, shr-shr, shl-exact}
 use lib.Arith.{lt→nleb, digits-div}
-use lib.Ieee.{Float, nan, inf, fin, binary64, up, down, isNan, ofFields, ofBits}
+use lib.Ieee.{Float, inf, binary64, up, down, isNan, ofFields, ofBits}
 use lib.Ieee.Fits.{down-pos}
 use lib.Ieee.Exact.{HasValue}
 use lib.Ieee.Nearest.{div-same}
@@ -19,7 +19,7 @@ use mir.Val.{SFits, toZ, ofZ}
 use mir.ValLaws.{toZ-pos, toZ-ofZ}
 use Rattle.numbers.specs.Rounding.{floorOf}
 use Rattle.numbers.specs.Inner.{scaled}
-use Rattle.numbers.proofs.rounding.Narrowing.{val, fields-value, exp, digits, signed, top-field}
+use Rattle.numbers.proofs.rounding.Narrowing.{val, fields-value, exp, signed, top-field}
 use Rattle.numbers.proofs.floats.Values.{with-value}
 use Rattle.numbers.proofs.floats.Patterns.{shifted}
 

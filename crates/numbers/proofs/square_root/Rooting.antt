@@ -2,18 +2,17 @@
 use mathlib.Core.Path.{_≡_, refl, sym, ap, _∙_, subst}
 use mathlib.Core.Logic.{_⊎_, inl, inr}
 use Prim.Native.Nat.{ℕ, zero, suc, _+_, _-_, _*_, _/_, _%_, _^_, _≤_, _<_, compare}
-use native.Mathlib.Nat.{le-trans, lt-of-lt-of-le, lt-of-le-of-lt, zero-lt-suc, lt-irrefl, mul-mul-mul-comm, mul-assoc, mul-comm, mul-one, zero-mul, mul-right-comm, mul-pos, eq-of-mul-eq-mul-right}
+use native.Mathlib.Nat.{le-trans, lt-of-lt-of-le, lt-of-le-of-lt, zero-lt-suc, lt-irrefl, mul-assoc, mul-comm, mul-one, zero-mul, mul-right-comm, mul-pos, eq-of-mul-eq-mul-right}
 use native.Mathlib.Omega.{arith}
 use mathlib.Core.Bool.{Bool, true, false, not, _&&_, _||_, Bool·beq, true≢false, false≢true}
 use lib.IntN.{ℤ}
 use lib.Dec.{T, leb, ltb, eqb, lt→ltb, eqb→eq, lit<, lit≤}
 use lib.Pow.{pow-add, pow-pos, shl-lt}
-use lib.Ieee.{Float, nan, inf, fin, Format, binary64, up, down, size, nearest, units, round, mul, lt, eq, isNan, fits, ofFields, ofBits, toBits, nanBits}
+use lib.Ieee.{Float, nan, inf, fin, binary64, up, down, size, nearest, units, mul, lt, eq, isNan, fits, ofFields, ofBits, toBits, nanBits}
 use lib.Ieee.Fits.{and-l, up-pos, down-pos, nearest-le, kept-lt, mul-fits}
 use lib.Ieee.Digits.{size-le}
 use lib.Ieee.Exact.{HasValue, round-exact}
 use lib.Ieee.Nearest.{nearest-ge}
-use lib.Ieee.Scale.{round-same}
 use lib.Ieee.Bits.{ofBits-toBits}
 use Rattle.numbers.specs.SquareRoot.{root, sqrtOf}
 use Rattle.numbers.specs.Inner.{nearestRoot, rootBits}
