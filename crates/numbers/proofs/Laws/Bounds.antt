@@ -14,7 +14,7 @@ use Prim.Native.Nat.{ℕ, suc, _+_, _*_, _^_, _≤_, _<_, zero-le}
 use native.Mathlib.Nat.{le-trans, le-of-eq, zero-lt-suc, suc-le-suc-iff, mul-pos, mul-one, one-mul, zero-add, mul-le-mul, mul-le-mul-right, le-of-mul-le-mul-right, mul-right-comm, mul-mul-mul-comm}
 use native.Mathlib.Omega.{arith}
 use mathlib.Core.Bool.{Bool, true, false, not, true≢false}
-use lib.IntN.{pos}
+use lib.IntN.{ℤ, pos}
 use lib.Dec.{T, lt→ltb}
 use lib.Pow.{pow-add, pow-mono, pow-lt}
 use lib.Ieee.{Float, nan, inf, fin, Format, binary32, binary64, emax, up, down, unlike, round, add, sub, mul, neg, le, lt, isNan, fits, ofBits}
@@ -35,15 +35,16 @@ Within k nan = ⊥
 Within k (inf s) = ⊥
 Within k (fin s m e) = m * up e ≤ 2 ^ k * down e
 
+within-cases : (P : Float → Type 0) (k : ℕ) (x : Float) → Within k x → ((s : Bool) (m : ℕ) (e : ℤ) → m * up e ≤ 2 ^ k * down e → P (fin s m e)) → P x
+within-cases P k nan w c = absurd w
+within-cases P k (inf s) w c = absurd w
+within-cases P k (fin s m e) w c = c s m e w
+
 pub within-more : (j k : ℕ) (x : Float) → j ≤ k → Within j x → Within k x
-within-more j k nan h w = absurd w
-within-more j k (inf s) h w = absurd w
-within-more j k (fin s m e) h w = le-trans w (mul-le-mul-right (down e) (pow-mono h))
+within-more j k x h w = within-cases (Within k) j x w (λ s m e l. le-trans l (mul-le-mul-right (down e) (pow-mono h)))
 
 pub within-finite : (k : ℕ) (x : Float) → Within k x → finite x
-within-finite k nan w = absurd w
-within-finite k (inf s) w = absurd w
-within-finite k (fin s m e) w = tt
+within-finite k x w = within-cases finite k x w (λ s m e l. tt)
 
 pub within-no-nan : (k : ℕ) (x : Float) → Within k x → T (not (isNan x))
 within-no-nan k x w = finite-number x (within-finite k x w)
@@ -51,15 +52,11 @@ within-no-nan k x w = finite-number x (within-finite k x w)
 -- ---- signs and selection
 pub neg-within : (k : ℕ) (x : Float) → Within k x → Within k (neg x)
 unfolding neg
-neg-within k nan w = absurd w
-neg-within k (inf s) w = absurd w
-neg-within k (fin s m e) w = w
+neg-within k x w = within-cases (λ x. Within k (neg x)) k x w (λ s m e l. l)
 
 pub abs-within : (k : ℕ) (x : Float) → Within k x → Within k (absOf x)
 unfolding absOf
-abs-within k nan w = absurd w
-abs-within k (inf s) w = absurd w
-abs-within k (fin s m e) w = w
+abs-within k x w = within-cases (λ x. Within k (absOf x)) k x w (λ s m e l. l)
 
 pub min-within : (k : ℕ) (x y : Float) → Within k x → Within k y → Within k (minOf x y)
 min-within k x y = min-keeps (Within k) x y
@@ -79,9 +76,10 @@ within-of-le k (fin s m e) h = omega (arith, le→at-most false m e false 1 (pos
 
 pub le-of-within : (k : ℕ) (x : Float) → Within k x → T (le (absOf x) (fin false 1 (pos k)))
 unfolding absOf
-le-of-within k nan w = absurd w
-le-of-within k (inf s) w = absurd w
-le-of-within k (fin s m e) w = at-most→le false m e false 1 (pos k) (omega arith)
+le-of-within k x w = within-cases (λ x. T (le (absOf x) (fin false 1 (pos k)))) k x w (λ s m e l. at-most→le false m e false 1 (pos k) (cross (m * up e) (down e) (2 ^ k) l))
+  where
+    cross : (a c p : ℕ) → a ≤ p * c → a * 1 + 0 ≤ 1 * p * c + 0
+    cross a c p h = omega arith
 
 pub between-within : (k : ℕ) (lo x hi : Float) → Within k lo → Within k hi → T (le lo x) → T (le x hi) → Within k x
 between-within k nan x hi v w h g = absurd v
@@ -138,31 +136,24 @@ round-within f k true a c C K h = subst (Within k) (sym (round-neg f a c)) (neg-
 
 pub narrow-within : (k : ℕ) (x : Float) → k ≤ 127 → Within k x → Within k (narrowOf x)
 unfolding narrowOf
-narrow-within k nan K w = absurd w
-narrow-within k (inf s) K w = absurd w
-narrow-within k (fin s m e) K w = round-within binary32 k s (m * up e) (down e) (down-pos e) K w
+narrow-within k x K w = within-cases (λ x. Within k (narrowOf x)) k x w (λ s m e l. round-within binary32 k s (m * up e) (down e) (down-pos e) K l)
 
 -- ---- arithmetic
 pub add-within : (f : Format) (j k n : ℕ) (x y : Float) → j ≤ n → k ≤ n → n + 1 ≤ emax f → Within j x → Within k y → Within (n + 1) (add f x y)
-add-within f j k n x y J K N v w = go x y (within-more j n x J v) (within-more k n y K w)
+unfolding add
+add-within f j k n x y J K N v w =
+    within-cases (λ x. Within (n + 1) (add f x y)) n x (within-more j n x J v)
+    (λ s m e v. within-cases (λ y. Within (n + 1) (add f (fin s m e) y)) n y (within-more k n y K w) (λ t o d w.
+    let a = m * up e * down d in
+    let b = o * up d * down e in
+    let c = down e * down d in
+    let r = sumSize s a t b in
+    subst (Within (n + 1)) (sym (summed f s a t b c .is))
+    (round-within f (n + 1) (sumSign s a t b) r c (mul-pos (down-pos e) (down-pos d)) N
+    (subst (λ (p : ℕ). r ≤ p * c) (sym (pow-add 2 n 1)) (total r (2 ^ n) (m * up e) (down e) (o * up d) (down d) v w (sum-size s a t b))))))
   where
     total : (r p x c y d : ℕ) → x ≤ p * c → y ≤ p * d → r ≤ x * d + y * c → r ≤ p * 2 * (c * d)
     total r p x c y d h g l = omega (arith, mul-le-mul-right d h, mul-le-mul-right c g)
-
-    go : (x y : Float) → Within n x → Within n y → Within (n + 1) (add f x y)
-    go nan y v w = absurd v
-    go (inf s) y v w = absurd v
-    go (fin s m e) nan v w = absurd w
-    go (fin s m e) (inf t) v w = absurd w
-    go (fin s m e) (fin t o d) v w =
-        let a = m * up e * down d in
-        let b = o * up d * down e in
-        let r = sumSize s a t b in
-        unfold add in
-        subst (Within (n + 1)) (sym (summed f s a t b (down e * down d) .is))
-        (round-within f (n + 1) (sumSign s a t b) r (down e * down d) (mul-pos (down-pos e) (down-pos d)) N
-        (subst (λ (p : ℕ). r ≤ p * (down e * down d)) (sym (pow-add 2 n 1))
-        (total r (2 ^ n) (m * up e) (down e) (o * up d) (down d) v w (sum-size s a t b))))
 
 pub sub-within : (f : Format) (j k n : ℕ) (x y : Float) → j ≤ n → k ≤ n → n + 1 ≤ emax f → Within j x → Within k y → Within (n + 1) (sub f x y)
 unfolding sub
@@ -170,13 +161,11 @@ sub-within f j k n x y J K N v w = add-within f j k n x (neg y) J K N v (neg-wit
 
 pub mul-within : (f : Format) (j k : ℕ) (x y : Float) → j + k ≤ emax f → Within j x → Within k y → Within (j + k) (mul f x y)
 unfolding mul
-mul-within f j k nan y N v w = absurd v
-mul-within f j k (inf s) y N v w = absurd v
-mul-within f j k (fin s m e) nan N v w = absurd w
-mul-within f j k (fin s m e) (inf t) N v w = absurd w
-mul-within f j k (fin s m e) (fin t n d) N v w =
-    round-within f (j + k) (unlike s t) (m * up e * (n * up d)) (down e * down d) (mul-pos (down-pos e) (down-pos d)) N
-    (le-trans (mul-le-mul v w) (le-of-eq (mul-mul-mul-comm (2 ^ j) (down e) (2 ^ k) (down d) ∙ ap (λ (p : ℕ). p * (down e * down d)) (sym (pow-add 2 j k)))))
+mul-within f j k x y N v w =
+    within-cases (λ x. Within (j + k) (mul f x y)) j x v
+    (λ s m e v. within-cases (λ y. Within (j + k) (mul f (fin s m e) y)) k y w
+    (λ t n d w. round-within f (j + k) (unlike s t) (m * up e * (n * up d)) (down e * down d) (mul-pos (down-pos e) (down-pos d)) N
+    (le-trans (mul-le-mul v w) (le-of-eq (mul-mul-mul-comm (2 ^ j) (down e) (2 ^ k) (down d) ∙ ap (λ (p : ℕ). p * (down e * down d)) (sym (pow-add 2 j k)))))))
 
 -- ---- mixing
 weight-within : (w : Float) → T (le nought w) → T (le w one) → Within 0 w

@@ -121,11 +121,18 @@ agree : (s : Bool) (a : ℕ) (t : Bool) (b : ℕ) (u : Bool) (R : ℕ) (c p : �
 agree s a t b u R c p w r h k =
     omega (arith, ap (λ (x : ℕ). x * p) k, scale-plus s a p, scale-plus t b p, scale-minus s a p, scale-minus t b p, scale-plus u R c, scale-minus u R c)
 
-signs : (u : Bool) (R c p : ℕ) (w : Bool) (r : ℕ) → 0 < R * c → plus w r * p + minus u R * c ≡ plus u R * c + minus w r * p → (u ≡ w) × (R * c ≡ r * p)
-signs false R c p false r P h = (refl, omega arith)
-signs true R c p true r P h = (refl, omega arith)
-signs true R c p false r P h = absurd (omega arith)
-signs false R c p true r P h = absurd (omega arith)
+-- so they have one size, and where it is not 0 one sign
+same-size : (u : Bool) (R c p : ℕ) (w : Bool) (r : ℕ) → plus w r * p + minus u R * c ≡ plus u R * c + minus w r * p → R * c ≡ r * p
+same-size false R c p false r h = omega arith
+same-size true R c p true r h = omega arith
+same-size true R c p false r h = omega arith
+same-size false R c p true r h = omega arith
+
+same-sign : (u : Bool) (R c p : ℕ) (w : Bool) (r : ℕ) → 0 < R * c → plus w r * p + minus u R * c ≡ plus u R * c + minus w r * p → u ≡ w
+same-sign false R c p false r P h = refl
+same-sign true R c p true r P h = refl
+same-sign true R c p false r P h = absurd (omega arith)
+same-sign false R c p true r P h = absurd (omega arith)
 
 pub add-exact : (f : Format) (x y : Float) (u : Bool) (k : ℕ) (g : ℤ) → T (fits f (fin u (suc k) g)) → Adds x y (fin u (suc k) g) → add f x y ≡ fin u (suc k) g
 unfolding add
@@ -143,23 +150,11 @@ add-exact f (fin s m e) (fin t n d) u k g p h =
     let r = sumSize s a t b in
     let C : 0 < c = mul-pos (down-pos e) (down-pos d) in
     let same = agree s a t b u R c (down g) v r h (w .value) in
-    w .is ∙ round-value f (fin u (suc k) g) v r c C p (signs u R c (down g) v r (mul-pos (mul-pos (zero-lt-suc k) (up-pos g)) C) same)
+    w .is ∙ round-value f (fin u (suc k) g) v r c C p (same-sign u R c (down g) v r (mul-pos (mul-pos (zero-lt-suc k) (up-pos g)) C) same, same-size u R c (down g) v r same)
 
 zero-fits : (f : Format) (s : Bool) → T (fits f (fin s 0 (pos 0)))
 unfolding fits
 zero-fits f s = tt
-
-no-size : (u w : Bool) (r p c R : ℕ) → R ≡ 0 → plus w r * p + minus u R * c ≡ plus u R * c + minus w r * p → r * p ≡ 0
-no-size true true r p c R z h = sym h' ∙ ap (λ (x : ℕ). x * c) z ∙ zero-mul c
-  where
-    h' : R * c ≡ r * p
-    h' = omega arith
-no-size false false r p c R z h = h' ∙ ap (λ (x : ℕ). x * c) z ∙ zero-mul c
-  where
-    h' : r * p ≡ R * c
-    h' = omega arith
-no-size true false r p c R z h = omega arith
-no-size false true r p c R z h = omega arith
 
 pub add-exact-zero : (f : Format) (x y : Float) (u : Bool) (g : ℤ) → Adds x y (fin u 0 g) → (w : Bool) × (add f x y ≡ fin w 0 (pos 0))
 unfolding add
@@ -176,7 +171,7 @@ add-exact-zero f (fin s m e) (fin t n d) u g h =
     let v = sumSign s a t b in
     let r = sumSize s a t b in
     let C : 0 < c = mul-pos (down-pos e) (down-pos d) in
-    let z : r ≡ 0 = zero-of r (down g) (down-pos g) (no-size u v r (down g) c R (zero-mul (up g)) (agree s a t b u R c (down g) v r h (w .value))) in
+    let z : r ≡ 0 = zero-of r (down g) (down-pos g) (sym (same-size u R c (down g) v r (agree s a t b u R c (down g) v r h (w .value))) ∙ ap (λ (x : ℕ). x * c) (zero-mul (up g)) ∙ zero-mul c) in
     (v, w .is ∙ ap (λ (x : ℕ). round f v x c) z ∙ round-value f (fin v 0 (pos 0)) v 0 c C (zero-fits f v) (refl, ap (λ (x : ℕ). x * c) (zero-mul 1) ∙ zero-mul c ∙ sym (zero-mul 1)))
 
 -- ---- equality

@@ -101,6 +101,15 @@ add-comm f (fin s m e) (inf t) = refl
 add-comm f (fin s m e) (fin t n d) =
     sum-comm f s (m * up e * down d) t (n * up d * down e) (down e * down d) ∙ ap (sum f t (n * up d * down e) s (m * up e * down d)) (times (down e) (down d))
 
+pub number-first : (f : Format) (x y : Float) → T (not (isNan (add f x y))) → T (not (isNan x))
+unfolding add isNan
+number-first f nan y n = n
+number-first f (inf s) y n = tt
+number-first f (fin s m e) y n = tt
+
+pub number-second : (f : Format) (x y : Float) → T (not (isNan (add f x y))) → T (not (isNan y))
+number-second f x y n = number-first f y x (rw (add-comm f y x) n)
+
 -- an infinity added to what gives no NaN is that infinity
 add-inf : (f : Format) (x : Float) (t : Bool) → T (not (isNan (add f x (inf t)))) → add f x (inf t) ≡ inf t
 unfolding add isNan
@@ -336,16 +345,6 @@ mul-not-negative f x y a b n =
 abbrev bound : Float
 bound = fin false 1 (pos 128)
 
--- what a result says of its operands
-add-left : (f : Format) (x y : Float) → T (not (isNan (add f x y))) → T (not (isNan x))
-unfolding add isNan
-add-left f nan y n = n
-add-left f (inf s) y n = tt
-add-left f (fin s m e) y n = tt
-
-add-right : (f : Format) (x y : Float) → T (not (isNan (add f x y))) → T (not (isNan y))
-add-right f x y n = add-left f y x (subst (λ (v : Float). T (not (isNan v))) (add-comm f x y) n)
-
 wide : (x : Float) → T (not (isNan (narrowOf x))) → T (not (isNan x))
 wide x n = subst (λ (b : Bool). T (not b)) (narrow-number x) n
 
@@ -369,7 +368,7 @@ mix-mono-first a a' b w lo hi h i j =
     let y = mul binary64 w b in
     let m = wide (add binary64 x y) i in
     let n = wide (add binary64 x' y) j in
-    narrow-mono (add binary64 x y) (add binary64 x' y) (add-mono-left binary64 x x' y (mul-mono-right binary64 v a a' (rest-lo w lo hi) h (add-left binary64 x y m) (add-left binary64 x' y n)) m n)
+    narrow-mono (add binary64 x y) (add binary64 x' y) (add-mono-left binary64 x x' y (mul-mono-right binary64 v a a' (rest-lo w lo hi) h (number-first binary64 x y m) (number-first binary64 x' y n)) m n)
 
 pub mix-mono-second : (a b b' w : Float) → T (le nought w) → T (le w one) → T (le b b') → T (not (isNan (mixOf a b w))) → T (not (isNan (mixOf a b' w))) → T (le (mixOf a b w) (mixOf a b' w))
 unfolding mixOf ofBits
@@ -379,7 +378,7 @@ mix-mono-second a b b' w lo hi h i j =
     let y' = mul binary64 w b' in
     let m = wide (add binary64 x y) i in
     let n = wide (add binary64 x y') j in
-    narrow-mono (add binary64 x y) (add binary64 x y') (add-mono-right binary64 x y y' (mul-mono-right binary64 w b b' lo h (add-right binary64 x y m) (add-right binary64 x y' n)) m n)
+    narrow-mono (add binary64 x y) (add binary64 x y') (add-mono-right binary64 x y y' (mul-mono-right binary64 w b b' lo h (number-second binary64 x y m) (number-second binary64 x y' n)) m n)
 
 -- a finite value of binary32 is below 2 ^ 128 in size
 held-bound : (x : Float) → T (fits binary32 x) → finite x → T (le (absOf x) bound)

@@ -24,7 +24,7 @@
 --     eq-held                                   two equal values that one format holds are the same value, or both zeros
 use mathlib.Core.Path.{_≡_, refl, sym, ap, _∙_, subst}
 use mathlib.Core.Logic.{_⊎_, inl, inr}
-use Prim.Native.Nat.{ℕ, _*_}
+use Prim.Native.Nat.{ℕ, zero, suc, _*_}
 use native.Mathlib.Nat.{zero-mul}
 use native.Mathlib.Omega.{arith}
 use mathlib.Core.Bool.{Bool, true, false, not, _||_, Bool·beq}
@@ -289,6 +289,13 @@ unfolding absOf isNan
 abs-number nan = refl
 abs-number (inf s) = refl
 abs-number (fin s m e) = refl
+
+pub abs-fits : (f : Format) (x : Float) → T (fits f x) → T (fits f (absOf x))
+unfolding absOf fits
+abs-fits f nan h = tt
+abs-fits f (inf s) h = tt
+abs-fits f (fin s zero e) h = h
+abs-fits f (fin s (suc m) e) h = h
 
 pub abs-is : (x : Float) → (absOf x ≡ x) ⊎ (absOf x ≡ neg x)
 unfolding neg absOf

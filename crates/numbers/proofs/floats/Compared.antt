@@ -47,17 +47,7 @@ pub compare-scale : (a b u : ℕ) → 0 < u → compare (a * u) (b * u) ≡ comp
 compare-scale a b u U = compare-same a b (a * u) (b * u) (λ h. mul-lt-mul-of-pos-right h U) (λ e. ap (λ (x : ℕ). x * u) e) (λ h. mul-lt-mul-of-pos-right h U)
 
 pub compare-lt : (a b : ℕ) → a < b → compare a b ≡ Ordering·lt
-compare-lt a b h = go (compare a b) (cmp a b)
-  where
-    go : (o : Ordering) → Cmp o a b → o ≡ Ordering·lt
-    go Ordering·lt x = refl
-    go Ordering·eq x = absurd (omega arith)
-    go Ordering·gt x = absurd (omega arith)
+compare-lt a b h = compare-same 0 1 a b (λ l. h) (λ e. absurd (omega arith)) (λ g. absurd (omega arith))
 
 pub compare-gt : (a b : ℕ) → b < a → compare a b ≡ Ordering·gt
-compare-gt a b h = go (compare a b) (cmp a b)
-  where
-    go : (o : Ordering) → Cmp o a b → o ≡ Ordering·gt
-    go Ordering·lt x = absurd (omega arith)
-    go Ordering·eq x = absurd (omega (arith, sym x))
-    go Ordering·gt x = refl
+compare-gt a b h = compare-same 1 0 a b (λ l. absurd (omega arith)) (λ e. absurd (omega arith)) (λ g. h)

@@ -10,7 +10,7 @@ use lib.Ieee.{Float, nan, inf, fin, Format, binary32, binary64, fits, isNan, neg
 use lib.Ieee.Fits.{neg-fits}
 use lib.Ieee.Bits.{toBits-lt, ofBits-toBits, nanBits-is}
 use Rattle.numbers.specs.Scalar.{absOf}
-use Rattle.numbers.proofs.Laws.Order.{abs-number}
+use Rattle.numbers.proofs.Laws.Order.{abs-number, abs-fits}
 
 negative-bits : (f : Format) (m : ℕ) (e : ℤ) → toBits f (fin true m e) ≡ top f + toBits f (fin false m e)
 unfolding toBits
@@ -22,13 +22,6 @@ flipped f m e h = neg-fits f (fin false m e) h
 
 pub size-lt-top : (f : Format) (m : ℕ) (e : ℤ) → T (fits f (fin false m e)) → toBits f (fin false m e) < top f
 size-lt-top f m e h = omega (arith, subst (λ (n : ℕ). n < 2 * top f) (negative-bits f m e) (toBits-lt f (fin true m e) (flipped f m e h)))
-
-abs-fits : (f : Format) (x : Float) → T (fits f x) → T (fits f (absOf x))
-unfolding absOf fits
-abs-fits f nan h = tt
-abs-fits f (inf s) h = tt
-abs-fits f (fin s zero e) h = h
-abs-fits f (fin s (suc m) e) h = h
 
 inf-lt : (f : Format) → ones f * hid f < top f
 inf-lt binary32 = lit< tt
