@@ -76,10 +76,7 @@ within-of-le k (fin s m e) h = omega (arith, le→at-most false m e false 1 (pos
 
 pub le-of-within : (k : ℕ) (x : Float) → Within k x → T (le (absOf x) (fin false 1 (pos k)))
 unfolding absOf
-le-of-within k x w = within-cases (λ x. T (le (absOf x) (fin false 1 (pos k)))) k x w (λ s m e l. at-most→le false m e false 1 (pos k) (cross (m * up e) (down e) (2 ^ k) l))
-  where
-    cross : (a c p : ℕ) → a ≤ p * c → a * 1 + 0 ≤ 1 * p * c + 0
-    cross a c p h = omega arith
+le-of-within k x w = within-cases (λ x. T (le (absOf x) (fin false 1 (pos k)))) k x w (λ s m e l. at-most→le false m e false 1 (pos k) (omega arith))
 
 pub between-within : (k : ℕ) (lo x hi : Float) → Within k lo → Within k hi → T (le lo x) → T (le x hi) → Within k x
 between-within k nan x hi v w h g = absurd v
