@@ -5,7 +5,7 @@
 use mathlib.Core.Path.{_≡_, refl, sym, ap, _∙_, subst}
 use mathlib.Core.Logic.{_⊎_, inl, inr}
 use Prim.Native.Nat.{ℕ, zero, suc, _+_, _-_, _*_, _/_, _%_, _^_, _≤_, _<_}
-use native.Mathlib.Nat.{le-trans, le-of-eq, le-of-lt, lt-of-lt-of-le, lt-of-le-of-lt, not-le-of-lt, lt-irrefl, zero-lt-suc, eq-or-lt-of-le, mul-assoc, one-mul, mul-comm, mul-mul-mul-comm, mul-pos, mul-le-mul, mul-le-mul-right, mul-lt-mul-of-pos-right, lt-of-mul-lt-mul-right, pow-succ'}
+use native.Mathlib.Nat.{le-trans, le-of-eq, le-of-lt, lt-of-lt-of-le, lt-of-le-of-lt, lt-of-not-le, not-le-of-lt, lt-irrefl, zero-lt-suc, eq-or-lt-of-le, mul-assoc, one-mul, mul-comm, mul-mul-mul-comm, mul-pos, mul-le-mul, mul-le-mul-right, mul-lt-mul-of-pos-right, lt-of-mul-lt-mul-right, pow-succ'}
 use native.Mathlib.Omega.{arith}
 use mathlib.Core.Bool.{true, false, true≢false}
 use lib.IntN.{ℤ}
@@ -21,6 +21,7 @@ use Rattle.numbers.proofs.floats.Held.{held, count, value-unique}
 use Rattle.numbers.specs.Inner.{nearestRoot}
 use Rattle.numbers.proofs.floats.Patterns.{pattern, pow-lt-back, size-gt, shifted}
 use Rattle.numbers.proofs.floats.Compared.{le-or-lt}
+use Rattle.numbers.proofs.floats.Distances.{units-order}
 use Rattle.numbers.proofs.square_root.Roots.{bracket, four-pow}
 use Rattle.numbers.proofs.square_root.Rooting.{Wide, sqrt-units, nearest-wide, four-two}
 
@@ -34,52 +35,26 @@ record Square (N : ℕ) : Type 0 where
   few : k ≤ 2000
 
 square : (n j : ℕ) → 0 < n → n < 2 ^ 53 → j < 2098 → Square (n * 2 ^ j)
-square n j P F J = record {
-  M = n * 2 ^ c;
-  k = k;
-  is = mul-assoc n (2 ^ j) (2 ^ 1074)
-      ∙ ap (λ (x : ℕ). n * x) (sym (pow-add 2 j 1074) ∙ ap (λ (x : ℕ). 2 ^ x) (split z j zp zl) ∙ pow-add 2 c (k + k) ∙ ap (λ (x : ℕ). 2 ^ c * x) (sym (four-two k)))
-      ∙ sym (mul-assoc n (2 ^ c) (4 ^ k));
-  wide = (
-    le-trans (pow-mono (low-end z j zp zl)) (le-trans (le-of-eq (pow-add 2 (z - 1) c)) (mul-le-mul-right (2 ^ c) (size-reaches n (z - 1) (pred z zp)))),
-    lt-of-lt-of-le (shl-lt z c (size-lt n)) (pow-mono (high-end z j zp zl)),
-  );
-  some = at-least z j zp zl;
-  few = at-most z j zp zl J;
-}
-  where
-    z : ℕ
-    z = size n
-
-    c : ℕ
-    c = 105 - size n + (size n + 1 + j) % 2
-
-    k : ℕ
-    k = (j + 1074 - (105 - size n + (size n + 1 + j) % 2)) / 2
-
-    zp : 0 < size n
-    zp = size-gt n 0 P
-
-    zl : size n ≤ 53
-    zl = size-le n 53 F
-
-    pred : (z : ℕ) → 0 < z → z - 1 < z
-    pred z h = omega arith
-
-    split : (z j : ℕ) → 0 < z → z ≤ 53 → j + 1074 ≡ 105 - z + (z + 1 + j) % 2 + ((j + 1074 - (105 - z + (z + 1 + j) % 2)) / 2 + (j + 1074 - (105 - z + (z + 1 + j) % 2)) / 2)
-    split z j a b = omega arith
-
-    low-end : (z j : ℕ) → 0 < z → z ≤ 53 → 104 ≤ z - 1 + (105 - z + (z + 1 + j) % 2)
-    low-end z j a b = omega arith
-
-    high-end : (z j : ℕ) → 0 < z → z ≤ 53 → z + (105 - z + (z + 1 + j) % 2) ≤ 106
-    high-end z j a b = omega arith
-
-    at-least : (z j : ℕ) → 0 < z → z ≤ 53 → 1 ≤ (j + 1074 - (105 - z + (z + 1 + j) % 2)) / 2
-    at-least z j a b = omega arith
-
-    at-most : (z j : ℕ) → 0 < z → z ≤ 53 → j < 2098 → (j + 1074 - (105 - z + (z + 1 + j) % 2)) / 2 ≤ 2000
-    at-most z j a b h = omega arith
+square n j P F J =
+    let z = size n in
+    let c = 105 - z + (z + 1 + j) % 2 in
+    let k = (j + 1074 - c) / 2 in
+    let zp : 0 < z = size-gt n 0 P in
+    let zl : z ≤ 53 = size-le n 53 F in
+    let split : j + 1074 ≡ c + (k + k) = omega arith in
+    record {
+      M = n * 2 ^ c;
+      k = k;
+      is = mul-assoc n (2 ^ j) (2 ^ 1074)
+          ∙ ap (λ (x : ℕ). n * x) (sym (pow-add 2 j 1074) ∙ ap (λ (x : ℕ). 2 ^ x) split ∙ pow-add 2 c (k + k) ∙ ap (λ (x : ℕ). 2 ^ c * x) (sym (four-two k)))
+          ∙ sym (mul-assoc n (2 ^ c) (4 ^ k));
+      wide = (
+        le-trans (pow-mono {i = 104} (omega arith)) (le-trans (le-of-eq (pow-add 2 (z - 1) c)) (mul-le-mul-right (2 ^ c) (size-reaches n (z - 1) (omega arith)))),
+        lt-of-lt-of-le (shl-lt z c (size-lt n)) (pow-mono {j = 106} (omega arith)),
+      );
+      some = omega arith;
+      few = omega arith;
+    }
 
 -- ---- the steps from q * 2 ^ k, a number of 53 digits and k zeros, to the next values on its two sides
 -- a value with fewer zeros is smaller
@@ -111,28 +86,18 @@ above-units q p B M P g h =
 below-units : (r p B M : ℕ) → 0 < p → B + p ≤ suc r * p → (2 * suc r - 1) * (2 * suc r - 1) < M * 4 + 1 → (suc r * p + B) * (suc r * p + B) < 4 * (M * (p * p))
 below-units r p B M P g h =
     let l : suc r * p + B ≤ (2 * r + 1) * p = omega arith in
-    lt-of-le-of-lt (le-trans (mul-le-mul l l) (le-of-eq (mul-mul-mul-comm (2 * r + 1) p (2 * r + 1) p)))
-    (lt-of-lt-of-le (mul-lt-mul-of-pos-right (odd r M (subst (λ (x : ℕ). x * x < M * 4 + 1) (less r) h)) (mul-pos P P)) (le-of-eq (regroup M (p * p))))
-  where
-    less : (r : ℕ) → 2 * suc r - 1 ≡ 2 * r + 1
-    less r = omega arith
-
-    odd : (r M : ℕ) → (2 * r + 1) * (2 * r + 1) < M * 4 + 1 → (2 * r + 1) * (2 * r + 1) < M * 4
-    odd r M h = omega arith
-
-    regroup : (M x : ℕ) → M * 4 * x ≡ 4 * (M * x)
-    regroup M x = omega arith
+    let e : 2 * suc r - 1 ≡ 2 * r + 1 = omega arith in
+    let o : (2 * r + 1) * (2 * r + 1) < M * 4 = omega (arith, subst (λ (x : ℕ). x * x < M * 4 + 1) e h) in
+    lt-of-le-of-lt (le-trans (mul-le-mul l l) (le-of-eq (mul-mul-mul-comm (2 * r + 1) p (2 * r + 1) p))) (lt-of-lt-of-le (mul-lt-mul-of-pos-right o (mul-pos P P)) (le-of-eq (omega arith)))
 
 -- the step below a power of two is half as large
 below-half : (r p B M : ℕ) → 0 < p → 2 * B + p ≤ 2 * (suc r * p) → suc r * suc r ≤ M → (suc r * p + B) * (suc r * p + B) < 4 * (M * (p * p))
 below-half r p B M P g h =
     let l : 2 * (suc r * p + B) ≤ (4 * r + 3) * p = omega arith in
-    quarter ((suc r * p + B) * (suc r * p + B)) (M * (p * p))
-    (lt-of-le-of-lt (le-trans (le-of-eq (omega arith)) (le-trans (mul-le-mul l l) (le-of-eq (mul-mul-mul-comm (4 * r + 3) p (4 * r + 3) p))))
-    (lt-of-lt-of-le (mul-lt-mul-of-pos-right (omega arith) (mul-pos P P)) (le-of-eq (mul-assoc 16 M (p * p)))))
-  where
-    quarter : (x y : ℕ) → 4 * x < 16 * y → x < 4 * y
-    quarter x y h = omega arith
+    let t : 4 * ((suc r * p + B) * (suc r * p + B)) < 16 * (M * (p * p)) =
+    lt-of-le-of-lt (le-trans (le-of-eq (omega arith)) (le-trans (mul-le-mul l l) (le-of-eq (mul-mul-mul-comm (4 * r + 3) p (4 * r + 3) p))))
+    (lt-of-lt-of-le (mul-lt-mul-of-pos-right (omega arith) (mul-pos P P)) (le-of-eq (mul-assoc 16 M (p * p)))) in
+    omega arith
 
 -- ---- from units to fractions: a / c is Q / L, b / d is B / L and num / den is N / L
 sum-units : (a c b d L Q B : ℕ) → a * L ≡ Q * c → b * L ≡ B * d → (a * d + b * c) * L ≡ (Q + B) * (c * d)
@@ -165,14 +130,7 @@ module _ (a c b d num den L N Q B : ℕ) (C : 0 < c) (D : 0 < d) (E : 0 < den) (
 
 -- of two fractions the smaller counts less
 less-units : (a c b d L Q B : ℕ) → 0 < L → a * L ≡ Q * c → b * L ≡ B * d → a * d < b * c → Q < B
-less-units a c b d L Q B P e g h =
-    lt-of-mul-lt-mul-right (c * d) (lt-of-le-of-lt (le-of-eq (one a c d L Q e)) (lt-of-lt-of-le (mul-lt-mul-of-pos-right h P) (le-of-eq (two b c d L B g))))
-  where
-    one : (a c d L Q : ℕ) → a * L ≡ Q * c → Q * (c * d) ≡ a * d * L
-    one a c d L Q e = omega (arith, ap (λ (x : ℕ). x * d) e)
-
-    two : (b c d L B : ℕ) → b * L ≡ B * d → b * c * L ≡ B * (c * d)
-    two b c d L B e = omega (arith, ap (λ (x : ℕ). x * c) e)
+less-units a c b d L Q B P e g h = lt-of-not-le (λ (k : B ≤ Q). not-le-of-lt h (units-order L b d B a c Q P g e k))
 
 -- ---- the value q * 2 ^ k is the nearest to the root of M * 4 ^ k
 four-square : (M k : ℕ) → M * 4 ^ k ≡ M * (2 ^ k * 2 ^ k)

@@ -51,14 +51,8 @@ of-not-below true a true b h = let k : a ≤ b = nltb→le b a h in omega arith
 
 pub of-level : (s : Bool) (a : ℕ) (t : Bool) (b : ℕ) → T (level s a t b) → plus s a + minus t b ≡ plus t b + minus s a
 of-level false a false b h = let k : a ≡ b = eqb→eq a b (and-l (eqb a b) true h) in omega arith
-of-level false a true b h =
-    let k : a ≡ b = eqb→eq a b (and-l (eqb a b) (eqb a 0) h) in
-    let z : a ≡ 0 = eqb→eq a 0 (and-r (eqb a b) (eqb a 0) h) in
-    omega arith
-of-level true a false b h =
-    let k : a ≡ b = eqb→eq a b (and-l (eqb a b) (eqb a 0) h) in
-    let z : a ≡ 0 = eqb→eq a 0 (and-r (eqb a b) (eqb a 0) h) in
-    omega arith
+of-level false a true b h = omega (arith, eqb→eq a b (and-l (eqb a b) (eqb a 0) h), eqb→eq a 0 (and-r (eqb a b) (eqb a 0) h))
+of-level true a false b h = omega (arith, eqb→eq a b (and-l (eqb a b) (eqb a 0) h), eqb→eq a 0 (and-r (eqb a b) (eqb a 0) h))
 of-level true a true b h = let k : a ≡ b = eqb→eq a b (and-l (eqb a b) true h) in omega arith
 
 pub at-most : (s : Bool) (a : ℕ) (t : Bool) (b : ℕ) → T (below s a t b || level s a t b) → AtMost s a t b
@@ -71,27 +65,15 @@ at-most s a t b h = elim (or-split (below s a t b) (level s a t b) h) [
 both : (a b : ℕ) → a + b ≤ 0 → T (eqb a b && eqb a 0)
 both a b h = let z : a ≡ 0 = omega arith in let e : a ≡ b = omega arith in and-i (eqb a b) (eqb a 0) (eq→eqb e) (eq→eqb z)
 
+-- a test for less, or another that holds where the two are the same
+less-or : (a b : ℕ) (e : Bool) → a ≤ b → (a ≡ b → T e) → T (ltb a b || e)
+less-or a b e l k = elim (eq-or-lt-of-le l) [ inl q ↦ or-r (ltb a b) e (k q) | inr q ↦ or-l (ltb a b) e (lt→ltb a b q) ]
+
 pub of-at-most : (s : Bool) (a : ℕ) (t : Bool) (b : ℕ) → AtMost s a t b → T (below s a t b || level s a t b)
-of-at-most false a false b h = elim (eq-or-lt-of-le (le-of-sums a b h)) [
-  | inl e ↦ or-r (ltb a b) (level false a false b) (and-i (eqb a b) true (eq→eqb e) tt)
-  | inr l ↦ or-l (ltb a b) (level false a false b) (lt→ltb a b l)
-]
-  where
-    le-of-sums : (a b : ℕ) → a + 0 ≤ b + 0 → a ≤ b
-    le-of-sums a b h = omega arith
+of-at-most false a false b h = less-or a b (level false a false b) (omega arith) (λ e. and-i (eqb a b) true (eq→eqb e) tt)
 of-at-most false a true b h = both a b (omega arith)
-of-at-most true a false b h = go (ltb 0 (a + b)) (nltb→le 0 (a + b))
-  where
-    go : (c : Bool) → (T (not c) → a + b ≤ 0) → T (c || level true a false b)
-    go true k = tt
-    go false k = both a b (k tt)
-of-at-most true a true b h = elim (eq-or-lt-of-le (le-of-sums a b h)) [
-  | inl e ↦ or-r (ltb b a) (level true a true b) (and-i (eqb a b) true (eq→eqb (sym e)) tt)
-  | inr l ↦ or-l (ltb b a) (level true a true b) (lt→ltb b a l)
-]
-  where
-    le-of-sums : (a b : ℕ) → 0 + b ≤ 0 + a → b ≤ a
-    le-of-sums a b h = omega arith
+of-at-most true a false b h = less-or 0 (a + b) (level true a false b) (omega arith) (λ e. both a b (omega arith))
+of-at-most true a true b h = less-or b a (level true a true b) (omega arith) (λ e. and-i (eqb a b) true (eq→eqb (sym e)) tt)
 
 pub flip : (s : Bool) (a : ℕ) (t : Bool) (b : ℕ) → AtMost s a t b → AtMost (not t) b (not s) a
 flip false a false b h = omega arith

@@ -50,7 +50,7 @@ in-units num den a c C L e =
     ∙ apart-scale (num * L) (C * den) c
 
 -- two distances are in the order of their counts
-units-order : (L A de X B dd Y : ℕ) → 0 < L → A * L ≡ X * de → B * L ≡ Y * dd → X ≤ Y → A * dd ≤ B * de
+pub units-order : (L A de X B dd Y : ℕ) → 0 < L → A * L ≡ X * de → B * L ≡ Y * dd → X ≤ Y → A * dd ≤ B * de
 units-order L A de X B dd Y P p q h = transfer A B de dd X Y L L P P p q (mul-le-mul-right L h)
 
 -- and the counts in the order of the distances

@@ -1,7 +1,7 @@
 -- The bit pattern of a value without its sign: the pattern's rest by the sign's weight is the pattern of the value's size. Assumes nothing.
 use mathlib.Core.Path.{_≡_, sym, ap, _∙_, subst}
 use mathlib.Core.Bool.{Bool, true, false, not}
-use Prim.Native.Nat.{ℕ, zero, suc, _+_, _*_, _%_, _<_}
+use Prim.Native.Nat.{ℕ, _+_, _*_, _%_, _<_}
 use native.Mathlib.Nat.{mod-eq-of-lt, add-mod-left, zero-add}
 use native.Mathlib.Omega.{arith}
 use lib.IntN.{ℤ}

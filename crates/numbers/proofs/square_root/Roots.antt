@@ -32,21 +32,9 @@ around n s r h = (omega (arith, h .0), omega (arith, h .0, h .1))
 another-around : (s n : ℕ) → Around (n / 4) s → Around n (another (2 * s) n)
 another-around s n h = go (leb (suc (2 * s) * suc (2 * s)) n) (leb→le (suc (2 * s) * suc (2 * s)) n) (nleb→lt (suc (2 * s) * suc (2 * s)) n)
   where
-    lo : (s n m : ℕ) → m * 4 ≤ n → s * s ≤ m → 2 * s * (2 * s) ≤ n
-    lo s n m e h = omega arith
-
-    hi : (s n m : ℕ) → n < m * 4 + 4 → m < suc s * suc s → n < suc (suc (2 * s)) * suc (suc (2 * s))
-    hi s n m e h = omega arith
-
-    q1 : (n : ℕ) → n / 4 * 4 ≤ n
-    q1 n = omega arith
-
-    q2 : (n : ℕ) → n < n / 4 * 4 + 4
-    q2 n = omega arith
-
     go : (b : Bool) → (T b → suc (2 * s) * suc (2 * s) ≤ n) → (T (not b) → n < suc (2 * s) * suc (2 * s)) → Around n (cond b (suc (2 * s)) (2 * s))
-    go true a b = (a tt, hi s n (n / 4) (q2 n) (h .1))
-    go false a b = (lo s n (n / 4) (q1 n) (h .0), b tt)
+    go true a b = (a tt, omega (arith, h .1))
+    go false a b = (omega (arith, h .0), b tt)
 
 rootBy-around : (d n : ℕ) → n < 4 ^ d → Around n (rootBy d n)
 unfolding rootBy
@@ -71,10 +59,7 @@ sq-pos n (suc k) h = zero-lt-suc k
 -- one less for the root
 shrink : (s rem qq n : ℕ) → 0 < s → s * s + rem ≡ n + qq → rem < qq → qq ≤ rem + 2 * s - 1 → IsRoot n (s - 1) (rem + 2 * s - 1 - qq)
 shrink zero rem qq n p e l g = absurd (lt-irrefl 0 p)
-shrink (suc t) rem qq n p e l g = subst (λ (x : ℕ). IsRoot n x (rem + 2 * suc t - 1 - qq)) (back t) (omega arith, omega arith)
-  where
-    back : (t : ℕ) → t ≡ suc t - 1
-    back t = omega arith
+shrink (suc t) rem qq n p e l g = let back : t ≡ suc t - 1 = omega arith in subst (λ (x : ℕ). IsRoot n x (rem + 2 * suc t - 1 - qq)) back (omega arith, omega arith)
 
 -- ---- from the root of n1 to that of n, by one division: B is a power of two in the code, and here any number up to 2 * s1
 module _ (B s1 r1 a1 a0 n1 : ℕ) (h1 : s1 * s1 + r1 ≡ n1) (h2 : r1 ≤ 2 * s1) (A1 : a1 < B) (A0 : a0 < B) (big : B ≤ 2 * s1) (S : 0 < s1) where
@@ -134,19 +119,11 @@ rootOf-at f num den M k q D e a lo hi =
 
 -- with what is left of M: up where it is more than q
 up-or-not : (M q r : ℕ) → IsRoot M q r → (r ≤ q → nearest q (compare (M * 4) ((2 * q + 1) * (2 * q + 1))) ≡ q) × (q < r → nearest q (compare (M * 4) ((2 * q + 1) * (2 * q + 1))) ≡ q + 1)
-up-or-not M q r h = (
-  λ l. ap (nearest q) (compare-lt (M * 4) ((2 * q + 1) * (2 * q + 1)) (below M q r (h .0) l)),
-  λ g. ap (nearest q) (compare-gt (M * 4) ((2 * q + 1) * (2 * q + 1)) (above M q r (h .0) g)) ∙ suc-is q,
-)
-  where
-    below : (M q r : ℕ) → q * q + r ≡ M → r ≤ q → M * 4 < (2 * q + 1) * (2 * q + 1)
-    below M q r e l = omega arith
-
-    above : (M q r : ℕ) → q * q + r ≡ M → q < r → (2 * q + 1) * (2 * q + 1) < M * 4
-    above M q r e l = omega arith
-
-    suc-is : (q : ℕ) → suc q ≡ q + 1
-    suc-is q = omega arith
+up-or-not M q r h =
+    let e = h .0 in (
+      λ l. ap (nearest q) (compare-lt (M * 4) ((2 * q + 1) * (2 * q + 1)) (omega arith)),
+      λ g. ap (nearest q) (compare-gt (M * 4) ((2 * q + 1) * (2 * q + 1)) (omega arith)) ∙ omega arith,
+    )
 
 -- ---- the sizes of what the code for one such step computes
 pub record Sizes (s r a c b q u : ℕ) : Type 0 where
@@ -207,24 +184,15 @@ doubled m w a b c d = (omega (arith, mul-le-mul (le-refl m) c), omega (arith, mu
 pub bracket : (M : ℕ) → (M * 4 < (2 * nearestRoot M + 1) * (2 * nearestRoot M + 1)) × ((2 * nearestRoot M - 1) * (2 * nearestRoot M - 1) < M * 4 + 1)
 bracket M = go (le-or-lt (M - root M * root M) (root M))
   where
-    left : (M s : ℕ) → s * s ≤ M → M < suc s * suc s → IsRoot M s (M - s * s)
-    left M s a b = (omega arith, omega arith)
-
     is : IsRoot M (root M) (M - root M * root M)
-    is = left M (root M) (root-around M .0) (root-around M .1)
+    is = let a = root-around M in (omega (arith, a .0), omega (arith, a .0, a .1))
 
     down-is : (M s r : ℕ) → s * s + r ≡ M → r ≤ s → (M * 4 < (2 * s + 1) * (2 * s + 1)) × ((2 * s - 1) * (2 * s - 1) < M * 4 + 1)
     down-is M zero r e l = (omega arith, omega arith)
-    down-is M (suc s) r e l = (omega arith, subst (λ (x : ℕ). x * x < M * 4 + 1) (odd-is s) (omega arith))
-      where
-        odd-is : (s : ℕ) → suc (2 * s) ≡ 2 * suc s - 1
-        odd-is s = omega arith
+    down-is M (suc s) r e l = let o : suc (2 * s) ≡ 2 * suc s - 1 = omega arith in (omega arith, subst (λ (x : ℕ). x * x < M * 4 + 1) o (omega arith))
 
     up-is : (M s r : ℕ) → s * s + r ≡ M → r ≤ 2 * s → s < r → (M * 4 < (2 * (s + 1) + 1) * (2 * (s + 1) + 1)) × ((2 * (s + 1) - 1) * (2 * (s + 1) - 1) < M * 4 + 1)
-    up-is M s r e h l = (omega arith, subst (λ (x : ℕ). x * x < M * 4 + 1) (odd-is s) (omega arith))
-      where
-        odd-is : (s : ℕ) → 2 * s + 1 ≡ 2 * (s + 1) - 1
-        odd-is s = omega arith
+    up-is M s r e h l = let o : 2 * s + 1 ≡ 2 * (s + 1) - 1 = omega arith in (omega arith, subst (λ (x : ℕ). x * x < M * 4 + 1) o (omega arith))
 
     go : (M - root M * root M ≤ root M) ⊎ (root M < M - root M * root M) → (M * 4 < (2 * nearestRoot M + 1) * (2 * nearestRoot M + 1)) × ((2 * nearestRoot M - 1) * (2 * nearestRoot M - 1) < M * 4 + 1)
     go (inl l) = subst (λ (n : ℕ). (M * 4 < (2 * n + 1) * (2 * n + 1)) × ((2 * n - 1) * (2 * n - 1) < M * 4 + 1)) (sym (nearest-down M (root M) (M - root M * root M) is l)) (down-is M (root M) (M - root M * root M) (is .0) l)
