@@ -9,7 +9,7 @@ use native.Mathlib.Nat.{le-trans, le-of-eq, le-of-lt, lt-of-lt-of-le, lt-of-le-o
 use native.Mathlib.Omega.{arith}
 use mathlib.Core.Bool.{true, false, true≢false}
 use lib.IntN.{ℤ}
-use lib.Dec.{T, lit<}
+use lib.Dec.{T, lit<, lit≤}
 use lib.Pow.{pow-add, pow-pos, pow-mono, shl-lt}
 use lib.Ieee.{Float, nan, inf, fin, Format, binary64, up, down, size, units, fits}
 use lib.Ieee.Digits.{size-lt, size-le, size-reaches}
@@ -22,6 +22,7 @@ use Rattle.numbers.specs.Inner.{nearestRoot}
 use Rattle.numbers.proofs.floats.Patterns.{pattern, pow-lt-back, size-gt, shifted}
 use Rattle.numbers.proofs.floats.Compared.{le-or-lt}
 use Rattle.numbers.proofs.floats.Distances.{units-order}
+use Rattle.numbers.proofs.floats.Multiples.{fewer}
 use Rattle.numbers.proofs.square_root.Roots.{bracket, four-pow}
 use Rattle.numbers.proofs.square_root.Rooting.{Wide, sqrt-units, nearest-wide, four-two}
 
@@ -57,14 +58,10 @@ square n j P F J =
     }
 
 -- ---- the steps from q * 2 ^ k, a number of 53 digits and k zeros, to the next values on its two sides
--- a value with fewer zeros is smaller
-fewer : (n k j : ℕ) → n < 2 ^ 53 → j < k → n * 2 ^ j < 4503599627370496 * 2 ^ k
-fewer n k j F h = lt-of-lt-of-le (shl-lt 53 j F) (le-trans (pow-mono (omega arith)) (le-of-eq (pow-add 2 52 k)))
-
 gap-above : (q k n j : ℕ) → 4503599627370496 ≤ q → n < 2 ^ 53 → q * 2 ^ k < n * 2 ^ j → suc q * 2 ^ k ≤ n * 2 ^ j
 gap-above q k n j Q F h = elim (le-or-lt k j) [
   | inl g ↦ le-trans (mul-le-mul-right (2 ^ k) (lt-of-mul-lt-mul-right (2 ^ k) (lt-of-lt-of-le h (le-of-eq (shifted n k j g))))) (le-of-eq (sym (shifted n k j g)))
-  | inr g ↦ absurd (not-le-of-lt h (le-trans (le-of-lt (fewer n k j F g)) (mul-le-mul-right (2 ^ k) Q)))
+  | inr g ↦ absurd (not-le-of-lt h (le-of-lt (fewer 53 n j k q (lit< tt) F g Q)))
 ]
 
 gap-below : (q k n j : ℕ) → 4503599627370496 < q → n < 2 ^ 53 → n * 2 ^ j < q * 2 ^ k → n * 2 ^ j + 2 ^ k ≤ q * 2 ^ k
@@ -73,7 +70,7 @@ gap-below q k n j Q F h = elim (le-or-lt k j) [
       let a = n * 2 ^ (j - k) in
       let l : suc a * 2 ^ k ≤ q * 2 ^ k = mul-le-mul-right (2 ^ k) (lt-of-mul-lt-mul-right (2 ^ k) (lt-of-le-of-lt (le-of-eq (sym (shifted n k j g))) h)) in
       le-trans (le-of-eq (ap (λ (x : ℕ). x + 2 ^ k) (shifted n k j g))) (omega arith)
-  | inr g ↦ (omega (arith, fewer n k j F g, mul-le-mul-right (2 ^ k) Q))
+  | inr g ↦ omega (arith, fewer 53 n j k 4503599627370496 (lit< tt) F g (lit≤ tt), mul-le-mul-right (2 ^ k) Q)
 ]
 
 -- ---- the squares of the midpoints, in units

@@ -66,29 +66,14 @@ held f s zero e h = record {
   fine = pow-pos (low f + suc (emax f));
   value = ap (λ (x : ℕ). x * 2 ^ low f) (zero-mul (up e)) ∙ zero-mul (2 ^ low f) ∙ sym (zero-mul (down e));
 }
-held f s (suc m) e h = go e few lo fine
+held f s (suc m) e h =
+    let A = eqb (suc m % 2) 1 in
+    let B = ltb (suc m) (2 ^ prec f) in
+    let C = leb (down e) (2 ^ low f) in
+    let D = ltb (suc m * up e) (2 ^ suc (emax f) * down e) in
+    go e (ltb→lt (suc m) (2 ^ prec f) (and-r A B (and-l (A && B) C (and-l (A && B && C) D h)))) (leb→le (down e) (2 ^ low f) (and-r (A && B) C (and-l (A && B && C) D h)))
+    (ltb→lt (suc m * up e) (2 ^ suc (emax f) * down e) (and-r (A && B && C) D h))
   where
-    A : Bool
-    A = eqb (suc m % 2) 1
-
-    B : Bool
-    B = ltb (suc m) (2 ^ prec f)
-
-    C : Bool
-    C = leb (down e) (2 ^ low f)
-
-    D : Bool
-    D = ltb (suc m * up e) (2 ^ suc (emax f) * down e)
-
-    few : suc m < 2 ^ prec f
-    few = ltb→lt (suc m) (2 ^ prec f) (and-r A B (and-l (A && B) C (and-l (A && B && C) D h)))
-
-    lo : down e ≤ 2 ^ low f
-    lo = leb→le (down e) (2 ^ low f) (and-r (A && B) C (and-l (A && B && C) D h))
-
-    fine : suc m * up e < 2 ^ suc (emax f) * down e
-    fine = ltb→lt (suc m * up e) (2 ^ suc (emax f) * down e) (and-r (A && B && C) D h)
-
     go : (e : ℤ) → suc m < 2 ^ prec f → down e ≤ 2 ^ low f → suc m * up e < 2 ^ suc (emax f) * down e → Held f (suc m) e
     go (pos a) x y z = whole f m a x z
     go (negsuc a) x y z = parts f m a x y z

@@ -144,13 +144,17 @@ less n den k q w C l h b =
     let far : apart n (w * 2 ^ k * den) < apart n (C * den) = subst (λ (a : ℕ). apart n a < apart n (C * den)) x (omega (arith, b .near)) in
     record { near = le-of-lt far; same = λ g. absurd (lt-irrefl (apart n (C * den)) (subst (λ (a : ℕ). a < apart n (C * den)) g far)) }
 
+-- a number of p digits with fewer zeros after it is smaller than one that has all of its p digits
+pub fewer : (p c z k q : ℕ) → 0 < p → c < 2 ^ p → z < k → 2 ^ (p - 1) ≤ q → c * 2 ^ z < q * 2 ^ k
+fewer p c z k q P F g l = lt-of-lt-of-le (shl-lt p z F) (le-trans (pow-mono (omega arith)) (le-trans (le-of-eq (pow-add 2 (p - 1) k)) (mul-le-mul-right (2 ^ k) l)))
+
 -- Of all numbers of at most p digits and zeros after them none is nearer.
 pub best-number : (p n den c z : ℕ) → 0 < p → 0 < den → c < 2 ^ p → Beside n den (drop p n den) (whole p n den) (kept p n den) (c * 2 ^ z)
 best-number p n den c z P D F = elim (le-or-lt k z) [
   | inl g ↦ multiple n den k q (kept p n den) (c * 2 ^ (z - k)) (c * 2 ^ z) (shifted c k z g) (best-multiple n (den * 2 ^ k) (c * 2 ^ (z - k)) U)
   | inr g ↦
       less n den k q (kept p n den) (c * 2 ^ z)
-      (lt-of-lt-of-le (mul-lt-mul-of-pos-right (fewer g) D) (le-of-eq (sym (omega arith))))
+      (lt-of-lt-of-le (mul-lt-mul-of-pos-right (fewer p c z k q P F g (whole-ge p n den P (omega arith))) D) (le-of-eq (sym (omega arith))))
       (div-mul-le-self n (den * 2 ^ k)) (best-multiple n (den * 2 ^ k) q U)
 ]
   where
@@ -162,11 +166,6 @@ best-number p n den c z P D F = elim (le-or-lt k z) [
 
     U : 0 < den * 2 ^ k
     U = mul-pos D (pow-pos k)
-
-    fewer : z < k → c * 2 ^ z < q * 2 ^ k
-    fewer g =
-        lt-of-lt-of-le (shl-lt p z F)
-        (le-trans (pow-mono (omega arith)) (le-trans (le-of-eq (pow-add 2 (p - 1) k)) (mul-le-mul-right (2 ^ k) (whole-ge p n den P (omega arith)))))
 
 -- ---- where the chosen number reaches 2 ^ (p + K), the fraction reaches the middle between (2 ^ p - 1) * 2 ^ K and it
 -- at most half a unit is added
@@ -205,10 +204,7 @@ overflows p K n den D h = elim (le-or-lt ((2 ^ (p + 1) - 1) * 2 ^ K * den) (2 * 
 
     less-one : (w X : ℕ) → 2 * (w * (den * X)) ≤ 2 * n + den * X → (w * 2 - 1) * X * den ≤ 2 * n
     less-one zero X g = omega arith
-    less-one (suc w) X g = subst (λ (x : ℕ). x * X * den ≤ 2 * n) (odd w) (omega arith)
-      where
-        odd : (w : ℕ) → 2 * w + 1 ≡ suc w * 2 - 1
-        odd w = omega arith
+    less-one (suc w) X g = let o : 2 * w + 1 ≡ suc w * 2 - 1 = omega arith in subst (λ (x : ℕ). x * X * den ≤ 2 * n) o (omega arith)
 
     reached : (a X w : ℕ) → a ≤ w → 2 * (w * (den * X)) ≤ 2 * n + den * X → (a * 2 - 1) * X * den ≤ 2 * n
     reached a X w l g = le-trans (mul-le-mul-right den (mul-le-mul-right X (omega arith))) (less-one w X g)

@@ -28,24 +28,16 @@ pow-le-back i p h = le-of-suc-le-suc (lt-of-not-le (λ (g : suc p ≤ i). lt-irr
 pub size-gt : (n j : ℕ) → 2 ^ j ≤ n → j < size n
 size-gt n j h = pow-lt-back j (size n) (lt-of-le-of-lt h (size-lt n))
 
-pub size-exact : (a n : ℕ) → 2 ^ a ≤ n → n < 2 ^ suc a → size n ≡ suc a
-size-exact a n lo hi = le-antisymm (size-le n (suc a) hi) (size-gt n a lo)
+-- how many of n's digits stand after the first p
+pub size-drop : (p n k : ℕ) → 0 < p → 2 ^ (p - 1 + k) ≤ n → n < 2 ^ (p + k) → size n - p ≡ k
+size-drop p n k P lo hi = omega (arith, size-gt n (p - 1 + k) lo, size-le n (p + k) hi)
 
 -- n * 2 ^ j as a multiple of 2 ^ k
 pub shifted : (n k j : ℕ) → k ≤ j → n * 2 ^ j ≡ n * 2 ^ (j - k) * 2 ^ k
 shifted n k j h = ap (λ (x : ℕ). n * 2 ^ x) (sym (back j k h)) ∙ ap (λ (x : ℕ). n * x) (pow-add 2 (j - k) k) ∙ sym (mul-assoc n (2 ^ (j - k)) (2 ^ k))
 
-pub one-more : (p k : ℕ) → 0 < p → suc (p - 1 + k) ≡ p + k
-one-more p k h = omega arith
-
-pub dropped : (z p k : ℕ) → z ≡ p + k → z - p ≡ k
-dropped z p k e = omega arith
-
 pub drop-is : (p n den k : ℕ) → 0 < p → 0 < den → 2 ^ (p - 1 + k) * den ≤ n → n < 2 ^ (p + k) * den → size (n / den) - p ≡ k
-drop-is p n den k P D lo hi =
-    dropped (size (n / den)) p k
-    (size-exact (p - 1 + k) (n / den) (le-div-iff-mul-le D .1 lo) (subst (λ (z : ℕ). n / den < 2 ^ z) (sym (one-more p k P)) (div-lt-iff-lt-mul D .1 hi))
-    ∙ one-more p k P)
+drop-is p n den k P D lo hi = size-drop p (n / den) k P (le-div-iff-mul-le D .1 lo) (div-lt-iff-lt-mul D .1 hi)
 
 pub drop-none : (p n den : ℕ) → 0 < den → n < 2 ^ p * den → size (n / den) - p ≡ 0
 drop-none p n den D hi = omega (arith, size-le (n / den) p (div-lt-iff-lt-mul D .1 hi))
@@ -98,8 +90,7 @@ written-is p q k P hi lo = elim (eq-or-lt-of-le hi) [
       ap (λ (x : ℕ). x * 2 ^ k) (e ∙ twice-hid p P) ∙ (omega arith) ∙ ap (λ (x : ℕ). 2 ^ (p - 1) * x) (sym (pow-succ' 2 k)) in
       let e2 : a ≡ 2 ^ (p + k) = ap (λ (x : ℕ). x * 2 ^ k) e ∙ sym (pow-add 2 p k) in
       written-at p a (suc k) (2 ^ (p - 1))
-      (dropped (size a) p (suc k) (size-exact (p + k) a (le-of-eq (sym e2)) (lt-of-le-of-lt (le-of-eq e2) (pow-lt (le-refl (suc (p + k))))) ∙ sym (add-suc p k)))
-      e1
+      (omega (arith, size-gt a (p + k) (le-of-eq (sym e2)), size-le a (suc (p + k)) (lt-of-le-of-lt (le-of-eq e2) (pow-lt (le-refl (suc (p + k))))))) e1
       ∙ (omega arith)
       ∙ ap (λ (x : ℕ). k * 2 ^ (p - 1) + x) (sym (e ∙ twice-hid p P))
   | inr l ↦ written-at p (q * 2 ^ k) k q (below l lo) refl
@@ -107,10 +98,7 @@ written-is p q k P hi lo = elim (eq-or-lt-of-le hi) [
   where
     below : q < 2 ^ p → (k ≡ 0) ⊎ (2 ^ (p - 1) ≤ q) → size (q * 2 ^ k) - p ≡ k
     below l (inl z) = subst (λ (j : ℕ). size (q * 2 ^ j) - p ≡ j) (sym z) (omega (arith, size-le (q * 2 ^ 0) p (subst (λ (x : ℕ). x < 2 ^ p) (sym (mul-one q)) l)))
-    below l (inr g) =
-        dropped (size (q * 2 ^ k)) p k
-        (size-exact (p - 1 + k) (q * 2 ^ k) (le-trans (le-of-eq (pow-add 2 (p - 1) k)) (mul-le-mul-right (2 ^ k) g)) (subst (λ (z : ℕ). q * 2 ^ k < 2 ^ z) (sym (one-more p k P)) (shl-lt p k l))
-        ∙ one-more p k P)
+    below l (inr g) = size-drop p (q * 2 ^ k) k P (le-trans (le-of-eq (pow-add 2 (p - 1) k)) (mul-le-mul-right (2 ^ k) g)) (shl-lt p k l)
 
 -- ---- where it overflows the pattern is the infinity's
 -- d is how far suc k is above 2 * e

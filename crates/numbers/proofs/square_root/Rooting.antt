@@ -153,10 +153,7 @@ larger-bits x N h P l =
     let s1 : 54 < size a = size-gt a 54 (omega arith) in
     let s2 : size a ≤ 106 = size-le a 106 (shl-lt 52 54 l) in
     let k = kept-lt 53 a in
-    in-range (toBits binary64 (larger x)) (size a) (a / 2 ^ D) e s1 s2 k
-  where
-    in-range : (b z q : ℕ) → b ≡ 0 + (z - 53) * 4503599627370496 + q → 54 < z → z ≤ 106 → q < 9007199254740992 → (9007199254740992 ≤ b) × (b < 252201579132747776)
-    in-range b z q e s1 s2 k = (omega arith, omega arith)
+    (omega arith, omega arith)
 
 small-root : (b : ℕ) → 0 < b → b < 4503599627370496
     → (121597189939003392 ≤ rootBits (toBits binary64 (larger (ofBits binary64 b)))) × Right (ofBits binary64 b) (rootBits (toBits binary64 (larger (ofBits binary64 b))) - 121597189939003392)
@@ -258,14 +255,8 @@ small x h t l =
     let v = small-value b l in
     let r = larger-bits (ofBits binary64 b) b v P l in
     let s = small-root b P l in
-    subst Small back
-    (record {
-      some = value-no-nan (larger (ofBits binary64 b)) false (b * 2 ^ 54) (2 ^ 1074) (larger-value (ofBits binary64 b) b v l);
-      lo = omega arith;
-      hi = omega arith;
-      room = s .0;
-      right = s .1;
-    })
+    let some = value-no-nan (larger (ofBits binary64 b)) false (b * 2 ^ 54) (2 ^ 1074) (larger-value (ofBits binary64 b) b v l) in
+    subst Small back (record { some = some; lo = omega arith; hi = omega arith; room = s .0; right = s .1 })
 
 pub normal : (x : Float) → T (fits binary64 x) → 4503599627370496 ≤ toBits binary64 x → toBits binary64 x < 9218868437227405312 → Right x (rootBits (toBits binary64 x))
 normal x h lo hi =

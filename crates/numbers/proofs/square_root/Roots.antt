@@ -13,7 +13,7 @@ use lib.Ieee.Fits.{two, two-le-pos}
 use Rattle.numbers.specs.SquareRoot.{another, rootBy, root, rootOf}
 use Rattle.numbers.specs.Inner.{IsRoot, Extends, nearestRoot}
 use Rattle.numbers.proofs.floats.Compared.{le-or-lt, compare-scale, compare-lt, compare-gt}
-use Rattle.numbers.proofs.floats.Patterns.{size-exact, one-more, dropped}
+use Rattle.numbers.proofs.floats.Patterns.{size-drop}
 
 -- ---- squares
 pub square-le : (a b : ℕ) → a * a < suc b * suc b → a ≤ b
@@ -96,10 +96,8 @@ root-size p M k q P a lo hi =
     let r = root-around (M * 4 ^ k) in
     let ge : q * 2 ^ k ≤ R = square-le (q * 2 ^ k) R (lt-of-le-of-lt (le-trans (le-of-eq (scaled q k)) (mul-le-mul-right (4 ^ k) (a .0))) (r .1)) in
     let lt : R < suc q * 2 ^ k = square-lt R (suc q * 2 ^ k) (lt-of-le-of-lt (r .0) (lt-of-lt-of-le (mul-lt-mul-of-pos-right (a .1) (four-pos k)) (le-of-eq (sym (scaled (suc q) k))))) in
-    dropped (size R) p k
-    (size-exact (p - 1 + k) R (le-trans (le-of-eq (pow-add 2 (p - 1) k)) (le-trans (mul-le-mul-right (2 ^ k) lo) ge))
-    (subst (λ (z : ℕ). R < 2 ^ z) (sym (one-more p k P)) (lt-of-lt-of-le lt (le-trans (mul-le-mul-right (2 ^ k) hi) (le-of-eq (sym (pow-add 2 p k))))))
-    ∙ one-more p k P)
+    size-drop p R k P (le-trans (le-of-eq (pow-add 2 (p - 1) k)) (le-trans (mul-le-mul-right (2 ^ k) lo) ge))
+    (lt-of-lt-of-le lt (le-trans (mul-le-mul-right (2 ^ k) hi) (le-of-eq (sym (pow-add 2 p k)))))
 
 pub rootOf-at : (f : Format) (num den M k q : ℕ) → 0 < den → num * 4 ^ low f ≡ M * (den * 4 ^ k) → Around M q → 2 ^ (prec f - 1) ≤ q → q < 2 ^ prec f
     → rootOf f num den ≡ units f false (nearest q (compare (M * 4) ((2 * q + 1) * (2 * q + 1)))) k
