@@ -87,7 +87,7 @@ mul-exact s m e t n d p q =
         regroup x y p q r = omega arith
 
     whole : (a b A B c g L R : ℕ) → a * L ≡ A * c → b * L ≡ B * g → a * b * (L * L * R) ≡ A * B * R * (c * g)
-    whole a b A B c g L R e h = (omega arith) ∙ ap (λ (x : ℕ). x * (b * L) * R) e ∙ ap (λ (x : ℕ). A * c * x * R) h ∙ (omega arith)
+    whole a b A B c g L R e h = omega arith ∙ ap (λ (x : ℕ). x * (b * L) * R) e ∙ ap (λ (x : ℕ). A * c * x * R) h ∙ omega arith
 
 -- ---- sums
 abbrev pub Adds : Float → Float → Float → Type 0

@@ -101,10 +101,10 @@ sum-units : (a c b d L Q B : ℕ) → a * L ≡ Q * c → b * L ≡ B * d → (a
 sum-units a c b d L Q B e g = omega (arith, ap (λ (x : ℕ). x * d) e, ap (λ (x : ℕ). x * c) g)
 
 squared : (S L X w den : ℕ) → S * L ≡ X * w → S * S * den * (L * L) ≡ X * X * (w * w * den)
-squared S L X w den e = (omega arith) ∙ ap (λ (z : ℕ). z * z * den) e ∙ (omega arith)
+squared S L X w den e = omega arith ∙ ap (λ (z : ℕ). z * z * den) e ∙ omega arith
 
 scaled : (num den L N w : ℕ) → num * L ≡ N * den → 4 * num * (w * w) * (L * L) ≡ 4 * (N * L) * (w * w * den)
-scaled num den L N w e = (omega arith) ∙ ap (λ (z : ℕ). 4 * z * L * (w * w)) e ∙ (omega arith)
+scaled num den L N w e = omega arith ∙ ap (λ (z : ℕ). 4 * z * L * (w * w)) e ∙ omega arith
 
 module _ (a c b d num den L N Q B : ℕ) (C : 0 < c) (D : 0 < d) (E : 0 < den) (e : a * L ≡ Q * c) (g : b * L ≡ B * d) (h : num * L ≡ N * den) where
   abbrev S : ℕ

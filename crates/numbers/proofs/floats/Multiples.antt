@@ -131,7 +131,7 @@ pub record Beside (n den k q w C : ℕ) : Type 0 where
 multiple : (n den k q w j C : ℕ) → C ≡ j * 2 ^ k → Best n (den * 2 ^ k) q w j → Beside n den k q w C
 multiple n den k q w j C e b =
     let x : w * (den * 2 ^ k) ≡ w * 2 ^ k * den = omega arith in
-    let y : j * (den * 2 ^ k) ≡ C * den = (omega arith) ∙ ap (λ (a : ℕ). a * den) (sym e) in
+    let y : j * (den * 2 ^ k) ≡ C * den = omega arith ∙ ap (λ (a : ℕ). a * den) (sym e) in
     record {
       near = subst (λ (a : ℕ). apart n a ≤ apart n (C * den)) x (subst (λ (a : ℕ). apart n (w * (den * 2 ^ k)) ≤ apart n a) y (b .near));
       same = λ h. elim (b .same (ap (apart n) x ∙ h ∙ ap (apart n) (sym y))) [ inl i ↦ inl (e ∙ ap (λ (a : ℕ). a * 2 ^ k) i) | inr o ↦ inr (j, e, o) ];

@@ -87,11 +87,11 @@ written-is p q k P hi lo = elim (eq-or-lt-of-le hi) [
   | inl e ↦
       let a = q * 2 ^ k in
       let e1 : a ≡ 2 ^ (p - 1) * 2 ^ suc k =
-      ap (λ (x : ℕ). x * 2 ^ k) (e ∙ twice-hid p P) ∙ (omega arith) ∙ ap (λ (x : ℕ). 2 ^ (p - 1) * x) (sym (pow-succ' 2 k)) in
+      ap (λ (x : ℕ). x * 2 ^ k) (e ∙ twice-hid p P) ∙ omega arith ∙ ap (λ (x : ℕ). 2 ^ (p - 1) * x) (sym (pow-succ' 2 k)) in
       let e2 : a ≡ 2 ^ (p + k) = ap (λ (x : ℕ). x * 2 ^ k) e ∙ sym (pow-add 2 p k) in
       written-at p a (suc k) (2 ^ (p - 1))
       (omega (arith, size-gt a (p + k) (le-of-eq (sym e2)), size-le a (suc (p + k)) (lt-of-le-of-lt (le-of-eq e2) (pow-lt (le-refl (suc (p + k))))))) e1
-      ∙ (omega arith)
+      ∙ omega arith
       ∙ ap (λ (x : ℕ). k * 2 ^ (p - 1) + x) (sym (e ∙ twice-hid p P))
   | inr l ↦ written-at p (q * 2 ^ k) k q (below l lo) refl
 ]

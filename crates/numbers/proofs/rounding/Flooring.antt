@@ -60,7 +60,7 @@ ceiling-same a b c d B D e = le-antisymm (ceiling-mono a b c d B D (le-of-eq e))
 
 -- of a number above 0 it is one more than the quotient of one less
 pub ceiling-suc : (a c : ℕ) → 0 < a → 0 < c → ceiling a c ≡ suc ((a - 1) / c)
-ceiling-suc a c A C = ap (λ (k : ℕ). k / c) (omega arith) ∙ add-mul-div-right (a - 1) 1 C ∙ (omega arith)
+ceiling-suc a c A C = ap (λ (k : ℕ). k / c) (omega arith) ∙ add-mul-div-right (a - 1) 1 C ∙ omega arith
 
 pub ceiling-zero : (c : ℕ) → 0 < c → ceiling 0 c ≡ 0
 ceiling-zero c C = div-eq-of-lt (omega arith)
@@ -85,7 +85,7 @@ val-div zero t h = div-eq-of-lt (lt-of-lt-of-le (shl-lt 52 0 h) (lit≤ tt)) ∙
 val-div (suc x) t h = div-same ((4503599627370496 + t) * 2 ^ x) (2 ^ 1074) ((4503599627370496 + t) * 2 ^ suc x) (2 ^ 1075) (pow-pos 1074) (pow-pos 1075) (doubled (4503599627370496 + t) (2 ^ x) (2 ^ suc x) (2 ^ 1074) (pow-succ' 2 x))
   where
     doubled : (m p r l : ℕ) → r ≡ 2 * p → m * p * (2 * l) ≡ m * r * l
-    doubled m p r l e = (omega arith) ∙ sym (ap (λ (k : ℕ). m * k * l) e)
+    doubled m p r l e = omega arith ∙ sym (ap (λ (k : ℕ). m * k * l) e)
 
 -- from 2 ^ 52 on there is nothing to cut
 val-whole : (e t : ℕ) → t < 4503599627370496 → 1075 ≤ e → ceiling (val e t) (2 ^ 1074) ≡ scaled (4503599627370496 + t) e

@@ -92,7 +92,7 @@ scaled x t =
     let k = (suc x + 1021) / 2 in
     mul-assoc (4503599627370496 + t) (2 ^ x) (2 ^ 1074)
     ∙ ap (λ (z : ℕ). (4503599627370496 + t) * z) (halves x (2 - suc x % 2) k (parity x))
-    ∙ (omega arith)
+    ∙ omega arith
 
 wide-of : (x t : ℕ) → t < 4503599627370496 → Wide (M-of x t)
 wide-of x t h =

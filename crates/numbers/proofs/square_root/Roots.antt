@@ -43,7 +43,7 @@ rootBy-around (suc d) n h = another-around (rootBy d (n / 4)) n (rootBy-around d
 
 pub four-pow : (d : ℕ) → 4 ^ d ≡ 2 ^ d * 2 ^ d
 four-pow zero = refl
-four-pow (suc d) = pow-succ' 4 d ∙ ap (λ (x : ℕ). 4 * x) (four-pow d) ∙ (omega arith) ∙ ap (λ (x : ℕ). x * x) (sym (pow-succ' 2 d))
+four-pow (suc d) = pow-succ' 4 d ∙ ap (λ (x : ℕ). 4 * x) (four-pow d) ∙ omega arith ∙ ap (λ (x : ℕ). x * x) (sym (pow-succ' 2 d))
 
 pub root-around : (n : ℕ) → Around n (root n)
 unfolding root
@@ -105,12 +105,12 @@ unfolding rootOf
 rootOf-at f num den M k q D e a lo hi =
     let n = num * 4 ^ low f in
     let U : 0 < den * 4 ^ k = mul-pos D (four-pos k) in
-    let e1 : n / den ≡ M * 4 ^ k = ap (λ (x : ℕ). x / den) (e ∙ (omega arith)) ∙ mul-div-cancel (M * 4 ^ k) D in
+    let e1 : n / den ≡ M * 4 ^ k = ap (λ (x : ℕ). x / den) (e ∙ omega arith) ∙ mul-div-cancel (M * 4 ^ k) D in
     let e2 : size (root (n / den)) - prec f ≡ k = ap (λ (x : ℕ). size (root x) - prec f) e1 ∙ root-size (prec f) M k q (two-le-pos (prec f) (two f)) a lo hi in
     let e3 : n / (den * 4 ^ k) ≡ M = ap (λ (x : ℕ). x / (den * 4 ^ k)) e ∙ mul-div-cancel M U in
     let e4 : root (n / (den * 4 ^ k)) ≡ q = ap root e3 ∙ around-unique M (root M) q (root-around M) a in
     let e5 : compare (n * 4) ((2 * q + 1) * (2 * q + 1) * (den * 4 ^ k)) ≡ compare (M * 4) ((2 * q + 1) * (2 * q + 1)) =
-    ap (λ (x : ℕ). compare x ((2 * q + 1) * (2 * q + 1) * (den * 4 ^ k))) (ap (λ (x : ℕ). x * 4) e ∙ (omega arith)) ∙ compare-scale (M * 4) ((2 * q + 1) * (2 * q + 1)) (den * 4 ^ k) U in
+    ap (λ (x : ℕ). compare x ((2 * q + 1) * (2 * q + 1) * (den * 4 ^ k))) (ap (λ (x : ℕ). x * 4) e ∙ omega arith) ∙ compare-scale (M * 4) ((2 * q + 1) * (2 * q + 1)) (den * 4 ^ k) U in
     ap (λ (j : ℕ). units f false (nearest (root (n / (den * 4 ^ j))) (compare (n * 4) ((2 * root (n / (den * 4 ^ j)) + 1) * (2 * root (n / (den * 4 ^ j)) + 1) * (den * 4 ^ j)))) j) e2
     ∙ ap (λ (r : ℕ). units f false (nearest r (compare (n * 4) ((2 * r + 1) * (2 * r + 1) * (den * 4 ^ k)))) k) e4
     ∙ ap (λ (o : Ordering). units f false (nearest q o) k) e5
