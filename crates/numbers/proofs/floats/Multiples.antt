@@ -13,6 +13,7 @@ use lib.Ieee.Nearest.{closest}
 use lib.Ieee.Order.{drop, kept}
 use Rattle.numbers.specs.Nearest.{apart}
 use Rattle.numbers.proofs.floats.Compared.{Cmp, cmp, le-or-lt}
+use Rattle.numbers.proofs.floats.Differences.{zero-of}
 use Rattle.numbers.proofs.floats.Patterns.{shifted, pow-le-back}
 
 -- ---- how far q * u + r is from j * u
@@ -35,11 +36,6 @@ pub record Other (q w j : ℕ) : Type 0 where
 pub record Best (n u q w j : ℕ) : Type 0 where
   pub near : apart n (w * u) ≤ apart n (j * u)
   pub same : apart n (w * u) ≡ apart n (j * u) → (j ≡ w) ⊎ Other q w j
-
--- no units are no steps
-none : (i u : ℕ) → 0 < u → i * u ≡ 0 → i ≡ 0
-none zero u U e = refl
-none (suc i) u U e = absurd (omega arith)
 
 -- at a tie the chosen one is even, one of the two, and half a unit away
 record Tied (q u r w : ℕ) : Type 0 where
@@ -66,13 +62,13 @@ split q w j v (inr a) (inl b) = inr record { even = v; odd = omega arith; from =
 lower : (q u r j i : ℕ) (o : Ordering) → r < u → Cmp o (r * 2) u → j + i ≡ q → Best (q * u + r) u q (nearest q o) j
 lower q u r j i Ordering·lt R c e =
     let b = from-below q u r j i e in
-    record { near = omega arith; same = λ h. let z : i ≡ 0 = none i u (omega arith) (omega arith) in inl (omega arith) }
+    record { near = omega arith; same = λ h. let z : i ≡ 0 = zero-of i u (omega arith) (omega arith) in inl (omega arith) }
 lower q u r j i Ordering·eq R c e =
     let b = from-below q u r j i e in
     let t = tied q u r c in
     record {
       near = omega arith;
-      same = λ h. let z : i ≡ 0 = none i u (omega arith) (omega arith) in split q (q + q % 2) j (t .even) (t .either) (inl (omega arith));
+      same = λ h. let z : i ≡ 0 = zero-of i u (omega arith) (omega arith) in split q (q + q % 2) j (t .even) (t .either) (inl (omega arith));
     }
 lower q u r j i Ordering·gt R c e =
     let b = from-below q u r j i e in
@@ -88,11 +84,11 @@ higher q u r j i Ordering·eq R c e =
     let t = tied q u r c in
     record {
       near = omega arith;
-      same = λ h. let z : i ≡ 0 = none i u (omega arith) (omega arith) in split q (q + q % 2) j (t .even) (t .either) (inr (omega arith));
+      same = λ h. let z : i ≡ 0 = zero-of i u (omega arith) (omega arith) in split q (q + q % 2) j (t .even) (t .either) (inr (omega arith));
     }
 higher q u r j i Ordering·gt R c e =
     let b = from-above q u r j i R e in
-    record { near = omega arith; same = λ h. let z : i ≡ 0 = none i u (omega arith) (omega arith) in inl (omega arith) }
+    record { near = omega arith; same = λ h. let z : i ≡ 0 = zero-of i u (omega arith) (omega arith) in inl (omega arith) }
 
 -- The whole number that `nearest` chooses is the best multiple.
 best : (q u r j : ℕ) (o : Ordering) → r < u → Cmp o (r * 2) u → Best (q * u + r) u q (nearest q o) j

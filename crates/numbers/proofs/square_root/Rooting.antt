@@ -16,6 +16,7 @@ use lib.Ieee.Nearest.{nearest-ge}
 use lib.Ieee.Bits.{ofBits-toBits}
 use Rattle.numbers.specs.SquareRoot.{root, sqrtOf}
 use Rattle.numbers.specs.Inner.{nearestRoot, rootBits}
+use Rattle.numbers.proofs.floats.Differences.{zero-of}
 use Rattle.numbers.proofs.floats.Values.{value-no-nan, same-value, mul-value}
 use Rattle.numbers.proofs.floats.Patterns.{pattern, pattern-no-nan, toBits-val, size-gt}
 use Rattle.numbers.proofs.rounding.Narrowing.{val, value, exp, digits, size-of, size-value, signed, top-field}
@@ -24,9 +25,6 @@ use Rattle.numbers.proofs.floats.Signs.{size-lt-top}
 use Rattle.numbers.proofs.Laws.Order.{nought}
 
 -- ---- the root of a value with N * 2 ^ 1074 = M * 4 ^ k, for an M of 105 or 106 digits
-not-zero : (N d : ℕ) → 0 < N → 0 < d → N * d ≡ 0 → ⊥
-not-zero N d a b e = lt-irrefl 0 (subst (λ (x : ℕ). 0 < x) e (mul-pos a b))
-
 abbrev pub Wide : ℕ → Type 0
 Wide M = (2 ^ 104 ≤ M) × (M < 2 ^ 106)
 
@@ -40,7 +38,7 @@ unfolding sqrtOf nearestRoot
 sqrt-units nan N M k h P e w = absurd h
 sqrt-units (inf t) N M k h P e w = absurd h
 sqrt-units (fin true m d) N M k h P e w = absurd (true≢false (h .0))
-sqrt-units (fin false zero d) N M k h P e w = absurd (not-zero N (down d) P (down-pos d) (sym (h .1) ∙ ap (λ (x : ℕ). x * 2 ^ 1074) (zero-mul (up d)) ∙ zero-mul (2 ^ 1074)))
+sqrt-units (fin false zero d) N M k h P e w = absurd (lt-irrefl 0 (subst (λ (n : ℕ). 0 < n) (zero-of N (down d) (down-pos d) (sym (h .1) ∙ ap (λ (x : ℕ). x * 2 ^ 1074) (zero-mul (up d)) ∙ zero-mul (2 ^ 1074))) P))
 sqrt-units (fin false (suc m) d) N M k h P e w =
     rootOf-at binary64 (suc m * up d) (down d) M k (root M) (down-pos d)
     (sym (mul-assoc (suc m * up d) (2 ^ 1074) (2 ^ 1074))
