@@ -19,13 +19,13 @@ use lib.Dec.{T, eqb, eqb·suc-zero}
 use lib.Pow.{pow-add, pow-pos}
 use lib.Ieee.{Float, nan, inf, fin, Format, binary32, binary64, prec, emax, low, up, down, unlike, round, add, sub, mul, div, neg, fits}
 use lib.Ieee.Fits.{two, up-pos, down-pos, round-fits}
-use lib.Ieee.Exact.{HasValue}
 use lib.Ieee.Scale.{grid}
 use Rattle.numbers.specs.Rounding.{narrowOf}
 use Rattle.numbers.specs.Nearest.{apart, distance, largest, middle, Closest, Nearest, sumSize, sumSign}
 use Rattle.numbers.proofs.floats.Compared.{le-or-lt}
 use Rattle.numbers.proofs.floats.Differences.{plus, minus, summed}
 use Rattle.numbers.proofs.floats.Distances.{closest-is, closest-only, exponents, wide, overflowed, counted}
+use Rattle.numbers.proofs.floats.Values.{with-value}
 use Rattle.numbers.proofs.floats.Held.{held, count}
 use Rattle.numbers.proofs.floats.Multiples.{most}
 
@@ -61,25 +61,18 @@ other-sign f s num den m e n d x = further (distance num den m e) (down d) (n * 
 pub round-nearest : (f : Format) (s : Bool) (num den : ℕ) → 0 < den → Nearest f s num den (round f s num den)
 round-nearest f s num den D = elim (le-or-lt (middle f * den) num) [
   | inl l ↦ subst (Nearest f s num den) (sym (overflowed f s num den D l)) (refl, l)
-  | inr l ↦ go l (round f s num den) (counted f s num den D l) (round-fits f s num den)
+  | inr l ↦
+      with-value (λ x. T (fits f x) → Nearest f s num den x) (round f s num den) s (grid f num den) (2 ^ low f) (counted f s num den D l)
+      (λ m e v fit. (refl, l, closest-is f num den D s m e fit v)) (round-fits f s num den)
 ]
-  where
-    go : num < middle f * den → (x : Float) → HasValue x s (grid f num den) (2 ^ low f) → T (fits f x) → Nearest f s num den x
-    go l nan v fit = absurd v
-    go l (inf t) v fit = absurd v
-    go l (fin t m e) v fit = (v .0, l, closest-is f num den D t m e fit (v .1))
 
 pub round-is : (f : Format) (s : Bool) (num den : ℕ) (x : Float) → 0 < den → Nearest f s num den x → round f s num den ≡ x
 round-is f s num den nan D h = absurd h
 round-is f s num den (inf t) D h = overflowed f s num den D (h .1) ∙ ap inf (sym (h .0))
 round-is f s num den (fin t n d) D h =
     subst (λ (b : Bool). Closest f b num den n d → round f s num den ≡ fin b n d) (sym (h .0))
-    (λ x. go x (round f s num den) (counted f s num den D (h .1)) (round-fits f s num den)) (h .2)
-  where
-    go : Closest f s num den n d → (x : Float) → HasValue x s (grid f num den) (2 ^ low f) → T (fits f x) → x ≡ fin s n d
-    go x nan v fit = absurd v
-    go x (inf t) v fit = absurd v
-    go x (fin t m e) v fit = subst (λ (b : Bool). T (fits f (fin b m e)) → fin b m e ≡ fin s n d) (sym (v .0)) (λ g. closest-only f num den D s m e n d g (v .1) x) fit
+    (λ x. with-value (λ y. T (fits f y) → y ≡ fin s n d) (round f s num den) s (grid f num den) (2 ^ low f) (counted f s num den D (h .1))
+    (λ m e v fit. closest-only f num den D s m e n d fit v x) (round-fits f s num den)) (h .2)
 
 pub nearest-only : (f : Format) (s : Bool) (num den : ℕ) (x y : Float) → 0 < den → Nearest f s num den x → Nearest f s num den y → x ≡ y
 nearest-only f s num den x y D p q = sym (round-is f s num den x D p) ∙ round-is f s num den y D q

@@ -7,16 +7,17 @@ use mathlib.Core.Logic.{_⊎_, inl, inr}
 use Prim.Native.Nat.{ℕ, zero, suc, _+_, _-_, _*_, _/_, _%_, _^_, _≤_, _<_}
 use native.Mathlib.Nat.{le-trans, le-of-eq, le-of-lt, lt-of-lt-of-le, lt-of-le-of-lt, lt-of-not-le, not-le-of-lt, lt-irrefl, zero-lt-suc, eq-or-lt-of-le, mul-assoc, one-mul, mul-comm, mul-mul-mul-comm, mul-pos, mul-le-mul, mul-le-mul-right, mul-lt-mul-of-pos-right, lt-of-mul-lt-mul-right, pow-succ'}
 use native.Mathlib.Omega.{arith}
-use mathlib.Core.Bool.{true, false, true≢false}
+use mathlib.Core.Bool.{false}
 use lib.IntN.{ℤ}
 use lib.Dec.{T, lit<, lit≤}
 use lib.Pow.{pow-add, pow-pos, pow-mono, shl-lt}
-use lib.Ieee.{Float, nan, inf, fin, Format, binary64, up, down, size, units, fits}
+use lib.Ieee.{Float, fin, Format, binary64, up, down, size, units, fits}
 use lib.Ieee.Digits.{size-lt, size-le, size-reaches}
 use lib.Ieee.Fits.{up-pos, down-pos}
-use lib.Ieee.Exact.{HasValue, units-val}
+use lib.Ieee.Exact.{units-val}
 use lib.Ieee.Bits.{ofBits-fits}
 use Rattle.numbers.specs.SquareRoot.{sqrtOf, NearestRoot, MidpointAbove, MidpointBelow}
+use Rattle.numbers.proofs.floats.Values.{with-value}
 use Rattle.numbers.proofs.floats.Held.{held, count, value-unique}
 use Rattle.numbers.specs.Inner.{nearestRoot}
 use Rattle.numbers.proofs.floats.Patterns.{pattern, pow-lt-back, size-gt, shifted}
@@ -192,19 +193,12 @@ root-nearest m e fit =
     let is : sqrtOf (fin false (suc m) e) ≡ r = sqrt-units (fin false (suc m) e) N (s .M) (s .k) (refl, h .value) (mul-pos P (pow-pos (h .zeros))) (s .is) (s .wide) in
     let v = units-val binary64 false (nearestRoot (s .M)) (s .k) (lt-of-le-of-lt (mul-le-mul (w .1) (pow-mono (s .few))) (lit< tt)) in
     let f = subst (λ (y : Float). T (fits binary64 y)) (pattern binary64 false (nearestRoot (s .M)) (s .k) (w .1) (inr (w .0)) (omega (arith, s .few, w .1))) (ofBits-fits binary64 _) in
-    finish r (nearestRoot (s .M) * 2 ^ s .k) (2 ^ 1074) is v f (λ n d fit' v'. near (suc m * up e) (down e) N (s .M) (s .k) n d (down-pos e) (h .value) (s .is) (s .wide) (s .some) fit' v')
+    with-value (λ y. sqrtOf (fin false (suc m) e) ≡ y → T (fits binary64 y) → (n : ℕ) × (d : ℤ) × (sqrtOf (fin false (suc m) e) ≡ fin false n d) × NearestRoot binary64 (suc m * up e) (down e) n d)
+    r false (nearestRoot (s .M) * 2 ^ s .k) (2 ^ 1074) v (λ n d q is f. (n, d, is, near (suc m * up e) (down e) N (s .M) (s .k) n d (down-pos e) (h .value) (s .is) (s .wide) (s .some) f q)) is f
   where
     some : (n p d x : ℕ) → 0 < x → x ≡ n * p * d → 0 < n
     some zero p d x h e = absurd (omega arith)
     some (suc n) p d x h e = zero-lt-suc n
-
-    finish : (y : Float) (A c : ℕ) → sqrtOf (fin false (suc m) e) ≡ y → HasValue y false A c → T (fits binary64 y)
-        → ((n : ℕ) (d : ℤ) → T (fits binary64 (fin false n d)) → n * up d * c ≡ A * down d → NearestRoot binary64 (suc m * up e) (down e) n d)
-        → (n : ℕ) × (d : ℤ) × (sqrtOf (fin false (suc m) e) ≡ fin false n d) × NearestRoot binary64 (suc m * up e) (down e) n d
-    finish nan A c is v f k = absurd v
-    finish (inf t) A c is v f k = absurd v
-    finish (fin true n d) A c is v f k = absurd (true≢false (v .0))
-    finish (fin false n d) A c is v f k = (n, d, is, k n d f (v .1))
 
 pub root-only : (f : Format) (num den m : ℕ) (e : ℤ) (n : ℕ) (d : ℤ) → NearestRoot f num den m e → NearestRoot f num den n d → fin false m e ≡ fin false n d
 root-only f num den m e n d x y = go (le-or-lt (m * up e * down d) (n * up d * down e))

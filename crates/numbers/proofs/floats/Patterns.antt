@@ -3,7 +3,7 @@
 use mathlib.Core.Path.{_≡_, refl, sym, ap, _∙_, subst}
 use mathlib.Core.Logic.{_⊎_, inl, inr}
 use Prim.Native.Nat.{ℕ, zero, suc, _+_, _-_, _*_, _/_, _%_, _^_, _≤_, _<_, compare, Ordering, Ordering·lt, Ordering·eq, Ordering·gt}
-use native.Mathlib.Nat.{le-trans, le-of-eq, le-antisymm, le-refl, lt-of-lt-of-le, lt-of-le-of-lt, lt-irrefl, lt-of-not-le, eq-or-lt-of-le, le-of-suc-le-suc, le-dest, le-div-iff-mul-le, div-lt-iff-lt-mul, mul-div-cancel, mul-le-mul-right, le-of-mul-le-mul-right, mul-assoc, mul-one, pow-succ', add-mul-div-right, add-mul-mod-self-right, add-assoc, add-suc}
+use native.Mathlib.Nat.{le-trans, le-of-eq, le-refl, lt-of-lt-of-le, lt-of-le-of-lt, lt-irrefl, lt-of-not-le, eq-or-lt-of-le, le-of-suc-le-suc, le-dest, le-div-iff-mul-le, div-lt-iff-lt-mul, mul-div-cancel, mul-le-mul-right, le-of-mul-le-mul-right, mul-assoc, mul-one, pow-succ', add-mul-div-right, add-mul-mod-self-right, add-assoc}
 use native.Mathlib.Omega.{arith}
 use mathlib.Core.Bool.{Bool, true, false, not, cond}
 use lib.IntN.{ℤ}
