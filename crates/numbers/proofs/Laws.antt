@@ -3,10 +3,10 @@ pub mod Order
 pub mod Monotone
 pub mod Exact
 pub mod Bounds
-pub mod Median
+pub mod Scalar
 pub mod Floor
-pub mod Root
+pub mod SquareRoot
 pub mod Nearest
 pub mod Constants
-pub mod Quadratic
+pub mod EquationSolver
 pub mod Alike

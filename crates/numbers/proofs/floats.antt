@@ -6,3 +6,4 @@ pub mod Held
 pub mod Multiples
 pub mod Patterns
 pub mod Signs
+pub mod Values

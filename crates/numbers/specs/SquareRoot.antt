@@ -1,5 +1,5 @@
 -- The square root of a float, rounded to the nearest value of binary64: IEEE 754's squareRoot, over whole numbers. Definitions only.
--- `Laws/Root.antt` below `proofs/` shows that of a positive value `sqrtOf` is the only one that `NearestRoot` admits.
+-- `Laws/SquareRoot.antt` below `proofs/` shows that of a positive value `sqrtOf` is the only one that `NearestRoot` admits.
 use Prim.Native.Nat.{ℕ, zero, suc, _+_, _-_, _*_, _/_, _^_, _<_, compare}
 use mathlib.Core.Bool.{true, false, cond}
 use lib.IntN.{ℤ}

@@ -1,5 +1,9 @@
 -- Each public function's promise determines its answer: any two answers that it permits for the same arguments are the same. Assumes nothing.
 -- `Post` is a function's promise as the checker makes it of the `ensures` in the source. No argument is lent, so the answer is all that a call leaves behind.
+--     Alike        any two answers r and s that a promise permits for the arguments a are the same
+--     alike        two answers that equal one value are the same
+--     roots-alike  two records of the roots of one equation are the same
+--     NAME-alike   so it is with the promise of the function NAME
 use mathlib.Core.Path.{_≡_, sym, _∙_}
 use mathlib.Core.List.{List}
 use Prim.Native.Nat.{ℕ}
@@ -9,7 +13,7 @@ use borrow.Fn.Kinds.{PK, RK, Dens, Out, resT, endedOf}
 use lib.Ieee.{Float}
 use Rattle.numbers.specs.EquationSolver.{rootsOf, Listed}
 use Rattle.numbers.specs.declared.equation_solver.Roots.{Roots}
-use Rattle.numbers.proofs.Laws.Quadratic.{listed-same}
+use Rattle.numbers.proofs.Laws.EquationSolver.{listed-same}
 use Rattle.numbers.proofs.scalar.min.Kinds as min-kinds
 use Rattle.numbers.proofs.scalar.min.Reads as min
 use Rattle.numbers.proofs.scalar.max.Kinds as max-kinds
@@ -31,57 +35,44 @@ use Rattle.numbers.proofs.square_root.sqrt.Reads as sqrt
 use Rattle.numbers.proofs.equation_solver.solve_quadratic.Kinds as solve-quadratic-kinds
 use Rattle.numbers.proofs.equation_solver.solve_quadratic.Reads as solve-quadratic
 
--- any two answers r and s that a promise permits for the arguments a are the same
 abbrev pub Alike : (n : ℕ) (ps : List (PK n)) (k : RK n) → Out n ps k → Type 0
 Alike n ps k Post = (κs : Lfts n) (a : Dens κs ps) (r s : resT k κs .Denot) (e f : AtExit (endedOf n ps k) κs) → Post κs a r e → Post κs a s f → r ≡ s
 
--- Two answers that equal one value are the same.
 pub alike : {A : Type 0} {v r s : A} → r ≡ v → s ≡ v → r ≡ s
 alike p q = p ∙ sym q
 
--- Two records of the roots of one equation are the same.
 pub roots-alike : (a b c : Float) (r s : Roots) → Listed (rootsOf a b c) (r .count) (r .first) (r .second) → Listed (rootsOf a b c) (s .count) (s .first) (s .second) → r ≡ s
 roots-alike a b c r s p q =
     let same = listed-same (rootsOf a b c) (r .count) (s .count) (r .first) (r .second) (s .first) (s .second) p q in
     λ i. record { count = same .0 i; first = same .1 i; second = same .2 i }
 
 -- ---- each function
--- The smaller of two.
 pub min-alike : Alike 0 min-kinds.ps min-kinds.r min.Post
 min-alike κs a r s e f = alike
 
--- The larger of two.
 pub max-alike : Alike 0 max-kinds.ps max-kinds.r max.Post
 max-alike κs a r s e f = alike
 
--- The middle one of three.
 pub median-alike : Alike 0 median-kinds.ps median-kinds.r median.Post
 median-alike κs a r s e f = alike
 
--- The size of an f32.
 pub abs32-alike : Alike 0 abs32-kinds.ps abs32-kinds.r abs32.Post
 abs32-alike κs a r s e f = alike
 
--- The size of an f64.
 pub abs64-alike : Alike 0 abs64-kinds.ps abs64-kinds.r abs64.Post
 abs64-alike κs a r s e f = alike
 
--- The mix of two.
 pub mix-alike : Alike 0 mix-kinds.ps mix-kinds.r mix.Post
 mix-alike κs a r s e f = alike
 
--- An f64 narrowed to f32.
 pub narrow-alike : Alike 0 narrow-kinds.ps narrow-kinds.r narrow.Post
 narrow-alike κs a r s e f = alike
 
--- The floor of an f64.
 pub floor-to-i64-alike : Alike 0 floor-to-i64-kinds.ps floor-to-i64-kinds.r floor-to-i64.Post
 floor-to-i64-alike κs a r s e f = alike
 
--- The square root of an f64.
 pub sqrt-alike : Alike 0 sqrt-kinds.ps sqrt-kinds.r sqrt.Post
 sqrt-alike κs a r s e f = alike
 
--- The roots of a quadratic.
 pub solve-quadratic-alike : Alike 0 solve-quadratic-kinds.ps solve-quadratic-kinds.r solve-quadratic.Post
 solve-quadratic-alike κs a r s e f = roots-alike (a .0) (a .1 .0) (a .1 .1 .0) r s

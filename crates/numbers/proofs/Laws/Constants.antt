@@ -1,4 +1,6 @@
 -- Each constant is what it is called: the value of its format that is nearest to its decimal. Assumes nothing.
+--     Named, constants  each constant of the number rules is the value nearest to its fraction
+--     named             what a fraction rounds to is nearest to it
 use mathlib.Core.Path.{_≡_, refl, subst}
 use Prim.Native.Nat.{ℕ, _^_, _<_}
 use native.Mathlib.Nat.{zero-lt-suc}
@@ -8,7 +10,6 @@ use Rattle.numbers.specs.Constants.{zeroOf, oneOf, dominance, two, four}
 use Rattle.numbers.specs.Nearest.{Nearest}
 use Rattle.numbers.proofs.Laws.Nearest.{round-nearest}
 
--- The constants of the number rules by their fractions.
 pub record Named : Type 0 where
   pub zero-is : (f : Format) → Nearest f false 0 1 (zeroOf f)
   pub one-is : (f : Format) → Nearest f false 1 1 (oneOf f)
@@ -16,11 +17,9 @@ pub record Named : Type 0 where
   pub two-is : Nearest binary64 false 2 1 two
   pub four-is : Nearest binary64 false 4 1 four
 
--- what a fraction rounds to is nearest to it
 pub named : (f : Format) (num den : ℕ) (x : Float) → 0 < den → round f false num den ≡ x → Nearest f false num den x
 named f num den x D e = subst (Nearest f false num den) e (round-nearest f false num den D)
 
--- Each constant is the value that is nearest to its decimal.
 pub constants : Named
 unfolding ofBits round
 constants = record {

@@ -1,5 +1,14 @@
 -- Where an operation gives the exact value: a value that a format holds rounds to itself, and so does a product or a sum that the format holds. Assumes nothing.
-use mathlib.Core.Path.{_≡_, refl, sym, ap, _∙_, subst}
+--     round-held, round-value        a value that the format holds is what its own fraction, and any of its value, rounds to
+--     narrow-held                    a value of binary32 narrows to itself
+--     mul-held, mul-by-one           a product whose exact value the format holds is that value, so one with 1 is the value
+--     mul-exact                      the product in binary64 of two finite values of binary32 is exact, so it is finite
+--     Adds                           x + y = v, as whole numbers over the product of the three denominators: what is positive on either side and negative on the other
+--     add-exact, sub-exact           a sum and a difference that are exactly a value of the format other than zero are that value
+--     add-exact-zero                 a sum that is exactly zero is a zero
+--     add-exact-eq, sub-exact-eq     so they equal any value of the format that they are exactly, a zero of either sign
+--     add-zero-eq, add-zero-nonzero  a value with a zero added equals itself, and one that is not zero is itself
+use mathlib.Core.Path.{_≡_, refl, sym, ap, _∙_}
 use Prim.Native.Nat.{ℕ, zero, suc, _+_, _*_, _^_, _<_}
 use native.Mathlib.Nat.{le-refl, le-of-eq, le-of-lt, lt-of-le-of-lt, zero-lt-suc, zero-mul, mul-pos, mul-le-mul}
 use native.Mathlib.Omega.{arith}
@@ -13,26 +22,24 @@ use lib.Ieee.Exact.{HasValue, round-exact}
 use lib.Ieee.Scale.{round-same}
 use Rattle.numbers.specs.Constants.{oneOf}
 use Rattle.numbers.specs.Rounding.{narrowOf}
-use Rattle.numbers.proofs.floats.Differences.{scale-plus, scale-minus, sum-is, unlike-false, zero-of}
+use Rattle.numbers.specs.Nearest.{sumSize, sumSign}
+use Rattle.numbers.proofs.floats.Differences.{scale-plus, scale-minus, summed, unlike-false, zero-of}
 use Rattle.numbers.proofs.Laws.Order.{plus, minus, eq-refl, eq-zeros}
+use Rattle.numbers.proofs.floats.Values.{with-value}
 use Rattle.numbers.proofs.floats.Held.{held, count, value-unique}
 
 -- ---- rounding
--- A value that the format holds is what its own fraction rounds to.
 pub round-held : (f : Format) (s : Bool) (m : ℕ) (e : ℤ) → T (fits f (fin s m e)) → round f s (m * up e) (down e) ≡ fin s m e
 round-held f s m e p =
     let h = held f s m e p in
     value-unique f (round f s (m * up e) (down e)) (fin s m e) s (m * up e) (down e) (down-pos e) (round-fits f s (m * up e) (down e)) p
     (round-exact f s (m * up e) (down e) (h .digits) (h .zeros) (down-pos e) (h .few) (h .fine) (h .value)) (refl, refl)
 
--- It is what any fraction of its value rounds to.
 pub round-value : (f : Format) (v : Float) (s : Bool) (a c : ℕ) → 0 < c → T (fits f v) → HasValue v s a c → round f s a c ≡ v
-round-value f nan s a c C p h = absurd h
-round-value f (inf t) s a c C p h = absurd h
-round-value f (fin t m e) s a c C p h =
-    ap (λ (b : Bool). round f b a c) (sym (h .0)) ∙ round-same f t a c (m * up e) (down e) C (down-pos e) (sym (h .1)) ∙ round-held f t m e p
+round-value f v s a c C p h =
+    with-value (λ v. T (fits f v) → round f s a c ≡ v) v s a c h
+    (λ m e q p. round-same f s a c (m * up e) (down e) C (down-pos e) (sym q) ∙ round-held f s m e p) p
 
--- A value of binary32 narrows to itself.
 pub narrow-held : (x : Float) → T (fits binary32 x) → narrowOf x ≡ x
 unfolding narrowOf
 narrow-held nan p = refl
@@ -40,7 +47,6 @@ narrow-held (inf s) p = refl
 narrow-held (fin s m e) p = round-held binary32 s m e p
 
 -- ---- products
--- A product whose exact value the format holds is that value.
 pub mul-held : (f : Format) (s : Bool) (m : ℕ) (e : ℤ) (t : Bool) (n : ℕ) (d : ℤ) (v : Float) → T (fits f v) → HasValue v (unlike s t) (m * up e * (n * up d)) (down e * down d)
     → mul f (fin s m e) (fin t n d) ≡ v
 unfolding mul
@@ -51,19 +57,14 @@ unfolding ofBits
 one-is binary32 = refl
 one-is binary64 = refl
 
--- A value that the format holds, times 1, is itself.
 pub mul-by-one : (f : Format) (x : Float) → T (fits f x) → mul f x (oneOf f) ≡ x
 mul-by-one f x p = ap (mul f x) (one-is f) ∙ go x p
   where
     go : (x : Float) → T (fits f x) → mul f x (fin false 1 (pos 0)) ≡ x
     go nan p = unfold mul in refl
     go (inf s) p = unfold mul in ap inf (unlike-false s)
-    go (fin s m e) p = mul-held f s m e false 1 (pos 0) (fin s m e) p (sym (unlike-false s), turn (m * up e) (down e))
-      where
-        turn : (a c : ℕ) → a * (c * 1) ≡ a * (1 * 1) * c
-        turn a c = omega arith
+    go (fin s m e) p = mul-held f s m e false 1 (pos 0) (fin s m e) p (sym (unlike-false s), omega arith)
 
--- The product in binary64 of two finite values of binary32 is exact, so it is finite.
 pub mul-exact : (s : Bool) (m : ℕ) (e : ℤ) (t : Bool) (n : ℕ) (d : ℤ) → T (fits binary32 (fin s m e)) → T (fits binary32 (fin t n d))
     → HasValue (mul binary64 (fin s m e) (fin t n d)) (unlike s t) (m * up e * (n * up d)) (down e * down d)
 unfolding mul
@@ -86,16 +87,9 @@ mul-exact s m e t n d p q =
         regroup x y p q r = omega arith
 
     whole : (a b A B c g L R : ℕ) → a * L ≡ A * c → b * L ≡ B * g → a * b * (L * L * R) ≡ A * B * R * (c * g)
-    whole a b A B c g L R e h = one a b L R ∙ ap (λ (x : ℕ). x * (b * L) * R) e ∙ ap (λ (x : ℕ). A * c * x * R) h ∙ two A B c g R
-      where
-        one : (a b L R : ℕ) → a * b * (L * L * R) ≡ a * L * (b * L) * R
-        one a b L R = omega arith
-
-        two : (A B c g R : ℕ) → A * c * (B * g) * R ≡ A * B * R * (c * g)
-        two A B c g R = omega arith
+    whole a b A B c g L R e h = omega arith ∙ ap (λ (x : ℕ). x * (b * L) * R) e ∙ ap (λ (x : ℕ). A * c * x * R) h ∙ omega arith
 
 -- ---- sums
--- x + y = v, as whole numbers over the product of the three denominators: what is positive on either side and negative on the other
 abbrev pub Adds : Float → Float → Float → Type 0
 Adds nan y v = ⊥
 Adds (inf s) y v = ⊥
@@ -109,6 +103,16 @@ Adds (fin s m e) (fin t n d) (fin u k g) =
     let r = k * up g * (down e * down d) in
     plus s a + plus t b + minus u r ≡ plus u r + minus s a + minus t b
 
+adds-cases : (P : Float → Float → Float → Type 0)
+    → ((s : Bool) (m : ℕ) (e : ℤ) (t : Bool) (n : ℕ) (d : ℤ) (u : Bool) (k : ℕ) (g : ℤ) → Adds (fin s m e) (fin t n d) (fin u k g) → P (fin s m e) (fin t n d) (fin u k g)) → (x y v : Float) → Adds x y v → P x y v
+adds-cases P c nan y v h = absurd h
+adds-cases P c (inf s) y v h = absurd h
+adds-cases P c (fin s m e) nan v h = absurd h
+adds-cases P c (fin s m e) (inf t) v h = absurd h
+adds-cases P c (fin s m e) (fin t n d) nan h = absurd h
+adds-cases P c (fin s m e) (fin t n d) (inf u) h = absurd h
+adds-cases P c (fin s m e) (fin t n d) (fin u k g) h = c s m e t n d u k g h
+
 -- the sum as `add` has it, and the value v = ±R / p, agree
 agree : (s : Bool) (a : ℕ) (t : Bool) (b : ℕ) (u : Bool) (R : ℕ) (c p : ℕ) (w : Bool) (r : ℕ)
     → plus s (a * p) + plus t (b * p) + minus u (R * c) ≡ plus u (R * c) + minus s (a * p) + minus t (b * p)
@@ -117,19 +121,19 @@ agree : (s : Bool) (a : ℕ) (t : Bool) (b : ℕ) (u : Bool) (R : ℕ) (c p : �
 agree s a t b u R c p w r h k =
     omega (arith, ap (λ (x : ℕ). x * p) k, scale-plus s a p, scale-plus t b p, scale-minus s a p, scale-minus t b p, scale-plus u R c, scale-minus u R c)
 
-signs : (u : Bool) (R c p : ℕ) (w : Bool) (r : ℕ) → 0 < R * c → plus w r * p + minus u R * c ≡ plus u R * c + minus w r * p → (u ≡ w) × (R * c ≡ r * p)
-signs false R c p false r P h = (refl, omega arith)
-signs true R c p true r P h = (refl, omega arith)
-signs true R c p false r P h = absurd (no (r * p) (R * c) P h)
-  where
-    no : (x y : ℕ) → 0 < y → x + y ≡ 0 * c + 0 * p → ⊥
-    no x y P h = omega arith
-signs false R c p true r P h = absurd (no (r * p) (R * c) P h)
-  where
-    no : (x y : ℕ) → 0 < y → 0 * p + 0 * c ≡ y + x → ⊥
-    no x y P h = omega arith
+-- so they have one size, and where it is not 0 one sign
+same-size : (u : Bool) (R c p : ℕ) (w : Bool) (r : ℕ) → plus w r * p + minus u R * c ≡ plus u R * c + minus w r * p → R * c ≡ r * p
+same-size false R c p false r h = omega arith
+same-size true R c p true r h = omega arith
+same-size true R c p false r h = omega arith
+same-size false R c p true r h = omega arith
 
--- A sum that is exactly a value of the format other than zero is that value.
+same-sign : (u : Bool) (R c p : ℕ) (w : Bool) (r : ℕ) → 0 < R * c → plus w r * p + minus u R * c ≡ plus u R * c + minus w r * p → u ≡ w
+same-sign false R c p false r P h = refl
+same-sign true R c p true r P h = refl
+same-sign true R c p false r P h = absurd (omega arith)
+same-sign false R c p true r P h = absurd (omega arith)
+
 pub add-exact : (f : Format) (x y : Float) (u : Bool) (k : ℕ) (g : ℤ) → T (fits f (fin u (suc k) g)) → Adds x y (fin u (suc k) g) → add f x y ≡ fin u (suc k) g
 unfolding add
 add-exact f nan y u k g p h = absurd h
@@ -141,28 +145,17 @@ add-exact f (fin s m e) (fin t n d) u k g p h =
     let R = suc k * up g in
     let a = m * up e * down d in
     let b = n * up d * down e in
-    let w = sum-is f s a t b c in
+    let w = summed f s a t b c in
+    let v = sumSign s a t b in
+    let r = sumSize s a t b in
     let C : 0 < c = mul-pos (down-pos e) (down-pos d) in
-    let same = agree s a t b u R c (down g) (w .sign) (w .size) h (w .value) in
-    w .is ∙ round-value f (fin u (suc k) g) (w .sign) (w .size) c C p (signs u R c (down g) (w .sign) (w .size) (mul-pos (mul-pos (zero-lt-suc k) (up-pos g)) C) same)
+    let same = agree s a t b u R c (down g) v r h (w .value) in
+    w .is ∙ round-value f (fin u (suc k) g) v r c C p (same-sign u R c (down g) v r (mul-pos (mul-pos (zero-lt-suc k) (up-pos g)) C) same, same-size u R c (down g) v r same)
 
 zero-fits : (f : Format) (s : Bool) → T (fits f (fin s 0 (pos 0)))
 unfolding fits
 zero-fits f s = tt
 
-no-size : (u w : Bool) (r p c R : ℕ) → R ≡ 0 → plus w r * p + minus u R * c ≡ plus u R * c + minus w r * p → r * p ≡ 0
-no-size true true r p c R z h = sym h' ∙ ap (λ (x : ℕ). x * c) z ∙ zero-mul c
-  where
-    h' : R * c ≡ r * p
-    h' = omega arith
-no-size false false r p c R z h = h' ∙ ap (λ (x : ℕ). x * c) z ∙ zero-mul c
-  where
-    h' : r * p ≡ R * c
-    h' = omega arith
-no-size true false r p c R z h = omega arith
-no-size false true r p c R z h = omega arith
-
--- A sum that is exactly zero is a zero.
 pub add-exact-zero : (f : Format) (x y : Float) (u : Bool) (g : ℤ) → Adds x y (fin u 0 g) → (w : Bool) × (add f x y ≡ fin w 0 (pos 0))
 unfolding add
 add-exact-zero f nan y u g h = absurd h
@@ -174,37 +167,25 @@ add-exact-zero f (fin s m e) (fin t n d) u g h =
     let R = 0 * up g in
     let a = m * up e * down d in
     let b = n * up d * down e in
-    let w = sum-is f s a t b c in
+    let w = summed f s a t b c in
+    let v = sumSign s a t b in
+    let r = sumSize s a t b in
     let C : 0 < c = mul-pos (down-pos e) (down-pos d) in
-    let z : w .size ≡ 0 = zero-of (w .size) (down g) (down-pos g) (no-size u (w .sign) (w .size) (down g) c R (zero-mul (up g)) (agree s a t b u R c (down g) (w .sign) (w .size) h (w .value))) in
-    (w .sign, w .is ∙ ap (λ (x : ℕ). round f (w .sign) x c) z ∙ round-value f (fin (w .sign) 0 (pos 0)) (w .sign) 0 c C (zero-fits f (w .sign)) (refl, ap (λ (x : ℕ). x * c) (zero-mul 1) ∙ zero-mul c ∙ sym (zero-mul 1)))
+    let z : r ≡ 0 = zero-of r (down g) (down-pos g) (sym (same-size u R c (down g) v r (agree s a t b u R c (down g) v r h (w .value))) ∙ ap (λ (x : ℕ). x * c) (zero-mul (up g)) ∙ zero-mul c) in
+    (v, w .is ∙ ap (λ (x : ℕ). round f v x c) z ∙ round-value f (fin v 0 (pos 0)) v 0 c C (zero-fits f v) (refl, ap (λ (x : ℕ). x * c) (zero-mul 1) ∙ zero-mul c ∙ sym (zero-mul 1)))
 
 -- ---- equality
--- So a sum that is exactly a value of the format equals that value, a zero of either sign.
 pub add-exact-eq : (f : Format) (x y v : Float) → T (fits f v) → Adds x y v → T (eq (add f x y) v)
-add-exact-eq f nan y v p h = absurd h
-add-exact-eq f (inf s) y v p h = absurd h
-add-exact-eq f (fin s m e) nan v p h = absurd h
-add-exact-eq f (fin s m e) (inf t) v p h = absurd h
-add-exact-eq f (fin s m e) (fin t n d) nan p h = absurd h
-add-exact-eq f (fin s m e) (fin t n d) (inf u) p h = absurd h
-add-exact-eq f (fin s m e) (fin t n d) (fin u zero g) p h =
-    let z = add-exact-zero f (fin s m e) (fin t n d) u g h in
-    subst (λ (x : Float). T (eq x (fin u 0 g))) (sym (z .1)) (eq-zeros (z .0) (pos 0) u g)
-add-exact-eq f (fin s m e) (fin t n d) (fin u (suc k) g) p h =
-    subst (λ (x : Float). T (eq x (fin u (suc k) g))) (sym (add-exact f (fin s m e) (fin t n d) u k g p h)) (eq-refl (fin u (suc k) g) (unfold isNan in tt))
+add-exact-eq f x y v p h = adds-cases (λ x y v. T (fits f v) → T (eq (add f x y) v)) go x y v h p
+  where
+    go : (s : Bool) (m : ℕ) (e : ℤ) (t : Bool) (n : ℕ) (d : ℤ) (u : Bool) (k : ℕ) (g : ℤ) → Adds (fin s m e) (fin t n d) (fin u k g) → T (fits f (fin u k g)) → T (eq (add f (fin s m e) (fin t n d)) (fin u k g))
+    go s m e t n d u zero g h p = let z = add-exact-zero f (fin s m e) (fin t n d) u g h in rw (z .1) (eq-zeros (z .0) (pos 0) u g)
+    go s m e t n d u (suc k) g h p = rw (add-exact f (fin s m e) (fin t n d) u k g p h) (eq-refl (fin u (suc k) g) (unfold isNan in tt))
 
 -- ---- differences: x - y is v where v + y is x
 sub-adds : (x y v : Float) → Adds v y x → Adds x (neg y) v
 unfolding neg
-sub-adds x y nan h = absurd h
-sub-adds x y (inf s) h = absurd h
-sub-adds x nan (fin u k g) h = absurd h
-sub-adds x (inf t) (fin u k g) h = absurd h
-sub-adds nan (fin t n d) (fin u k g) h = absurd h
-sub-adds (inf s) (fin t n d) (fin u k g) h = absurd h
-sub-adds (fin s m e) (fin t n d) (fin u k g) h =
-    turned s (m * up e) (down e) t (n * up d) (down d) u (k * up g) (down g) h
+sub-adds x y v h = adds-cases (λ v y x. Adds x (neg y) v) (λ u k g t n d s m e h. turned s (m * up e) (down e) t (n * up d) (down d) u (k * up g) (down g) h) v y x h
   where
     turned : (s : Bool) (a p : ℕ) (t : Bool) (b q : ℕ) (u : Bool) (c r : ℕ)
         → plus u (c * q * p) + plus t (b * r * p) + minus s (a * (r * q)) ≡ plus s (a * (r * q)) + minus u (c * q * p) + minus t (b * r * p)
@@ -218,12 +199,10 @@ sub-adds (fin s m e) (fin t n d) (fin u k g) h =
         moved s a a' true b b' u c c' x y z h = omega (arith, ap (plus s) x, ap (minus s) x, ap (plus u) z, ap (minus u) z)
         moved s a a' false b b' u c c' x y z h = omega (arith, ap (plus s) x, ap (minus s) x, ap (plus u) z, ap (minus u) z)
 
--- A difference that is exactly a value of the format other than zero is that value.
 pub sub-exact : (f : Format) (x y : Float) (u : Bool) (k : ℕ) (g : ℤ) → T (fits f (fin u (suc k) g)) → Adds (fin u (suc k) g) y x → sub f x y ≡ fin u (suc k) g
 unfolding sub
 sub-exact f x y u k g p h = add-exact f x (neg y) u k g p (sub-adds x y (fin u (suc k) g) h)
 
--- So a difference that is exactly a value of the format equals that value, a zero of either sign.
 pub sub-exact-eq : (f : Format) (x y v : Float) → T (fits f v) → Adds v y x → T (eq (sub f x y) v)
 unfolding sub
 sub-exact-eq f x y v p h = add-exact-eq f x (neg y) v p (sub-adds x y v h)
@@ -238,13 +217,11 @@ adds-zero s m e t = go s t (m * up e) (down e)
     go false true a c = omega arith
     go false false a c = omega arith
 
--- A value that the format holds, with a zero added, equals itself.
 pub add-zero-eq : (f : Format) (x : Float) (t : Bool) → T (fits f x) → T (not (isNan x)) → T (eq (add f x (fin t 0 (pos 0))) x)
 unfolding isNan
 add-zero-eq f nan t p n = absurd n
 add-zero-eq f (inf s) t p n = unfold add in eq-refl (inf s) (unfold isNan in tt)
 add-zero-eq f (fin s m e) t p n = add-exact-eq f (fin s m e) (fin t 0 (pos 0)) (fin s m e) p (adds-zero s m e t)
 
--- One that is not zero is itself.
 pub add-zero-nonzero : (f : Format) (s : Bool) (m : ℕ) (e : ℤ) (t : Bool) → T (fits f (fin s (suc m) e)) → add f (fin s (suc m) e) (fin t 0 (pos 0)) ≡ fin s (suc m) e
 add-zero-nonzero f s m e t p = add-exact f (fin s (suc m) e) (fin t 0 (pos 0)) s m e p (adds-zero s (suc m) e t)

@@ -1,5 +1,11 @@
 -- The floor of a float: what it is, that it grows with the value, and its bounds. Assumes nothing.
-use mathlib.Core.Path.{_≡_, sym, ap, _∙_, subst}
+--     floor-plain                            of an x not negative, and below 2 ^ 63, it is a k with k ≤ x < k + 1
+--     floor-minus                            of an x below 0, and not below -2 ^ 63, it is a -(k + 1) with -(k + 1) ≤ x < -k
+--     floor-zero                             of either zero it is 0
+--     floor-mono                             of a larger value it is at least as large
+--     floor-fits                             it is an i64
+--     floor-size, floor-between, floor-cell  it is at most as large as a whole number that bounds the value, or as the larger of the floors on its two sides, as of 2 ^ 20 + 1
+use mathlib.Core.Path.{_≡_, sym, ap, _∙_}
 use mathlib.Core.Bool.{Bool, true, false}
 use Prim.Native.Nat.{ℕ, zero, suc, _+_, _-_, _*_, _/_, _%_, _^_, _≤_, _<_, min, zero-le, suc-le-suc}
 use native.Mathlib.Nat.{zero-div, le-trans, le-of-eq, le-of-suc-le-suc, div-le-of-le-mul, div-lt-iff-lt-mul, div-add-mod', mod-lt, mul-comm, mul-pos, zero-mul}
@@ -14,11 +20,10 @@ use mir.Syntax.{w64}
 use mir.Val.{SFits}
 use Rattle.numbers.specs.Rounding.{floorOf}
 use Rattle.numbers.proofs.floats.Differences.{zero-of}
-use Rattle.numbers.proofs.Laws.Order.{AtMost, le→at-most}
+use Rattle.numbers.proofs.Laws.Order.{AtMost, le-cases}
 use Rattle.numbers.proofs.rounding.Flooring.{ceiling, ceiling-le, ceiling-mono, ceiling-suc, ceiling-zero, capped, capped-most}
 
 -- ---- what it is
--- The floor of a value x that is not negative, and below 2 ^ 63, is a k with k ≤ x < k + 1.
 pub floor-plain : (m : ℕ) (e : ℤ) → m * up e < 2 ^ 63 * down e → (k : ℕ) × (floorOf (fin false m e) ≡ pos k) × (k * down e ≤ m * up e) × (m * up e < suc k * down e)
 unfolding floorOf
 floor-plain m e h =
@@ -31,7 +36,6 @@ floor-plain m e h =
     around : (a c q r : ℕ) → q * c + r ≡ a → r < c → (q * c ≤ a) × (a < suc q * c)
     around a c q r e l = (omega arith, omega arith)
 
--- The floor of a value x below 0, and not below -2 ^ 63, is a -(k + 1) with -(k + 1) ≤ x < -k.
 pub floor-minus : (m : ℕ) (e : ℤ) → 0 < m → m * up e ≤ 2 ^ 63 * down e → (k : ℕ) × (floorOf (fin true m e) ≡ negsuc k) × (k * down e < m * up e) × (m * up e ≤ suc k * down e)
 unfolding floorOf
 floor-minus m e p h =
@@ -50,7 +54,6 @@ floor-minus m e p h =
     around : (a c q r : ℕ) → 0 < a → q * c + r ≡ a - 1 → r < c → (q * c < a) × (a ≤ suc q * c)
     around a c q r A e l = (omega arith, omega arith)
 
--- The floor of either zero is 0.
 pub floor-zero : (s : Bool) (e : ℤ) → floorOf (fin s 0 e) ≡ pos 0
 unfolding floorOf
 floor-zero true e = ap (λ (a : ℕ). negℤ (pos (min (ceiling a (down e)) 9223372036854775808))) (zero-mul (up e)) ∙ ap (λ (k : ℕ). negℤ (pos (min k 9223372036854775808))) (ceiling-zero (down e) (down-pos e))
@@ -64,18 +67,9 @@ neg-pos (suc j) k = tt
 
 neg-neg : (j k : ℕ) → k ≤ j → T (leZ (negℤ (pos j)) (negℤ (pos k)))
 neg-neg zero zero h = tt
-neg-neg zero (suc k) h = absurd (no k h)
-  where
-    no : (k : ℕ) → suc k ≤ 0 → ⊥
-    no k h = omega arith
+neg-neg zero (suc k) h = absurd (omega arith)
 neg-neg (suc j) zero h = tt
 neg-neg (suc j) (suc k) h = le→leb k j (le-of-suc-le-suc h)
-
-min-mono : (a b c : ℕ) → a ≤ b → min a c ≤ min b c
-min-mono a b c h = omega arith
-
-min-le : (a c : ℕ) → min a c ≤ c
-min-le a c = omega arith
 
 -- the ends of the range
 floor-least : (x : Float) → T (leZ (negsuc 9223372036854775807) (floorOf x))
@@ -83,7 +77,7 @@ unfolding floorOf
 floor-least nan = tt
 floor-least (inf true) = tt
 floor-least (inf false) = tt
-floor-least (fin true m e) = neg-neg 9223372036854775808 (min (ceiling (m * up e) (down e)) 9223372036854775808) (min-le (ceiling (m * up e) (down e)) 9223372036854775808)
+floor-least (fin true m e) = neg-neg 9223372036854775808 (min (ceiling (m * up e) (down e)) 9223372036854775808) (omega arith)
 floor-least (fin false m e) = tt
 
 floor-most : (x : Float) → T (leZ (floorOf x) (pos 9223372036854775807))
@@ -92,78 +86,46 @@ floor-most nan = tt
 floor-most (inf true) = tt
 floor-most (inf false) = tt
 floor-most (fin true m e) = neg-pos (min (ceiling (m * up e) (down e)) 9223372036854775808) 9223372036854775807
-floor-most (fin false m e) = le→leb (min (m * up e / down e) 9223372036854775807) 9223372036854775807 (min-le (m * up e / down e) 9223372036854775807)
+floor-most (fin false m e) = le→leb (min (m * up e / down e) 9223372036854775807) 9223372036854775807 (omega arith)
 
--- The floor of a value is at most that of a larger one.
 pub floor-mono : (x y : Float) → T (le x y) → T (leZ (floorOf x) (floorOf y))
-unfolding floorOf le
-floor-mono nan y h = absurd h
-floor-mono (inf true) y h = floor-least y
-floor-mono (inf false) nan h = absurd h
-floor-mono (inf false) (inf true) h = absurd h
-floor-mono (inf false) (inf false) h = tt
-floor-mono (inf false) (fin t n d) h = absurd h
-floor-mono (fin s m e) nan h = absurd h
-floor-mono (fin s m e) (inf true) h = absurd h
-floor-mono (fin s m e) (inf false) h = floor-most (fin s m e)
-floor-mono (fin false m e) (fin false n d) h =
-    let q = m * up e / down e in
-    let r = n * up d / down d in
-    le→leb (min q 9223372036854775807) (min r 9223372036854775807)
-    (min-mono q r 9223372036854775807 (div-mono (m * up e) (down e) (n * up d) (down d) (down-pos e) (down-pos d) (plain (m * up e * down d) (n * up d * down e) (le→at-most false m e false n d h))))
+unfolding floorOf
+floor-mono = le-cases (λ x y. T (leZ (floorOf x) (floorOf y))) (λ y n. floor-least y) (λ x n. floor-most x) finite-mono
   where
-    plain : (a b : ℕ) → AtMost false a false b → a ≤ b
-    plain a b h = omega arith
-floor-mono (fin false m e) (fin true n d) h =
-    let z = none (m * up e * down d) (n * up d * down e) (le→at-most false m e true n d h) in
-    subst (λ (k : ℕ). T (leZ (floorOf (fin false k e)) (floorOf (fin true n d)))) (sym (zero-of m (up e) (up-pos e) (zero-of (m * up e) (down d) (down-pos d) (z .0))))
-    (subst (λ (k : ℕ). T (leZ (floorOf (fin false 0 e)) (floorOf (fin true k d)))) (sym (zero-of n (up d) (up-pos d) (zero-of (n * up d) (down e) (down-pos e) (z .1))))
-    (subst (λ (u : ℤ). T (leZ u (floorOf (fin true 0 d)))) (sym (floor-zero false e)) (subst (λ (u : ℤ). T (leZ (pos 0) u)) (sym (floor-zero true d)) tt)))
-  where
-    none : (a b : ℕ) → AtMost false a true b → (a ≡ 0) × (b ≡ 0)
-    none a b h = (omega arith, omega arith)
-floor-mono (fin true m e) (fin false n d) h = neg-pos (min (ceiling (m * up e) (down e)) 9223372036854775808) (min (n * up d / down d) 9223372036854775807)
-floor-mono (fin true m e) (fin true n d) h =
-    let q = ceiling (m * up e) (down e) in
-    let r = ceiling (n * up d) (down d) in
-    neg-neg (min q 9223372036854775808) (min r 9223372036854775808)
-    (min-mono r q 9223372036854775808 (ceiling-mono (n * up d) (down d) (m * up e) (down e) (down-pos d) (down-pos e) (plain (m * up e * down d) (n * up d * down e) (le→at-most true m e true n d h))))
-  where
-    plain : (a b : ℕ) → AtMost true a true b → b ≤ a
-    plain a b h = omega arith
+    finite-mono : (s : Bool) (m : ℕ) (e : ℤ) (t : Bool) (n : ℕ) (d : ℤ) → AtMost s (m * up e * down d) t (n * up d * down e) → T (leZ (floorOf (fin s m e)) (floorOf (fin t n d)))
+    finite-mono false m e false n d h =
+        let q = m * up e / down e in
+        let r = n * up d / down d in
+        let l : q ≤ r = div-mono (m * up e) (down e) (n * up d) (down d) (down-pos e) (down-pos d) (omega arith) in
+        le→leb (min q 9223372036854775807) (min r 9223372036854775807) (omega arith)
+    finite-mono false m e true n d h =
+        let a : m ≡ 0 = zero-of m (up e) (up-pos e) (zero-of (m * up e) (down d) (down-pos d) (omega arith)) in
+        let b : n ≡ 0 = zero-of n (up d) (up-pos d) (zero-of (n * up d) (down e) (down-pos e) (omega arith)) in
+        rw (a, b, floor-zero false e, floor-zero true d) tt
+    finite-mono true m e false n d h = neg-pos (min (ceiling (m * up e) (down e)) 9223372036854775808) (min (n * up d / down d) 9223372036854775807)
+    finite-mono true m e true n d h =
+        let q = ceiling (m * up e) (down e) in
+        let r = ceiling (n * up d) (down d) in
+        let l : r ≤ q = ceiling-mono (n * up d) (down d) (m * up e) (down e) (down-pos d) (down-pos e) (omega arith) in
+        neg-neg (min q 9223372036854775808) (min r 9223372036854775808) (omega arith)
 
 -- ---- bounds
--- Every floor is an i64.
 pub floor-fits : (x : Float) → SFits w64 (floorOf x)
 floor-fits x = record { sfits = go (floorOf x) (floor-least x) (floor-most x) }
   where
     go : (z : ℤ) → T (leZ (negsuc 9223372036854775807) z) → T (leZ z (pos 9223372036854775807)) → mag z < 9223372036854775808
-    go (pos k) a b = under k (leb→le k 9223372036854775807 b)
-      where
-        under : (k : ℕ) → k ≤ 9223372036854775807 → k < 9223372036854775808
-        under k h = omega arith
-    go (negsuc k) a b = under k (leb→le k 9223372036854775807 a)
-      where
-        under : (k : ℕ) → k ≤ 9223372036854775807 → k < 9223372036854775808
-        under k h = omega arith
+    go (pos k) a b = omega (arith, leb→le k 9223372036854775807 b)
+    go (negsuc k) a b = omega (arith, leb→le k 9223372036854775807 a)
 
--- A value of a size up to n has a floor of a size up to n.
 pub floor-size : (n : ℕ) (s : Bool) (m : ℕ) (e : ℤ) → m * up e ≤ n * down e → natAbs (floorOf (fin s m e)) ≤ n
 unfolding floorOf
-floor-size n true m e h = abs-neg (min (ceiling (m * up e) (down e)) 9223372036854775808) (least (ceiling (m * up e) (down e)) 9223372036854775808 (ceiling-le (m * up e) (down e) n (down-pos e) h))
+floor-size n true m e h = abs-neg (min (ceiling (m * up e) (down e)) 9223372036854775808) (omega (arith, ceiling-le (m * up e) (down e) n (down-pos e) h))
   where
     abs-neg : (k : ℕ) → k ≤ n → natAbs (negℤ (pos k)) ≤ n
     abs-neg zero l = l
     abs-neg (suc k) l = l
+floor-size n false m e h = omega (arith, div-le-of-le-mul (down e) (le-trans h (le-of-eq (mul-comm n (down e)))))
 
-    least : (a b : ℕ) → a ≤ n → min a b ≤ n
-    least a b l = omega arith
-floor-size n false m e h = least (m * up e / down e) 9223372036854775807 (div-le-of-le-mul (down e) (le-trans h (le-of-eq (mul-comm n (down e)))))
-  where
-    least : (a b : ℕ) → a ≤ n → min a b ≤ n
-    least a b l = omega arith
-
--- A value between two has a floor of a size up to that of theirs.
 pub floor-between : (lo x hi : Float) (n : ℕ) → T (le lo x) → T (le x hi) → natAbs (floorOf lo) ≤ n → natAbs (floorOf hi) ≤ n → natAbs (floorOf x) ≤ n
 floor-between lo x hi n h k a b = go (floorOf lo) (floorOf x) (floorOf hi) (floor-mono lo x h) (floor-mono x hi k) a b
   where
@@ -173,7 +135,6 @@ floor-between lo x hi n h k a b = go (floorOf lo) (floorOf x) (floorOf hi) (floo
     go (pos i) (negsuc k) u h g a b = absurd h
     go (negsuc i) (negsuc k) u h g a b = le-trans (suc-le-suc (leb→le k i h)) a
 
--- A value from -(2 ^ 20 + 1) to 2 ^ 20 + 1 has a floor from -1048577 to 1048577.
 pub floor-cell : (x : Float) → T (le (fin true 1048577 (pos 0)) x) → T (le x (fin false 1048577 (pos 0))) → natAbs (floorOf x) ≤ 1048577
 unfolding floorOf
 floor-cell x h k = floor-between (fin true 1048577 (pos 0)) x (fin false 1048577 (pos 0)) 1048577 h k (lit≤ tt) (lit≤ tt)

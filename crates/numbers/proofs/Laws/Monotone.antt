@@ -1,5 +1,20 @@
 -- What keeps the order of floats: rounding, narrowing, sums, differences, products and mixes, in either format, the infinities too. Assumes nothing.
 -- The laws on sums, differences, products and mixes ask that both results are no NaN. That of finite operands never is one: `add-number`, `sub-number`, `mul-number`, `mix-number`.
+--     round-number, round-at-most      a rounded fraction is no NaN, and rounding keeps the order of fractions of either sign: ±a / b ≤ ±c / d
+--     narrow-number, narrow-mono       narrowing makes a NaN of nothing else, and keeps the order
+--     finite-add-number, add-number    a sum of a finite value and one that is no NaN is none, so one of finite values is none
+--     number-first, number-second      where a sum is no NaN neither operand is
+--     add-comm, mul-comm               the operands of a sum and of a product may change places
+--     add-mono-left, add-mono-right    a sum grows with each operand
+--     finite-sub-number, sub-number    so of a difference
+--     sub-mono-left, sub-anti-right    it grows with its first operand and falls with its second
+--     sub-not-negative                 it is not negative where the second is at most the first
+--     mul-number, mul-neg              a product of finite values is no NaN, and one with a negative is the product's negative
+--     mul-mono-left, mul-mono-right    a product with a value that is not negative grows with the other
+--     mul-mono, mul-not-negative       one of two such grows with both, and is not negative
+--     rest-lo, rest-hi                 1 less a weight from 0 to 1 is from 0 to 1
+--     mix-mono-first, mix-mono-second  a mix grows with each value, for a weight from 0 to 1
+--     mix-number                       one of two finite values of binary32 is no NaN
 use mathlib.Core.Path.{_≡_, refl, sym, ap, _∙_, subst}
 use mathlib.Core.Logic.{_⊎_, inl, inr}
 use Prim.Native.Nat.{ℕ, zero, suc, _+_, _*_, _%_, _^_, _<_}
@@ -14,17 +29,11 @@ use lib.Ieee.Bits.{is-true, is-false}
 use lib.Ieee.Order.{round-mono}
 use Rattle.numbers.specs.Scalar.{absOf, mixOf}
 use Rattle.numbers.specs.Rounding.{narrowOf}
-use Rattle.numbers.proofs.floats.Differences.{of-at-most, sum-is, sum-comm, sums-order, products-order, unlike-false, round-neg, Signed, round-signed, round-zero, zero-of}
-use Rattle.numbers.proofs.Laws.Order.{plus, minus, AtMost, nought, one, finite, finite-number, le→at-most, at-most→le, le-refl, le-trans, le-inf, inf-le, le-neg, neg-neg, neg-number, between-finite, le-of-abs-le, ge-of-abs-le}
+use Rattle.numbers.specs.Nearest.{sumSize, sumSign}
+use Rattle.numbers.proofs.floats.Differences.{of-at-most, summed, sum-comm, sums-order, products-order, unlike-false, round-neg, Signed, signed-number, round-signed, round-zero, zero-of}
+use Rattle.numbers.proofs.Laws.Order.{plus, minus, AtMost, nought, one, finite, finite-number, le→at-most, at-most→le, le-cases, le-refl, le-trans, le-inf, inf-le, le-neg, neg-neg, neg-number, between-finite, le-of-abs-le, ge-of-abs-le}
 
 -- ---- rounding
-signed-number : (s : Bool) (x : Float) → Signed s x → T (not (isNan x))
-unfolding isNan
-signed-number s nan h = h
-signed-number s (inf t) h = tt
-signed-number s (fin t m e) h = tt
-
--- A rounded fraction is no NaN.
 pub round-number : (f : Format) (s : Bool) (a c : ℕ) → T (not (isNan (round f s a c)))
 round-number f s a c = signed-number s (round f s a c) (round-signed f s a c)
 
@@ -40,7 +49,6 @@ below-above (fin true m e) (fin false n d) h k = of-at-most true (m * up e * dow
 below-above (fin true m e) (fin true n d) h k = absurd (true≢false k)
 below-above (fin false m e) (fin t n d) h k = absurd (false≢true h)
 
--- Rounding keeps the order of fractions, of either sign: ±a / b ≤ ±c / d.
 pub round-at-most : (f : Format) (s : Bool) (a b : ℕ) (t : Bool) (c d : ℕ) → 0 < b → 0 < d → AtMost s (a * d) t (c * b) → T (le (round f s a b) (round f t c d))
 round-at-most f false a b false c d B D h = round-mono f a b c d B D (omega arith)
 round-at-most f true a b false c d B D h = below-above (round f true a b) (round f false c d) (round-signed f true a b) (round-signed f false c d)
@@ -53,41 +61,30 @@ round-at-most f true a b true c d B D h =
     subst (λ (v : Float). T (le v (round f true c d))) (sym (round-neg f a b))
     (subst (λ (v : Float). T (le (neg (round f false a b)) v)) (sym (round-neg f c d)) (le-neg (round f false c d) (round f false a b) (round-mono f c d a b D B (omega arith))))
 
--- Narrowing makes a NaN of nothing else.
 pub narrow-number : (x : Float) → isNan (narrowOf x) ≡ isNan x
 unfolding narrowOf isNan
 narrow-number nan = refl
 narrow-number (inf s) = refl
 narrow-number (fin s m e) = is-false (isNan (round binary32 s (m * up e) (down e))) (round-number binary32 s (m * up e) (down e))
 
--- Narrowing keeps the order.
 pub narrow-mono : (x y : Float) → T (le x y) → T (le (narrowOf x) (narrowOf y))
-unfolding narrowOf le
-narrow-mono nan y h = absurd h
-narrow-mono (inf s) nan h = absurd h
-narrow-mono (inf s) (inf t) h = h
-narrow-mono (inf true) (fin t n d) h = inf-le (round binary32 t (n * up d) (down d)) (round-number binary32 t (n * up d) (down d))
-narrow-mono (inf false) (fin t n d) h = absurd h
-narrow-mono (fin s m e) nan h = absurd h
-narrow-mono (fin s m e) (inf true) h = absurd h
-narrow-mono (fin s m e) (inf false) h = le-inf (round binary32 s (m * up e) (down e)) (round-number binary32 s (m * up e) (down e))
-narrow-mono (fin s m e) (fin t n d) h = round-at-most binary32 s (m * up e) (down e) t (n * up d) (down d) (down-pos e) (down-pos d) (le→at-most s m e t n d h)
+unfolding narrowOf
+narrow-mono = le-cases (λ x y. T (le (narrowOf x) (narrowOf y))) (λ y n. inf-le (narrowOf y) (rw narrow-number n)) (λ x n. le-inf (narrowOf x) (rw narrow-number n))
+    (λ s m e t n d h. round-at-most binary32 s (m * up e) (down e) t (n * up d) (down d) (down-pos e) (down-pos d) h)
 
 -- ---- sums
--- A sum of a finite value and one that is no NaN is none.
 pub finite-add-number : (f : Format) (x y : Float) → finite x → T (not (isNan y)) → T (not (isNan (add f x y)))
 unfolding add isNan
 finite-add-number f (fin s m e) nan i j = j
 finite-add-number f (fin s m e) (inf t) i j = tt
 finite-add-number f (fin s m e) (fin t n d) i j =
-    let a = sum-is f s (m * up e * down d) t (n * up d * down e) (down e * down d) in
-    subst (λ (z : Float). T (not (isNan z))) (sym (a .is)) (round-number f (a .sign) (a .size) (down e * down d))
+    let a = m * up e * down d in
+    let b = n * up d * down e in
+    subst (λ (z : Float). T (not (isNan z))) (sym (summed f s a t b (down e * down d) .is)) (round-number f (sumSign s a t b) (sumSize s a t b) (down e * down d))
 
--- A sum of finite values is no NaN.
 pub add-number : (f : Format) (x y : Float) → finite x → finite y → T (not (isNan (add f x y)))
 add-number f x y i j = finite-add-number f x y i (finite-number y j)
 
--- The operands of a sum may change places.
 pub add-comm : (f : Format) (x y : Float) → add f x y ≡ add f y x
 unfolding add
 add-comm f nan nan = refl
@@ -103,6 +100,15 @@ add-comm f (fin s m e) nan = refl
 add-comm f (fin s m e) (inf t) = refl
 add-comm f (fin s m e) (fin t n d) =
     sum-comm f s (m * up e * down d) t (n * up d * down e) (down e * down d) ∙ ap (sum f t (n * up d * down e) s (m * up e * down d)) (times (down e) (down d))
+
+pub number-first : (f : Format) (x y : Float) → T (not (isNan (add f x y))) → T (not (isNan x))
+unfolding add isNan
+number-first f nan y n = n
+number-first f (inf s) y n = tt
+number-first f (fin s m e) y n = tt
+
+pub number-second : (f : Format) (x y : Float) → T (not (isNan (add f x y))) → T (not (isNan y))
+number-second f x y n = number-first f y x (rw (add-comm f y x) n)
 
 -- an infinity added to what gives no NaN is that infinity
 add-inf : (f : Format) (x : Float) (t : Bool) → T (not (isNan (add f x (inf t)))) → add f x (inf t) ≡ inf t
@@ -120,53 +126,43 @@ add-nan f x = add-comm f x nan ∙ (unfold add in refl)
 sum-mono : (f : Format) (s : Bool) (X p : ℕ) (s' : Bool) (X' p' : ℕ) (t : Bool) (Y q : ℕ) → 0 < p → 0 < p' → 0 < q → AtMost s (X * p') s' (X' * p)
     → T (le (sum f s (X * q) t (Y * p) (p * q)) (sum f s' (X' * q) t (Y * p') (p' * q)))
 sum-mono f s X p s' X' p' t Y q P P' Q h =
-    let a = sum-is f s (X * q) t (Y * p) (p * q) in
-    let b = sum-is f s' (X' * q) t (Y * p') (p' * q) in
+    let a = summed f s (X * q) t (Y * p) (p * q) in
+    let u = sumSign s (X * q) t (Y * p) in
+    let r = sumSize s (X * q) t (Y * p) in
+    let b = summed f s' (X' * q) t (Y * p') (p' * q) in
+    let v = sumSign s' (X' * q) t (Y * p') in
+    let w = sumSize s' (X' * q) t (Y * p') in
     subst (λ (z : Float). T (le z (sum f s' (X' * q) t (Y * p') (p' * q)))) (sym (a .is))
-    (subst (λ (z : Float). T (le (round f (a .sign) (a .size) (p * q)) z)) (sym (b .is))
-    (round-at-most f (a .sign) (a .size) (p * q) (b .sign) (b .size) (p' * q) (mul-pos P Q) (mul-pos P' Q) (sums-order s X p s' X' p' t Y q (a .sign) (a .size) (b .sign) (b .size) h (a .value) (b .value))))
+    (subst (λ (z : Float). T (le (round f u r (p * q)) z)) (sym (b .is))
+    (round-at-most f u r (p * q) v w (p' * q) (mul-pos P Q) (mul-pos P' Q) (sums-order s X p s' X' p' t Y q u r v w h (a .value) (b .value))))
 
 add-mono : (f : Format) (y x x' : Float) → T (le x x') → T (not (isNan (add f x y))) → T (not (isNan (add f x' y))) → T (le (add f x y) (add f x' y))
-unfolding add le isNan
+unfolding add isNan
 add-mono f nan x x' h m n = absurd (subst (λ (z : Float). T (not (isNan z))) (add-nan f x) m)
-add-mono f (inf t) x x' h m n =
-    subst (λ (z : Float). T (le z (add f x' (inf t)))) (sym (add-inf f x t m)) (subst (λ (z : Float). T (le (inf t) z)) (sym (add-inf f x' t n)) (le-refl (inf t) tt))
-add-mono f (fin t n d) nan x' h i j = absurd h
-add-mono f (fin t n d) (inf true) x' h i j = inf-le (add f x' (fin t n d)) j
-add-mono f (fin t n d) (inf false) nan h i j = absurd h
-add-mono f (fin t n d) (inf false) (inf true) h i j = absurd h
-add-mono f (fin t n d) (inf false) (inf false) h i j = tt
-add-mono f (fin t n d) (inf false) (fin s' m' e') h i j = absurd h
-add-mono f (fin t n d) (fin s m e) nan h i j = absurd h
-add-mono f (fin t n d) (fin s m e) (inf true) h i j = absurd h
-add-mono f (fin t n d) (fin s m e) (inf false) h i j = le-inf (add f (fin s m e) (fin t n d)) i
-add-mono f (fin t n d) (fin s m e) (fin s' m' e') h i j =
-    sum-mono f s (m * up e) (down e) s' (m' * up e') (down e') t (n * up d) (down d) (down-pos e) (down-pos e') (down-pos d) (le→at-most s m e s' m' e' h)
+add-mono f (inf t) x x' h m n = rw (add-inf f x t m, add-inf f x' t n) (le-refl (inf t) tt)
+add-mono f (fin t n d) x x' h i j =
+    let y = fin t n d in
+    le-cases (λ x x'. T (not (isNan (add f x y))) → T (not (isNan (add f x' y))) → T (le (add f x y) (add f x' y))) (λ x' k i j. inf-le (add f x' y) j) (λ x k i j. le-inf (add f x y) i)
+    (λ s m e s' m' e' h i j. sum-mono f s (m * up e) (down e) s' (m' * up e') (down e') t (n * up d) (down d) (down-pos e) (down-pos e') (down-pos d) h) x x' h i j
 
--- A sum grows with its first operand.
 pub add-mono-left : (f : Format) (x x' y : Float) → T (le x x') → T (not (isNan (add f x y))) → T (not (isNan (add f x' y))) → T (le (add f x y) (add f x' y))
 add-mono-left f x x' y h i j = add-mono f y x x' h i j
 
--- A sum grows with its second operand.
 pub add-mono-right : (f : Format) (x y y' : Float) → T (le y y') → T (not (isNan (add f x y))) → T (not (isNan (add f x y'))) → T (le (add f x y) (add f x y'))
 add-mono-right f x y y' = rw (add-comm f x y, add-comm f x y') (add-mono f x y y')
 
 -- ---- differences
--- A difference of a finite value and one that is no NaN is none.
 pub finite-sub-number : (f : Format) (x y : Float) → finite x → T (not (isNan y)) → T (not (isNan (sub f x y)))
 unfolding sub
 finite-sub-number f x y i j = finite-add-number f x (neg y) i (subst (λ (b : Bool). T (not b)) (sym (neg-number y)) j)
 
--- A difference of finite values is no NaN.
 pub sub-number : (f : Format) (x y : Float) → finite x → finite y → T (not (isNan (sub f x y)))
 sub-number f x y i j = finite-sub-number f x y i (finite-number y j)
 
--- A difference grows with its first operand.
 pub sub-mono-left : (f : Format) (x x' y : Float) → T (le x x') → T (not (isNan (sub f x y))) → T (not (isNan (sub f x' y))) → T (le (sub f x y) (sub f x' y))
 unfolding sub
 sub-mono-left f x x' y h i j = add-mono-left f x x' (neg y) h i j
 
--- A difference falls with its second operand.
 pub sub-anti-right : (f : Format) (x y y' : Float) → T (le y y') → T (not (isNan (sub f x y))) → T (not (isNan (sub f x y'))) → T (le (sub f x y') (sub f x y))
 unfolding sub
 sub-anti-right f x y y' h i j = add-mono-right f x (neg y') (neg y) (le-neg y y' h) j i
@@ -174,32 +170,31 @@ sub-anti-right f x y y' h i j = add-mono-right f x (neg y') (neg y) (le-neg y y'
 round-not-negative : (f : Format) (u : Bool) (r c : ℕ) → 0 < c → AtMost false (0 * c) u (r * 1) → T (le nought (round f u r c))
 round-not-negative f u r c C h = subst (λ (z : Float). T (le z (round f u r c))) (round-zero f false 1 (zero-lt-suc 0)) (round-at-most f false 0 1 u r c (zero-lt-suc 0) C h)
 
--- A difference of a value and one that is at most it is not negative.
 pub sub-not-negative : (f : Format) (x y : Float) → T (le y x) → T (not (isNan (sub f x y))) → T (le nought (sub f x y))
-unfolding sub neg add le isNan
-sub-not-negative f x nan h n = absurd h
-sub-not-negative f x (inf true) h n = subst (λ (z : Float). T (le nought z)) (sym (add-inf f x false n)) tt
-sub-not-negative f nan (inf false) h n = absurd h
-sub-not-negative f (inf true) (inf false) h n = absurd h
-sub-not-negative f (inf false) (inf false) h n = absurd n
-sub-not-negative f (fin s m e) (inf false) h n = absurd h
-sub-not-negative f nan (fin t n d) h i = absurd h
-sub-not-negative f (inf true) (fin t n d) h i = absurd h
-sub-not-negative f (inf false) (fin t n d) h i = tt
-sub-not-negative f (fin s m e) (fin t n d) h i =
-    let A = m * up e * down d in
-    let B = n * up d * down e in
-    let c = down e * down d in
-    let a = sum-is f s A (not t) B c in
-    subst (λ (z : Float). T (le nought z)) (sym (a .is)) (round-not-negative f (a .sign) (a .size) c (mul-pos (down-pos e) (down-pos d)) (gap (a .sign) (a .size) c s A t B (le→at-most t n d s m e h) (a .value)))
+unfolding sub neg
+sub-not-negative f x y h n =
+    le-cases (λ y x. T (not (isNan (sub f x y))) → T (le nought (sub f x y))) (λ x k n. rw (add-inf f x false n) top)
+    (λ y k n. let e = add-comm f (inf false) (neg y) in rw (e ∙ add-inf f (neg y) false (subst (λ (v : Float). T (not (isNan v))) e n)) top) apart y x h n
   where
+    top : T (le nought (inf false))
+    top = unfold le in tt
+
     gap : (u : Bool) (r c : ℕ) (s : Bool) (A : ℕ) (t : Bool) (B : ℕ) → AtMost t B s A → plus u r + minus s A + minus (not t) B ≡ minus u r + plus s A + plus (not t) B → AtMost false (0 * c) u (r * 1)
     gap true r c s A true B h k = omega (arith, zero-mul c)
     gap true r c s A false B h k = omega (arith, zero-mul c)
     gap false r c s A t B h k = omega (arith, zero-mul c)
 
+    apart : (t : Bool) (n : ℕ) (d : ℤ) (s : Bool) (m : ℕ) (e : ℤ) → AtMost t (n * up d * down e) s (m * up e * down d) → T (not (isNan (sub f (fin s m e) (fin t n d)))) → T (le nought (sub f (fin s m e) (fin t n d)))
+    apart t n d s m e h i =
+        let A = m * up e * down d in
+        let B = n * up d * down e in
+        let c = down e * down d in
+        let a = summed f s A (not t) B c in
+        let u = sumSign s A (not t) B in
+        let r = sumSize s A (not t) B in
+        unfold add in subst (λ (z : Float). T (le nought z)) (sym (a .is)) (round-not-negative f u r c (mul-pos (down-pos e) (down-pos d)) (gap u r c s A t B h (a .value)))
+
 -- ---- products
--- A product of finite values is no NaN.
 pub mul-number : (f : Format) (x y : Float) → finite x → finite y → T (not (isNan (mul f x y)))
 unfolding mul
 mul-number f (fin s m e) (fin t n d) i j = round-number f (unlike s t) (m * up e * (n * up d)) (down e * down d)
@@ -210,7 +205,6 @@ unlike-comm true false = refl
 unlike-comm false true = refl
 unlike-comm false false = refl
 
--- The operands of a product may change places.
 pub mul-comm : (f : Format) (x y : Float) → mul f x y ≡ mul f y x
 unfolding mul
 mul-comm f nan nan = refl
@@ -234,7 +228,6 @@ unfolding neg
 negative true s t = refl
 negative false s t = ap inf (unlike-not s t)
 
--- A product with a negative is the product's negative.
 pub mul-neg : (f : Format) (x y : Float) → mul f x (neg y) ≡ neg (mul f x y)
 unfolding mul neg
 mul-neg f nan y = refl
@@ -279,43 +272,35 @@ mul-inf f (inf false) n = inr tt
 mul-inf f (fin true m e) n = inl (decided (eqb m 0) true n)
 mul-inf f (fin false m e) n = inr (positive m e)
 
-mul-finite : (f : Format) (s : Bool) (m : ℕ) (e : ℤ) (s' : Bool) (m' : ℕ) (e' : ℤ) (t : Bool) (n : ℕ) (d : ℤ) → T (le nought (fin t n d)) → T (le (fin s m e) (fin s' m' e'))
+mul-finite : (f : Format) (s : Bool) (m : ℕ) (e : ℤ) (s' : Bool) (m' : ℕ) (e' : ℤ) (t : Bool) (n : ℕ) (d : ℤ) → T (le nought (fin t n d)) → AtMost s (m * up e * down e') s' (m' * up e' * down e)
     → T (le (mul f (fin s m e) (fin t n d)) (mul f (fin s' m' e') (fin t n d)))
 unfolding mul
 mul-finite f s m e s' m' e' t n d z h =
     round-at-most f (unlike s t) (m * up e * (n * up d)) (down e * down d) (unlike s' t) (m' * up e' * (n * up d)) (down e' * down d) (mul-pos (down-pos e) (down-pos d)) (mul-pos (down-pos e') (down-pos d))
-    (products-order s (m * up e) (down e) s' (m' * up e') (down e') t (n * up d) (down d) (none t z) (le→at-most s m e s' m' e' h))
+    (products-order s (m * up e) (down e) s' (m' * up e') (down e') t (n * up d) (down d) (none t z) h)
   where
     none : (t : Bool) → T (le nought (fin t n d)) → t ≡ true → n * up d ≡ 0
     none true z q = ap (λ (k : ℕ). k * up d) (negative-zero n d z) ∙ zero-mul (up d)
     none false z q = absurd (false≢true q)
 
 times-mono : (f : Format) (y x x' : Float) → T (le nought y) → T (le x x') → T (not (isNan (mul f x y))) → T (not (isNan (mul f x' y))) → T (le (mul f x y) (mul f x' y))
-unfolding le
-times-mono f nan x x' z h i j = absurd z
-times-mono f (inf true) x x' z h i j = absurd z
+times-mono f nan x x' z h i j = absurd (unfold le in z)
+times-mono f (inf true) x x' z h i j = absurd (unfold le in z)
 times-mono f (inf false) x x' z h i j = elim (mul-inf f x i) [
-  | inl e ↦ subst (λ (v : Float). T (le v (mul f x' (inf false)))) (sym e) (inf-le (mul f x' (inf false)) j)
+  | inl e ↦ rw e (inf-le (mul f x' (inf false)) j)
   | inr g ↦
       let e = mul-comm f x' (inf false) in
-      subst (λ (v : Float). T (le (mul f x (inf false)) v)) (sym (e ∙ inf-mul f false x' (le-trans nought x x' g h) (subst (λ (v : Float). T (not (isNan v))) e j))) (le-inf (mul f x (inf false)) i)
+      rw (e ∙ inf-mul f false x' (le-trans nought x x' g h) (subst (λ (v : Float). T (not (isNan v))) e j)) (le-inf (mul f x (inf false)) i)
 ]
-times-mono f (fin t n d) nan x' z h i j = absurd h
-times-mono f (fin t n d) (inf true) x' z h i j = subst (λ (v : Float). T (le v (mul f x' (fin t n d)))) (sym (inf-mul f true (fin t n d) z i)) (inf-le (mul f x' (fin t n d)) j)
-times-mono f (fin t n d) (inf false) nan z h i j = absurd h
-times-mono f (fin t n d) (inf false) (inf true) z h i j = absurd h
-times-mono f (fin t n d) (inf false) (inf false) z h i j = le-refl (mul f (inf false) (fin t n d)) i
-times-mono f (fin t n d) (inf false) (fin s' m' e') z h i j = absurd h
-times-mono f (fin t n d) (fin s m e) nan z h i j = absurd h
-times-mono f (fin t n d) (fin s m e) (inf true) z h i j = absurd h
-times-mono f (fin t n d) (fin s m e) (inf false) z h i j = subst (λ (v : Float). T (le (mul f (fin s m e) (fin t n d)) v)) (sym (inf-mul f false (fin t n d) z j)) (le-inf (mul f (fin s m e) (fin t n d)) i)
-times-mono f (fin t n d) (fin s m e) (fin s' m' e') z h i j = mul-finite f s m e s' m' e' t n d z h
+times-mono f (fin t n d) x x' z h i j =
+    let y = fin t n d in
+    le-cases (λ x x'. T (not (isNan (mul f x y))) → T (not (isNan (mul f x' y))) → T (le (mul f x y) (mul f x' y)))
+    (λ x' k i j. rw (inf-mul f true y z i) (inf-le (mul f x' y) j)) (λ x k i j. rw (inf-mul f false y z j) (le-inf (mul f x y) i))
+    (λ s m e s' m' e' h i j. mul-finite f s m e s' m' e' t n d z h) x x' h i j
 
--- A product with a value that is not negative grows with its first operand.
 pub mul-mono-left : (f : Format) (x x' y : Float) → T (le nought y) → T (le x x') → T (not (isNan (mul f x y))) → T (not (isNan (mul f x' y))) → T (le (mul f x y) (mul f x' y))
 mul-mono-left f x x' y z h i j = times-mono f y x x' z h i j
 
--- A product with a value that is not negative grows with its second operand.
 pub mul-mono-right : (f : Format) (x y y' : Float) → T (le nought x) → T (le y y') → T (not (isNan (mul f x y))) → T (not (isNan (mul f x y'))) → T (le (mul f x y) (mul f x y'))
 mul-mono-right f x y y' = rw (mul-comm f x y, mul-comm f x y') (times-mono f x y y')
 
@@ -327,7 +312,6 @@ up-to (inf true) h = absurd h
 up-to (inf false) h = inr refl
 up-to (fin s m e) h = inl tt
 
--- A product of values that are not negative grows with both.
 pub mul-mono : (f : Format) (x x' y y' : Float) → T (le nought x) → T (le x x') → T (le nought y) → T (le y y') → T (not (isNan (mul f x y))) → T (not (isNan (mul f x' y'))) → T (le (mul f x y) (mul f x' y'))
 mul-mono f x x' y y' a h b k i j =
     let a' = le-trans nought x x' a h in
@@ -346,7 +330,6 @@ mul-mono f x x' y y' a h b k i j =
     past : (z : Float) → mul f x' y' ≡ mul f (inf false) z → T (le nought z) → T (le (mul f x y) (mul f x' y'))
     past z e g = subst (λ (v : Float). T (le (mul f x y) v)) (sym (e ∙ inf-mul f false z g (subst (λ (v : Float). T (not (isNan v))) e j))) (le-inf (mul f x y) i)
 
--- A product of values that are not negative is not negative.
 pub mul-not-negative : (f : Format) (x y : Float) → T (le nought x) → T (le nought y) → T (not (isNan (mul f x y))) → T (le nought (mul f x y))
 mul-not-negative f x y a b n =
     subst (λ (v : Float). T (le v (mul f x y))) zeros (mul-mono f nought x nought y (le-refl nought no-nan) a (le-refl nought no-nan) b (mul-number f nought nought tt tt) n)
@@ -362,24 +345,12 @@ mul-not-negative f x y a b n =
 abbrev bound : Float
 bound = fin false 1 (pos 128)
 
--- what a result says of its operands
-add-left : (f : Format) (x y : Float) → T (not (isNan (add f x y))) → T (not (isNan x))
-unfolding add isNan
-add-left f nan y n = n
-add-left f (inf s) y n = tt
-add-left f (fin s m e) y n = tt
-
-add-right : (f : Format) (x y : Float) → T (not (isNan (add f x y))) → T (not (isNan y))
-add-right f x y n = add-left f y x (subst (λ (v : Float). T (not (isNan v))) (add-comm f x y) n)
-
 wide : (x : Float) → T (not (isNan (narrowOf x))) → T (not (isNan x))
 wide x n = subst (λ (b : Bool). T (not b)) (narrow-number x) n
 
--- The rest of a weight from 0 to 1 is at least 0.
 pub rest-lo : (w : Float) → T (le nought w) → T (le w one) → T (le nought (sub binary64 one w))
 rest-lo w z h = sub-not-negative binary64 one w h (sub-number binary64 one w tt (between-finite nought w one tt tt z h))
 
--- And it is at most 1.
 pub rest-hi : (w : Float) → T (le nought w) → T (le w one) → T (le (sub binary64 one w) one)
 rest-hi w z h =
     subst (λ (v : Float). T (le (sub binary64 one w) v)) less-nought
@@ -388,7 +359,6 @@ rest-hi w z h =
     less-nought : sub binary64 one nought ≡ one
     less-nought = unfold sub in refl
 
--- A mix grows with its first value, for a weight from 0 to 1.
 pub mix-mono-first : (a a' b w : Float) → T (le nought w) → T (le w one) → T (le a a') → T (not (isNan (mixOf a b w))) → T (not (isNan (mixOf a' b w))) → T (le (mixOf a b w) (mixOf a' b w))
 unfolding mixOf ofBits
 mix-mono-first a a' b w lo hi h i j =
@@ -398,9 +368,8 @@ mix-mono-first a a' b w lo hi h i j =
     let y = mul binary64 w b in
     let m = wide (add binary64 x y) i in
     let n = wide (add binary64 x' y) j in
-    narrow-mono (add binary64 x y) (add binary64 x' y) (add-mono-left binary64 x x' y (mul-mono-right binary64 v a a' (rest-lo w lo hi) h (add-left binary64 x y m) (add-left binary64 x' y n)) m n)
+    narrow-mono (add binary64 x y) (add binary64 x' y) (add-mono-left binary64 x x' y (mul-mono-right binary64 v a a' (rest-lo w lo hi) h (number-first binary64 x y m) (number-first binary64 x' y n)) m n)
 
--- A mix grows with its second value, for a weight from 0 to 1.
 pub mix-mono-second : (a b b' w : Float) → T (le nought w) → T (le w one) → T (le b b') → T (not (isNan (mixOf a b w))) → T (not (isNan (mixOf a b' w))) → T (le (mixOf a b w) (mixOf a b' w))
 unfolding mixOf ofBits
 mix-mono-second a b b' w lo hi h i j =
@@ -409,7 +378,7 @@ mix-mono-second a b b' w lo hi h i j =
     let y' = mul binary64 w b' in
     let m = wide (add binary64 x y) i in
     let n = wide (add binary64 x y') j in
-    narrow-mono (add binary64 x y) (add binary64 x y') (add-mono-right binary64 x y y' (mul-mono-right binary64 w b b' lo h (add-right binary64 x y m) (add-right binary64 x y' n)) m n)
+    narrow-mono (add binary64 x y) (add binary64 x y') (add-mono-right binary64 x y y' (mul-mono-right binary64 w b b' lo h (number-second binary64 x y m) (number-second binary64 x y' n)) m n)
 
 -- a finite value of binary32 is below 2 ^ 128 in size
 held-bound : (x : Float) → T (fits binary32 x) → finite x → T (le (absOf x) bound)
@@ -451,7 +420,6 @@ product-finite w x lo hi h =
         le-trans (mul binary64 w x) (mul binary64 w bound) bound (mul-mono-right binary64 w x bound lo h (mul-number binary64 w x i j) n)
         (subst (λ (v : Float). T (le (mul binary64 w bound) v)) whole (mul-mono-left binary64 w one bound (positive 1 (pos 128)) hi n (mul-number binary64 one bound tt tt)))
 
--- A mix of two finite values of binary32 is no NaN.
 pub mix-number : (a b w : Float) → T (fits binary32 a) → T (fits binary32 b) → finite a → finite b → T (le nought w) → T (le w one) → T (not (isNan (mixOf a b w)))
 unfolding mixOf ofBits
 mix-number a b w A B i j lo hi =

@@ -1,33 +1,40 @@
 -- `round` gives the nearest value of its format, at a tie the one that is even, and no other value is it: so with `narrowOf` and with each operation. Assumes nothing.
+--     largest-held, largest-bound  the largest value is one of the format, and no finite one is larger
+--     middle-halfway               the middle is halfway from it to 2 ^ (emax + 1), with no remainder
+--     other-sign                   a value of the other sign is no nearer to ±num / den than the closest of its own: its distance is the sum of the sizes
+--     round-nearest                of every fraction `round` gives a nearest value
+--     round-is, nearest-only       a value that is nearest to a fraction is what `round` gives of it, so there is one only
+--     narrow-nearest               a value narrowed is the binary32 value nearest to it
+--     sum-exact                    the sign and the size that `sumSign` and `sumSize` give are those of the exact sum
+--     add-nearest, sub-nearest     a sum and a difference are the values nearest to the exact ones
+--     mul-nearest, div-nearest     so are a product, and a quotient by a value that is not zero
 use mathlib.Core.Path.{_≡_, refl, sym, ap, _∙_, subst}
 use mathlib.Core.Logic.{inl, inr}
 use Prim.Native.Nat.{ℕ, zero, suc, _+_, _-_, _*_, _^_, _≤_, _<_}
-use native.Mathlib.Nat.{le-trans, le-of-eq, le-of-lt, le-antisymm, lt-irrefl, mul-assoc, mul-right-comm, mul-pos, mul-le-mul-right, le-of-mul-le-mul-right}
+use native.Mathlib.Nat.{le-trans, le-of-eq, lt-irrefl, mul-assoc, mul-right-comm, mul-pos, mul-le-mul-right, le-of-mul-le-mul-right}
 use native.Mathlib.Omega.{arith}
-use mathlib.Core.Bool.{Bool, true, false, not, _&&_, Bool·beq, cond}
+use mathlib.Core.Bool.{Bool, not, cond}
 use lib.IntN.{ℤ, pos}
-use lib.Dec.{T, ltb, eqb, ltb→lt, nltb→le, eqb·suc-zero}
+use lib.Dec.{T, eqb, eqb·suc-zero}
 use lib.Pow.{pow-add, pow-pos}
-use lib.Ieee.{Float, nan, inf, fin, Format, binary32, binary64, prec, emax, low, up, down, unlike, round, sum, add, sub, mul, div, neg, fits}
+use lib.Ieee.{Float, nan, inf, fin, Format, binary32, binary64, prec, emax, low, up, down, unlike, round, add, sub, mul, div, neg, fits}
 use lib.Ieee.Fits.{two, up-pos, down-pos, round-fits}
-use lib.Ieee.Exact.{HasValue}
 use lib.Ieee.Scale.{grid}
 use Rattle.numbers.specs.Rounding.{narrowOf}
 use Rattle.numbers.specs.Nearest.{apart, distance, largest, middle, Closest, Nearest, sumSize, sumSign}
 use Rattle.numbers.proofs.floats.Compared.{le-or-lt}
-use Rattle.numbers.proofs.floats.Differences.{plus, minus}
+use Rattle.numbers.proofs.floats.Differences.{plus, minus, summed}
 use Rattle.numbers.proofs.floats.Distances.{closest-is, closest-only, exponents, wide, overflowed, counted}
+use Rattle.numbers.proofs.floats.Values.{with-value}
 use Rattle.numbers.proofs.floats.Held.{held, count}
 use Rattle.numbers.proofs.floats.Multiples.{most}
 
 -- ---- that the definitions say what they are called
--- The largest value is one of the format.
 pub largest-held : (f : Format) (s : Bool) → T (fits f (fin s (2 ^ prec f - 1) (pos (suc (emax f) - prec f))))
 unfolding fits
 largest-held binary32 s = tt
 largest-held binary64 s = tt
 
--- No finite value of the format is larger.
 pub largest-bound : (f : Format) (s : Bool) (n : ℕ) (d : ℤ) → T (fits f (fin s n d)) → n * up d ≤ largest f * down d
 largest-bound f s n d g =
     let h = held f s n d g in
@@ -37,12 +44,10 @@ largest-bound f s n d g =
     let b : count f n d h ≤ largest f * L = le-trans (most (prec f) (x .K) (h .digits) (h .zeros) (h .few) (subst (λ (y : ℕ). count f n d h < 2 ^ y) (x .ends) (h .fine))) (le-of-eq e) in
     le-of-mul-le-mul-right (le-trans (le-of-eq (h .value)) (le-trans (mul-le-mul-right (down d) b) (le-of-eq (mul-right-comm (largest f) L (down d))))) (pow-pos (low f))
 
--- The middle is halfway from it to 2 ^ (emax + 1), with no remainder.
 pub middle-halfway : (f : Format) → middle f * 2 ≡ largest f + 2 ^ suc (emax f)
 middle-halfway binary32 = refl
 middle-halfway binary64 = refl
 
--- A value of the other sign is no nearer to ±num / den than the closest of its own: its distance is the sum of the sizes.
 pub other-sign : (f : Format) (s : Bool) (num den m : ℕ) (e : ℤ) (n : ℕ) (d : ℤ) → Closest f s num den m e → distance num den m e * down d ≤ (num * down d + n * up d * den) * down e
 other-sign f s num den m e n d x = further (distance num den m e) (down d) (n * up d * den) (down e) (x .no-nearer 0 (pos 0) (unfold fits in tt))
   where
@@ -53,91 +58,34 @@ other-sign f s num den m e n d x = further (distance num den m e) (down d) (n * 
         omega (arith, mul-le-mul-right p l)
 
 -- ---- `round`
--- Of every fraction `round` gives a nearest value.
 pub round-nearest : (f : Format) (s : Bool) (num den : ℕ) → 0 < den → Nearest f s num den (round f s num den)
 round-nearest f s num den D = elim (le-or-lt (middle f * den) num) [
   | inl l ↦ subst (Nearest f s num den) (sym (overflowed f s num den D l)) (refl, l)
-  | inr l ↦ go l (round f s num den) (counted f s num den D l) (round-fits f s num den)
+  | inr l ↦
+      with-value (λ x. T (fits f x) → Nearest f s num den x) (round f s num den) s (grid f num den) (2 ^ low f) (counted f s num den D l)
+      (λ m e v fit. (refl, l, closest-is f num den D s m e fit v)) (round-fits f s num den)
 ]
-  where
-    go : num < middle f * den → (x : Float) → HasValue x s (grid f num den) (2 ^ low f) → T (fits f x) → Nearest f s num den x
-    go l nan v fit = absurd v
-    go l (inf t) v fit = absurd v
-    go l (fin t m e) v fit = (v .0, l, closest-is f num den D t m e fit (v .1))
 
--- A value that is nearest to a fraction is what `round` gives of it.
 pub round-is : (f : Format) (s : Bool) (num den : ℕ) (x : Float) → 0 < den → Nearest f s num den x → round f s num den ≡ x
 round-is f s num den nan D h = absurd h
 round-is f s num den (inf t) D h = overflowed f s num den D (h .1) ∙ ap inf (sym (h .0))
 round-is f s num den (fin t n d) D h =
     subst (λ (b : Bool). Closest f b num den n d → round f s num den ≡ fin b n d) (sym (h .0))
-    (λ x. go x (round f s num den) (counted f s num den D (h .1)) (round-fits f s num den)) (h .2)
-  where
-    go : Closest f s num den n d → (x : Float) → HasValue x s (grid f num den) (2 ^ low f) → T (fits f x) → x ≡ fin s n d
-    go x nan v fit = absurd v
-    go x (inf t) v fit = absurd v
-    go x (fin t m e) v fit = subst (λ (b : Bool). T (fits f (fin b m e)) → fin b m e ≡ fin s n d) (sym (v .0)) (λ g. closest-only f num den D s m e n d g (v .1) x) fit
+    (λ x. with-value (λ y. T (fits f y) → y ≡ fin s n d) (round f s num den) s (grid f num den) (2 ^ low f) (counted f s num den D (h .1))
+    (λ m e v fit. closest-only f num den D s m e n d fit v x) (round-fits f s num den)) (h .2)
 
--- No two values are nearest to one fraction.
 pub nearest-only : (f : Format) (s : Bool) (num den : ℕ) (x y : Float) → 0 < den → Nearest f s num den x → Nearest f s num den y → x ≡ y
 nearest-only f s num den x y D p q = sym (round-is f s num den x D p) ∙ round-is f s num den y D q
 
 -- ---- narrowing and the operations, of finite values
--- A value narrowed is the binary32 value nearest to it.
 pub narrow-nearest : (s : Bool) (m : ℕ) (e : ℤ) → Nearest binary32 s (m * up e) (down e) (narrowOf (fin s m e))
 unfolding narrowOf
 narrow-nearest s m e = round-nearest binary32 s (m * up e) (down e) (down-pos e)
 
--- v is ±r rounded over c, and ±r is ±a + ±b
-record Summed (f : Format) (v : Float) (s : Bool) (a : ℕ) (t : Bool) (b c : ℕ) (u : Bool) (r : ℕ) : Type 0 where
-  is : v ≡ round f u r c
-  value : plus u r + minus s a + minus t b ≡ minus u r + plus s a + plus t b
-
--- by the order of the two sizes
-by-order : (a b : ℕ) (P : Bool → Bool → Type 0) → (a < b → P true false) → (b < a → P false true) → (a ≡ b → P false false) → P (ltb a b) (ltb b a)
-by-order a b P l g e = go (ltb a b) (ltb→lt a b) (nltb→le a b) (ltb b a) (ltb→lt b a) (nltb→le b a)
-  where
-    go : (x : Bool) → (T x → a < b) → (T (not x) → b ≤ a) → (y : Bool) → (T y → b < a) → (T (not y) → a ≤ b) → P x y
-    go true h k true h' k' = absurd (lt-irrefl a (le-trans (h tt) (le-of-lt (h' tt))))
-    go true h k false h' k' = l (h tt)
-    go false h k true h' k' = g (h' tt)
-    go false h k false h' k' = e (le-antisymm (k' tt) (k tt))
-
--- what `sum` rounds
-summed : (f : Format) (s : Bool) (a : ℕ) (t : Bool) (b c : ℕ) → Summed f (sum f s a t b c) s a t b c (sumSign s a t b) (sumSize s a t b)
-unfolding sum
-summed f s a t b c =
-    by-order a b
-    (λ x y. Summed f (cond (Bool·beq s t) (round f s (a + b) c) (cond x (round f t (b - a) c) (round f (s && y) (a - b) c))) s a t b c (cond x t (cond y s (s && t))) (sumSize s a t b))
-    (less s t) (more s t) (same s t)
-  where
-    size : (x y : ℕ) (u : Bool) → x ≡ y → round f u x c ≡ round f u y c
-    size x y u e = ap (λ (z : ℕ). round f u z c) e
-
-    less : (s t : Bool) → a < b → Summed f (cond (Bool·beq s t) (round f s (a + b) c) (round f t (b - a) c)) s a t b c t (sumSize s a t b)
-    less true true l = record { is = refl; value = omega arith }
-    less false false l = record { is = refl; value = omega arith }
-    less true false l = record { is = size (b - a) (apart a b) false (omega arith); value = omega arith }
-    less false true l = record { is = size (b - a) (apart a b) true (omega arith); value = omega arith }
-
-    more : (s t : Bool) → b < a → Summed f (cond (Bool·beq s t) (round f s (a + b) c) (round f (s && true) (a - b) c)) s a t b c s (sumSize s a t b)
-    more true true l = record { is = refl; value = omega arith }
-    more false false l = record { is = refl; value = omega arith }
-    more true false l = record { is = size (a - b) (apart a b) true (omega arith); value = omega arith }
-    more false true l = record { is = size (a - b) (apart a b) false (omega arith); value = omega arith }
-
-    same : (s t : Bool) → a ≡ b → Summed f (cond (Bool·beq s t) (round f s (a + b) c) (round f (s && false) (a - b) c)) s a t b c (s && t) (sumSize s a t b)
-    same true true e = record { is = refl; value = omega arith }
-    same false false e = record { is = refl; value = omega arith }
-    same true false e = record { is = size (a - b) (apart a b) false (omega arith); value = omega arith }
-    same false true e = record { is = size (a - b) (apart a b) false (omega arith); value = omega arith }
-
--- The sign and the size that `sumSign` and `sumSize` give are those of the exact sum.
 pub sum-exact : (s : Bool) (a : ℕ) (t : Bool) (b : ℕ)
     → plus (sumSign s a t b) (sumSize s a t b) + minus s a + minus t b ≡ minus (sumSign s a t b) (sumSize s a t b) + plus s a + plus t b
 sum-exact s a t b = summed binary64 s a t b 1 .value
 
--- A sum is the value nearest to the exact one.
 pub add-nearest : (f : Format) (s : Bool) (m : ℕ) (e : ℤ) (t : Bool) (n : ℕ) (d : ℤ)
     → let a = m * up e * down d in
     let b = n * up d * down e in
@@ -149,7 +97,6 @@ add-nearest f s m e t n d =
     let c = down e * down d in
     subst (Nearest f (sumSign s a t b) (sumSize s a t b) c) (sym (summed f s a t b c .is)) (round-nearest f (sumSign s a t b) (sumSize s a t b) c (mul-pos (down-pos e) (down-pos d)))
 
--- A difference is the value nearest to the exact one, the sum with the other sign.
 pub sub-nearest : (f : Format) (s : Bool) (m : ℕ) (e : ℤ) (t : Bool) (n : ℕ) (d : ℤ)
     → let a = m * up e * down d in
     let b = n * up d * down e in
@@ -157,13 +104,11 @@ pub sub-nearest : (f : Format) (s : Bool) (m : ℕ) (e : ℤ) (t : Bool) (n : �
 unfolding sub neg
 sub-nearest f s m e t n d = add-nearest f s m e (not t) n d
 
--- A product is the value nearest to the exact one.
 pub mul-nearest : (f : Format) (s : Bool) (m : ℕ) (e : ℤ) (t : Bool) (n : ℕ) (d : ℤ)
     → Nearest f (unlike s t) (m * up e * (n * up d)) (down e * down d) (mul f (fin s m e) (fin t n d))
 unfolding mul
 mul-nearest f s m e t n d = round-nearest f (unlike s t) (m * up e * (n * up d)) (down e * down d) (mul-pos (down-pos e) (down-pos d))
 
--- A quotient by a value that is not zero is the value nearest to the exact one.
 pub div-nearest : (f : Format) (s : Bool) (m : ℕ) (e : ℤ) (t : Bool) (n : ℕ) (d : ℤ) → 0 < n
     → Nearest f (unlike s t) (m * up e * down d) (n * up d * down e) (div f (fin s m e) (fin t n d))
 unfolding div

@@ -1,8 +1,30 @@
 -- The order of floats: `le`, `lt` and `eq` over all that are no NaN, the infinities too, and what `neg` and `absOf` make of it. Assumes nothing.
 -- `T (not (isNan x))` says that x is no NaN. A comparison that holds says so of both of its operands.
+--     nought, one                               0 and 1
+--     finite, finite-number                     neither a NaN nor an infinity, so no NaN
+--     le→at-most, at-most→le                    two finite values compare as their fractions, each over the other's denominator
+--     inf-le, le-inf                            -∞ is at most each value, and each at most ∞
+--     le-cases                                  what holds of -∞ and any number, of any number and ∞, and of two finite values in order holds wherever one value is at most another
+--     number-left, number-right                 of two values that compare neither is a NaN
+--     le-of-lt, le-of-eq, ge-of-eq              what is less or equal is at most, and what is equal at least
+--     le-refl, le-trans, le-total               `le` is an order of all that is no NaN
+--     le-of-not-lt, lt-of-not-le                what is not less is at least, and what is not at most is greater
+--     lt-not-le, le-is-not-lt, lt-is-not-le     what is less is not at least, and the other way round
+--     not-below, not-above                      nothing is below -∞, and nothing above ∞
+--     between-finite                            what lies between two finite values is finite
+--     lt-irrefl, lt-trans, lt-of-le-of-lt, lt-of-lt-of-le  `lt` passes on, and no value is less than itself
+--     eq-of-le-le                               two values that are at most each other are equal
+--     eq-refl, eq-sym, eq-trans                 `eq` is an equality of all that is no NaN
+--     eq-zeros                                  zeros of either sign are equal
+--     neg-neg, neg-number                       `neg` undoes itself, and makes a NaN of nothing else
+--     le-neg, lt-neg                            it turns both orders round
+--     abs-neg, abs-number, abs-fits             a size has no sign, is a NaN only of one, and is held where the value is
+--     abs-is, abs-not-negative, le-abs          it is the value or the value's negative, not negative, and at least the value
+--     abs-le, le-of-abs-le, ge-of-abs-le        it is at most k just where the value lies between -k and k
+--     eq-held                                   two equal values that one format holds are the same value, or both zeros
 use mathlib.Core.Path.{_≡_, refl, sym, ap, _∙_, subst}
 use mathlib.Core.Logic.{_⊎_, inl, inr}
-use Prim.Native.Nat.{ℕ, _*_}
+use Prim.Native.Nat.{ℕ, zero, suc, _*_}
 use native.Mathlib.Nat.{zero-mul}
 use native.Mathlib.Omega.{arith}
 use mathlib.Core.Bool.{Bool, true, false, not, _||_, Bool·beq}
@@ -16,66 +38,77 @@ use Rattle.numbers.proofs.floats.Differences.{or-split, or-l, or-r, of-
 -- `AtMost s a t b` is ±a ≤ ±b of signed whole numbers, negative where s or t is true.
 pub use Rattle.numbers.proofs.floats.Differences.{plus, minus, AtMost}
 
--- 0 and 1
 abbrev pub nought : Float
 nought = fin false 0 (pos 0)
 
 abbrev pub one : Float
 one = fin false 1 (pos 0)
 
--- neither a NaN nor an infinity
 abbrev pub finite : Float → Type 0
 finite nan = ⊥
 finite (inf s) = ⊥
 finite (fin s m e) = Unit
 
--- A finite value is no NaN.
 pub finite-number : (x : Float) → finite x → T (not (isNan x))
 unfolding isNan
 finite-number (fin s m e) i = tt
 
 -- ---- two finite values compare as fractions
--- The order of two finite values is that of their fractions, each over the other's denominator.
 pub le→at-most : (s : Bool) (m : ℕ) (e : ℤ) (t : Bool) (n : ℕ) (d : ℤ) → T (le (fin s m e) (fin t n d)) → AtMost s (m * up e * down d) t (n * up d * down e)
 unfolding le
 le→at-most s m e t n d h = at-most s (m * up e * down d) t (n * up d * down e) h
 
--- The order of two fractions is that of the finite values.
 pub at-most→le : (s : Bool) (m : ℕ) (e : ℤ) (t : Bool) (n : ℕ) (d : ℤ) → AtMost s (m * up e * down d) t (n * up d * down e) → T (le (fin s m e) (fin t n d))
 unfolding le
 at-most→le s m e t n d h = of-at-most s (m * up e * down d) t (n * up d * down e) h
 
--- ---- what a comparison says of its operands
--- A value that is at most another is no NaN.
-pub number-left : (x y : Float) → T (le x y) → T (not (isNan x))
+-- ---- the order by cases
+pub inf-le : (x : Float) → T (not (isNan x)) → T (le (inf true) x)
 unfolding le isNan
-number-left nan y h = h
-number-left (inf s) y h = tt
-number-left (fin s m e) y h = tt
+inf-le nan n = absurd n
+inf-le (inf true) n = tt
+inf-le (inf false) n = tt
+inf-le (fin s m e) n = tt
 
--- A value that another is at most is no NaN.
-pub number-right : (x y : Float) → T (le x y) → T (not (isNan y))
+pub le-inf : (x : Float) → T (not (isNan x)) → T (le x (inf false))
 unfolding le isNan
-number-right nan y h = absurd h
-number-right (inf s) nan h = h
-number-right (inf s) (inf t) h = tt
-number-right (inf s) (fin t n d) h = tt
-number-right (fin s m e) nan h = h
-number-right (fin s m e) (inf t) h = tt
-number-right (fin s m e) (fin t n d) h = tt
+le-inf nan n = absurd n
+le-inf (inf true) n = tt
+le-inf (inf false) n = tt
+le-inf (fin s m e) n = tt
+
+pub le-cases : (P : Float → Float → Type 0) → ((y : Float) → T (not (isNan y)) → P (inf true) y) → ((x : Float) → T (not (isNan x)) → P x (inf false))
+    → ((s : Bool) (m : ℕ) (e : ℤ) (t : Bool) (n : ℕ) (d : ℤ) → AtMost s (m * up e * down d) t (n * up d * down e) → P (fin s m e) (fin t n d)) → (x y : Float) → T (le x y) → P x y
+unfolding le isNan
+le-cases P a b c nan y h = absurd h
+le-cases P a b c (inf s) nan h = absurd h
+le-cases P a b c (inf true) (inf t) h = a (inf t) tt
+le-cases P a b c (inf true) (fin t n d) h = a (fin t n d) tt
+le-cases P a b c (inf false) (inf true) h = absurd h
+le-cases P a b c (inf false) (inf false) h = b (inf false) tt
+le-cases P a b c (inf false) (fin t n d) h = absurd h
+le-cases P a b c (fin s m e) nan h = absurd h
+le-cases P a b c (fin s m e) (inf true) h = absurd h
+le-cases P a b c (fin s m e) (inf false) h = b (fin s m e) tt
+le-cases P a b c (fin s m e) (fin t n d) h = c s m e t n d (at-most s (m * up e * down d) t (n * up d * down e) h)
+
+pub number-left : (x y : Float) → T (le x y) → T (not (isNan x))
+unfolding isNan
+number-left = le-cases (λ x y. T (not (isNan x))) (λ y n. tt) (λ x n. n) (λ s m e t n d h. tt)
+
+pub number-right : (x y : Float) → T (le x y) → T (not (isNan y))
+unfolding isNan
+number-right = le-cases (λ x y. T (not (isNan y))) (λ y n. n) (λ x n. tt) (λ s m e t n d h. tt)
 
 -- ---- `le` is an order
--- What is less is at most.
 pub le-of-lt : (x y : Float) → T (lt x y) → T (le x y)
 unfolding le
 le-of-lt x y h = or-l (lt x y) (eq x y) h
 
--- What is equal is at most.
 pub le-of-eq : (x y : Float) → T (eq x y) → T (le x y)
 unfolding le
 le-of-eq x y h = or-r (lt x y) (eq x y) h
 
--- Each value that is no NaN is at most itself.
 pub le-refl : (x : Float) → T (not (isNan x)) → T (le x x)
 unfolding le isNan
 le-refl nan n = absurd n
@@ -83,7 +116,6 @@ le-refl (inf true) n = tt
 le-refl (inf false) n = tt
 le-refl (fin s m e) n = of-at-most s (m * up e * down e) s (m * up e * down e) (omega arith)
 
--- What is not less is at least.
 pub le-of-not-lt : (x y : Float) → T (not (isNan x)) → T (not (isNan y)) → T (not (lt x y)) → T (le y x)
 unfolding le isNan
 le-of-not-lt nan y m n h = absurd m
@@ -99,20 +131,24 @@ le-of-not-lt (fin s k e) (inf true) m n h = tt
 le-of-not-lt (fin s k e) (inf false) m n h = absurd h
 le-of-not-lt (fin s k e) (fin t o d) m n h = of-at-most t (o * up d * down e) s (k * up e * down d) (of-not-below s (k * up e * down d) t (o * up d * down e) h)
 
--- What is less is not at least.
+pub not-below : (x : Float) → T (lt x (inf true)) → ⊥
+unfolding lt
+not-below nan h = h
+not-below (inf true) h = h
+not-below (inf false) h = h
+not-below (fin s m e) h = h
+
+pub not-above : (y : Float) → T (lt (inf false) y) → ⊥
+unfolding lt
+not-above nan h = h
+not-above (inf t) h = h
+not-above (fin t n d) h = h
+
 pub lt-not-le : (x y : Float) → T (lt x y) → T (le y x) → ⊥
-unfolding le
-lt-not-le nan y h k = absurd h
-lt-not-le (inf s) nan h k = absurd h
-lt-not-le (inf true) (inf true) h k = absurd h
-lt-not-le (inf true) (inf false) h k = absurd k
-lt-not-le (inf false) (inf t) h k = absurd h
-lt-not-le (inf true) (fin t n d) h k = absurd k
-lt-not-le (inf false) (fin t n d) h k = absurd h
-lt-not-le (fin s m e) nan h k = absurd h
-lt-not-le (fin s m e) (inf true) h k = absurd h
-lt-not-le (fin s m e) (inf false) h k = absurd k
-lt-not-le (fin s m e) (fin t n d) h k = omega (arith, of-below s (m * up e * down d) t (n * up d * down e) h, at-most t (n * up d * down e) s (m * up e * down d) k)
+unfolding lt
+lt-not-le x y h k =
+    le-cases (λ y x. T (lt x y) → ⊥) (λ x n. not-below x) (λ y n. not-above y)
+    (λ t n d s m e g l. omega (arith, of-below s (m * up e * down d) t (n * up d * down e) l)) y x k h
 
 opposite : (a b : Bool) → (T a → T b → ⊥) → (T (not b) → T a) → a ≡ not b
 opposite true true h k = absurd (h tt tt)
@@ -126,15 +162,12 @@ turn true false e = refl
 turn false true e = refl
 turn false false e = e
 
--- At most is not greater.
 pub le-is-not-lt : (x y : Float) → T (not (isNan x)) → T (not (isNan y)) → le x y ≡ not (lt y x)
 le-is-not-lt x y m n = opposite (le x y) (lt y x) (λ h k. lt-not-le y x k h) (le-of-not-lt y x n m)
 
--- Less is not at least.
 pub lt-is-not-le : (x y : Float) → T (not (isNan x)) → T (not (isNan y)) → lt x y ≡ not (le y x)
 lt-is-not-le x y m n = turn (le y x) (lt x y) (le-is-not-lt y x n m)
 
--- Of two values that are no NaN one is at most the other.
 pub le-total : (x y : Float) → T (not (isNan x)) → T (not (isNan y)) → T (le x y) ⊎ T (le y x)
 le-total x y m n = go (lt x y) (le-of-lt x y) (le-of-not-lt x y m n)
   where
@@ -142,45 +175,22 @@ le-total x y m n = go (lt x y) (le-of-lt x y) (le-of-not-lt x y m n)
     go true h k = inl (h tt)
     go false h k = inr (k tt)
 
--- -∞ is at most each value.
-pub inf-le : (x : Float) → T (not (isNan x)) → T (le (inf true) x)
-unfolding le isNan
-inf-le nan n = absurd n
-inf-le (inf true) n = tt
-inf-le (inf false) n = tt
-inf-le (fin s m e) n = tt
-
--- Each value is at most ∞.
-pub le-inf : (x : Float) → T (not (isNan x)) → T (le x (inf false))
-unfolding le isNan
-le-inf nan n = absurd n
-le-inf (inf true) n = tt
-le-inf (inf false) n = tt
-le-inf (fin s m e) n = tt
-
--- The order passes on.
 pub le-trans : (x y z : Float) → T (le x y) → T (le y z) → T (le x z)
-unfolding le
-le-trans nan y z h k = absurd h
-le-trans (inf true) y z h k = inf-le z (number-right y z k)
-le-trans (inf false) nan z h k = absurd h
-le-trans (inf false) (inf true) z h k = absurd h
-le-trans (inf false) (inf false) z h k = k
-le-trans (inf false) (fin t n d) z h k = absurd h
-le-trans (fin s m e) nan z h k = absurd h
-le-trans (fin s m e) (inf true) z h k = absurd h
-le-trans (fin s m e) (inf false) nan h k = absurd k
-le-trans (fin s m e) (inf false) (inf true) h k = absurd k
-le-trans (fin s m e) (inf false) (inf false) h k = tt
-le-trans (fin s m e) (inf false) (fin v o g) h k = absurd k
-le-trans (fin s m e) (fin t n d) nan h k = absurd k
-le-trans (fin s m e) (fin t n d) (inf true) h k = absurd k
-le-trans (fin s m e) (fin t n d) (inf false) h k = tt
-le-trans (fin s m e) (fin t n d) (fin v o g) h k =
-    of-at-most s (m * up e * down g) v (o * up g * down e)
-    (through s (m * up e) (down e) t (n * up d) (down d) v (o * up g) (down g) (down-pos d) (at-most s (m * up e * down d) t (n * up d * down e) h) (at-most t (n * up d * down g) v (o * up g * down d) k))
+le-trans x y z h k = le-cases (λ x y. T (le y z) → T (le x z)) (λ y n l. inf-le z (number-right y z l)) (λ x n. top x z n) (λ s m e t n d g. past s m e t n d z g) x y h k
+  where
+    top : (x z : Float) → T (not (isNan x)) → T (le (inf false) z) → T (le x z)
+    top x nan n l = absurd (unfold le in l)
+    top x (inf true) n l = absurd (unfold le in l)
+    top x (inf false) n l = le-inf x n
+    top x (fin v o g) n l = absurd (unfold le in l)
 
--- What lies between two finite values is finite.
+    past : (s : Bool) (m : ℕ) (e : ℤ) (t : Bool) (n : ℕ) (d : ℤ) (z : Float) → AtMost s (m * up e * down d) t (n * up d * down e) → T (le (fin t n d) z) → T (le (fin s m e) z)
+    past s m e t n d nan h k = absurd (unfold le in k)
+    past s m e t n d (inf true) h k = absurd (unfold le in k)
+    past s m e t n d (inf false) h k = unfold le in tt
+    past s m e t n d (fin v o g) h k =
+        at-most→le s m e v o g (through s (m * up e) (down e) t (n * up d) (down d) v (o * up g) (down g) (down-pos d) h (le→at-most t n d v o g k))
+
 pub between-finite : (lo x hi : Float) → finite lo → finite hi → T (le lo x) → T (le x hi) → finite x
 unfolding le
 between-finite (fin s m e) nan (fin t n d) i j h k = absurd k
@@ -189,33 +199,26 @@ between-finite (fin s m e) (inf false) (fin t n d) i j h k = absurd k
 between-finite (fin s m e) (fin r o g) (fin t n d) i j h k = tt
 
 -- ---- `lt`
--- What is not at most is greater.
 pub lt-of-not-le : (x y : Float) → T (not (isNan x)) → T (not (isNan y)) → T (not (le x y)) → T (lt y x)
 lt-of-not-le x y m n h = subst T (sym (lt-is-not-le y x n m)) h
 
--- No value is less than itself.
 pub lt-irrefl : (x : Float) → T (lt x x) → ⊥
 lt-irrefl x h = lt-not-le x x h (le-of-lt x x h)
 
--- At most, then less, is less.
 pub lt-of-le-of-lt : (x y z : Float) → T (le x y) → T (lt y z) → T (lt x z)
 lt-of-le-of-lt x y z h k = lt-of-not-le z x (number-right y z (le-of-lt y z k)) (number-left x y h) (not-T (le z x) (λ g. lt-not-le y z k (le-trans z x y g h)))
 
--- Less, then at most, is less.
 pub lt-of-lt-of-le : (x y z : Float) → T (lt x y) → T (le y z) → T (lt x z)
 lt-of-lt-of-le x y z h k = lt-of-not-le z x (number-right y z k) (number-left x y (le-of-lt x y h)) (not-T (le z x) (λ g. lt-not-le x y h (le-trans y z x k g)))
 
--- Less passes on.
 pub lt-trans : (x y z : Float) → T (lt x y) → T (lt y z) → T (lt x z)
 lt-trans x y z h k = lt-of-lt-of-le x y z h (le-of-lt y z k)
 
 -- ---- `eq`
--- Two values that are at most each other are equal.
 pub eq-of-le-le : (x y : Float) → T (le x y) → T (le y x) → T (eq x y)
 unfolding le
 eq-of-le-le x y h k = elim (or-split (lt x y) (eq x y) h) [ inl l ↦ absurd (lt-not-le x y l k) | inr e ↦ e ]
 
--- What is equal is at least.
 pub ge-of-eq : (x y : Float) → T (eq x y) → T (le y x)
 unfolding le
 ge-of-eq nan y h = absurd h
@@ -229,19 +232,15 @@ ge-of-eq (fin s m e) nan h = absurd h
 ge-of-eq (fin s m e) (inf t) h = absurd h
 ge-of-eq (fin s m e) (fin t n d) h = of-at-most t (n * up d * down e) s (m * up e * down d) (omega (arith, of-level s (m * up e * down d) t (n * up d * down e) h))
 
--- Each value that is no NaN equals itself.
 pub eq-refl : (x : Float) → T (not (isNan x)) → T (eq x x)
 eq-refl x n = eq-of-le-le x x (le-refl x n) (le-refl x n)
 
--- Equality goes both ways.
 pub eq-sym : (x y : Float) → T (eq x y) → T (eq y x)
 eq-sym x y h = eq-of-le-le y x (ge-of-eq x y h) (le-of-eq x y h)
 
--- Equality passes on.
 pub eq-trans : (x y z : Float) → T (eq x y) → T (eq y z) → T (eq x z)
 eq-trans x y z h k = eq-of-le-le x z (le-trans x y z (le-of-eq x y h) (le-of-eq y z k)) (le-trans z y x (ge-of-eq y z k) (ge-of-eq x y h))
 
--- Zeros of either sign are equal.
 pub eq-zeros : (s : Bool) (e : ℤ) (t : Bool) (d : ℤ) → T (eq (fin s 0 e) (fin t 0 d))
 eq-zeros s e t d = eq-of-le-le (fin s 0 e) (fin t 0 d) (zeros s e t d) (zeros t d s e)
   where
@@ -256,59 +255,48 @@ not-not : (b : Bool) → not (not b) ≡ b
 not-not true = refl
 not-not false = refl
 
--- `neg` undoes itself.
 pub neg-neg : (x : Float) → neg (neg x) ≡ x
 unfolding neg
 neg-neg nan = refl
 neg-neg (inf s) = ap inf (not-not s)
 neg-neg (fin s m e) = ap (λ (b : Bool). fin b m e) (not-not s)
 
--- `neg` makes a NaN of nothing else.
 pub neg-number : (x : Float) → isNan (neg x) ≡ isNan x
 unfolding neg isNan
 neg-number nan = refl
 neg-number (inf s) = refl
 neg-number (fin s m e) = refl
 
--- `neg` turns the order round.
 pub le-neg : (x y : Float) → T (le x y) → T (le (neg y) (neg x))
-unfolding le neg
-le-neg nan y h = absurd h
-le-neg (inf s) nan h = absurd h
-le-neg (inf true) (inf true) h = tt
-le-neg (inf true) (inf false) h = tt
-le-neg (inf false) (inf true) h = absurd h
-le-neg (inf false) (inf false) h = tt
-le-neg (inf true) (fin t n d) h = tt
-le-neg (inf false) (fin t n d) h = absurd h
-le-neg (fin s m e) nan h = absurd h
-le-neg (fin s m e) (inf true) h = absurd h
-le-neg (fin s m e) (inf false) h = tt
-le-neg (fin s m e) (fin t n d) h =
-    of-at-most (not t) (n * up d * down e) (not s) (m * up e * down d) (flip s (m * up e * down d) t (n * up d * down e) (at-most s (m * up e * down d) t (n * up d * down e) h))
+unfolding neg
+le-neg = le-cases (λ x y. T (le (neg y) (neg x))) (λ y n. le-inf (neg y) (rw neg-number n)) (λ x n. inf-le (neg x) (rw neg-number n))
+    (λ s m e t n d h. at-most→le (not t) n d (not s) m e (flip s (m * up e * down d) t (n * up d * down e) h))
 
--- `neg` turns the strict order round.
 pub lt-neg : (x y : Float) → T (lt x y) → T (lt (neg y) (neg x))
 lt-neg x y h =
     let k = le-neg x y (le-of-lt x y h) in
     lt-of-not-le (neg x) (neg y) (number-right (neg y) (neg x) k) (number-left (neg y) (neg x) k)
     (not-T (le (neg x) (neg y)) (λ g. lt-not-le x y h (subst (λ (z : Float). T (le z x)) (neg-neg y) (subst (λ (z : Float). T (le (neg (neg y)) z)) (neg-neg x) (le-neg (neg x) (neg y) g)))))
 
--- A size has no sign.
 pub abs-neg : (x : Float) → absOf (neg x) ≡ absOf x
 unfolding neg absOf
 abs-neg nan = refl
 abs-neg (inf s) = refl
 abs-neg (fin s m e) = refl
 
--- Taking the size makes a NaN of nothing else.
 pub abs-number : (x : Float) → isNan (absOf x) ≡ isNan x
 unfolding absOf isNan
 abs-number nan = refl
 abs-number (inf s) = refl
 abs-number (fin s m e) = refl
 
--- A size is the value, or the value's negative.
+pub abs-fits : (f : Format) (x : Float) → T (fits f x) → T (fits f (absOf x))
+unfolding absOf fits
+abs-fits f nan h = tt
+abs-fits f (inf s) h = tt
+abs-fits f (fin s zero e) h = h
+abs-fits f (fin s (suc m) e) h = h
+
 pub abs-is : (x : Float) → (absOf x ≡ x) ⊎ (absOf x ≡ neg x)
 unfolding neg absOf
 abs-is nan = inl refl
@@ -317,14 +305,12 @@ abs-is (inf false) = inl refl
 abs-is (fin true m e) = inr refl
 abs-is (fin false m e) = inl refl
 
--- A size is not negative.
 pub abs-not-negative : (x : Float) → T (not (isNan x)) → T (le nought (absOf x))
 unfolding le absOf isNan
 abs-not-negative nan n = absurd n
 abs-not-negative (inf s) n = tt
 abs-not-negative (fin s m e) n = of-at-most false (0 * 1 * down e) false (m * up e * 1) (omega (arith, zero-mul (down e)))
 
--- A value is at most its size.
 pub le-abs : (x : Float) → T (not (isNan x)) → T (le x (absOf x))
 unfolding le absOf isNan
 le-abs nan n = absurd n
@@ -333,7 +319,6 @@ le-abs (inf false) n = tt
 le-abs (fin true m e) n = of-at-most true (m * up e * down e) false (m * up e * down e) (omega arith)
 le-abs (fin false m e) n = of-at-most false (m * up e * down e) false (m * up e * down e) (omega arith)
 
--- What lies between -k and k has a size of at most k.
 pub abs-le : (x k : Float) → T (le (neg k) x) → T (le x k) → T (le (absOf x) k)
 abs-le x k h g = elim (abs-is x) [
   | inl e ↦ subst (λ (z : Float). T (le z k)) (sym e) g
@@ -343,16 +328,13 @@ abs-le x k h g = elim (abs-is x) [
 sized-number : (x k : Float) → T (le (absOf x) k) → T (not (isNan x))
 sized-number x k h = subst (λ (b : Bool). T (not b)) (abs-number x) (number-left (absOf x) k h)
 
--- A value with a size of at most k is at most k.
 pub le-of-abs-le : (x k : Float) → T (le (absOf x) k) → T (le x k)
 le-of-abs-le x k h = le-trans x (absOf x) k (le-abs x (sized-number x k h)) h
 
--- A value with a size of at most k is at least -k.
 pub ge-of-abs-le : (x k : Float) → T (le (absOf x) k) → T (le (neg k) x)
 ge-of-abs-le x k h = subst (λ (z : Float). T (le (neg k) z)) (neg-neg x) (le-neg (neg x) k (le-of-abs-le (neg x) k (subst (λ (z : Float). T (le z k)) (sym (abs-neg x)) h)))
 
 -- ---- equal values of one format
--- Two equal values that one format holds are the same value, or both zeros.
 pub eq-held : (f : Format) (x y : Float) → T (fits f x) → T (fits f y) → T (eq x y) → (x ≡ y) ⊎ (T (eq x nought) × T (eq y nought))
 unfolding eq
 eq-held f nan y i j h = absurd h

@@ -28,42 +28,26 @@ cmp a b = go (compare a b) (leb→le a b) (nleb→lt a b) (eqb→eq a b) (λ (e 
     go Ordering·eq h k e n = e tt
     go Ordering·gt h k e n = k tt
 
-lt-eq : (a b : ℕ) → a < b → a ≡ b → ⊥
-lt-eq a b h e = omega arith
-
-lt-gt : (a b : ℕ) → a < b → b < a → ⊥
-lt-gt a b h e = omega arith
-
 -- two pairs that are in the same order compare alike
 compare-same : (a b c d : ℕ) → (a < b → c < d) → (a ≡ b → c ≡ d) → (b < a → d < c) → compare c d ≡ compare a b
 compare-same a b c d l e g = go (compare a b) (compare c d) (cmp a b) (cmp c d)
   where
     go : (o p : Ordering) → Cmp o a b → Cmp p c d → p ≡ o
     go Ordering·lt Ordering·lt x y = refl
-    go Ordering·lt Ordering·eq x y = absurd (lt-eq c d (l x) y)
-    go Ordering·lt Ordering·gt x y = absurd (lt-gt c d (l x) y)
-    go Ordering·eq Ordering·lt x y = absurd (lt-eq c d y (e x))
+    go Ordering·lt Ordering·eq x y = absurd (omega (arith, l x))
+    go Ordering·lt Ordering·gt x y = absurd (omega (arith, l x))
+    go Ordering·eq Ordering·lt x y = absurd (omega (arith, e x))
     go Ordering·eq Ordering·eq x y = refl
-    go Ordering·eq Ordering·gt x y = absurd (lt-eq d c y (sym (e x)))
-    go Ordering·gt Ordering·lt x y = absurd (lt-gt c d y (g x))
-    go Ordering·gt Ordering·eq x y = absurd (lt-eq d c (g x) (sym y))
+    go Ordering·eq Ordering·gt x y = absurd (omega (arith, sym (e x)))
+    go Ordering·gt Ordering·lt x y = absurd (omega (arith, g x))
+    go Ordering·gt Ordering·eq x y = absurd (omega (arith, g x, sym y))
     go Ordering·gt Ordering·gt x y = refl
 
 pub compare-scale : (a b u : ℕ) → 0 < u → compare (a * u) (b * u) ≡ compare a b
 compare-scale a b u U = compare-same a b (a * u) (b * u) (λ h. mul-lt-mul-of-pos-right h U) (λ e. ap (λ (x : ℕ). x * u) e) (λ h. mul-lt-mul-of-pos-right h U)
 
 pub compare-lt : (a b : ℕ) → a < b → compare a b ≡ Ordering·lt
-compare-lt a b h = go (compare a b) (cmp a b)
-  where
-    go : (o : Ordering) → Cmp o a b → o ≡ Ordering·lt
-    go Ordering·lt x = refl
-    go Ordering·eq x = absurd (lt-eq a b h x)
-    go Ordering·gt x = absurd (lt-gt a b h x)
+compare-lt a b h = compare-same 0 1 a b (λ l. h) (λ e. absurd (omega arith)) (λ g. absurd (omega arith))
 
 pub compare-gt : (a b : ℕ) → b < a → compare a b ≡ Ordering·gt
-compare-gt a b h = go (compare a b) (cmp a b)
-  where
-    go : (o : Ordering) → Cmp o a b → o ≡ Ordering·gt
-    go Ordering·lt x = absurd (lt-gt a b x h)
-    go Ordering·eq x = absurd (lt-eq b a h (sym x))
-    go Ordering·gt x = refl
+compare-gt a b h = compare-same 1 0 a b (λ l. absurd (omega arith)) (λ e. absurd (omega arith)) (λ g. h)

@@ -3,14 +3,15 @@
 use mathlib.Core.Path.{_≡_, refl, sym, ap, _∙_, subst}
 use mathlib.Core.Logic.{_⊎_, inl, inr}
 use Prim.Native.Nat.{ℕ, zero, suc, _+_, _-_, _*_, _^_, _≤_, _<_}
-use native.Mathlib.Nat.{le-of-mul-le-mul-right, lt-irrefl, zero-lt-suc, mul-pos, mul-le-mul-right, zero-mul, mul-zero, mul-mul-mul-comm, eq-zero-or-pos, eq-or-lt-of-le, add-comm as plus-comm}
+use native.Mathlib.Nat.{le-of-mul-le-mul-right, lt-irrefl, zero-lt-suc, mul-pos, mul-le-mul-right, zero-mul, mul-zero, mul-mul-mul-comm, eq-zero-or-pos, eq-or-lt-of-le}
 use native.Mathlib.Omega.{arith}
-use mathlib.Core.Bool.{Bool, true, false, not, _&&_, _||_, cond}
+use mathlib.Core.Bool.{Bool, true, false, not, _&&_, _||_, Bool·beq, cond, and-comm}
 use lib.IntN.{pos}
 use lib.Dec.{T, ltb, eqb, ltb→lt, lt→ltb, nltb→le, eqb→eq}
-use lib.Ieee.{Float, nan, inf, fin, Format, binary32, binary64, prec, emax, low, unlike, odd, units, round, sum, neg, below, level}
+use lib.Ieee.{Float, nan, inf, fin, Format, binary32, binary64, prec, emax, low, unlike, odd, units, round, sum, neg, below, level, isNan}
 use lib.Ieee.Fits.{and-i, and-l, and-r, eq→eqb, round-is}
 use lib.Ieee.Scale.{round-same}
+use Rattle.numbers.specs.Nearest.{apart, sumSize, sumSign}
 
 abbrev pub plus : Bool → ℕ → ℕ
 plus s a = cond s 0 a
@@ -50,14 +51,8 @@ of-not-below true a true b h = let k : a ≤ b = nltb→le b a h in omega arith
 
 pub of-level : (s : Bool) (a : ℕ) (t : Bool) (b : ℕ) → T (level s a t b) → plus s a + minus t b ≡ plus t b + minus s a
 of-level false a false b h = let k : a ≡ b = eqb→eq a b (and-l (eqb a b) true h) in omega arith
-of-level false a true b h =
-    let k : a ≡ b = eqb→eq a b (and-l (eqb a b) (eqb a 0) h) in
-    let z : a ≡ 0 = eqb→eq a 0 (and-r (eqb a b) (eqb a 0) h) in
-    omega arith
-of-level true a false b h =
-    let k : a ≡ b = eqb→eq a b (and-l (eqb a b) (eqb a 0) h) in
-    let z : a ≡ 0 = eqb→eq a 0 (and-r (eqb a b) (eqb a 0) h) in
-    omega arith
+of-level false a true b h = omega (arith, eqb→eq a b (and-l (eqb a b) (eqb a 0) h), eqb→eq a 0 (and-r (eqb a b) (eqb a 0) h))
+of-level true a false b h = omega (arith, eqb→eq a b (and-l (eqb a b) (eqb a 0) h), eqb→eq a 0 (and-r (eqb a b) (eqb a 0) h))
 of-level true a true b h = let k : a ≡ b = eqb→eq a b (and-l (eqb a b) true h) in omega arith
 
 pub at-most : (s : Bool) (a : ℕ) (t : Bool) (b : ℕ) → T (below s a t b || level s a t b) → AtMost s a t b
@@ -70,27 +65,15 @@ at-most s a t b h = elim (or-split (below s a t b) (level s a t b) h) [
 both : (a b : ℕ) → a + b ≤ 0 → T (eqb a b && eqb a 0)
 both a b h = let z : a ≡ 0 = omega arith in let e : a ≡ b = omega arith in and-i (eqb a b) (eqb a 0) (eq→eqb e) (eq→eqb z)
 
+-- a test for less, or another that holds where the two are the same
+less-or : (a b : ℕ) (e : Bool) → a ≤ b → (a ≡ b → T e) → T (ltb a b || e)
+less-or a b e l k = elim (eq-or-lt-of-le l) [ inl q ↦ or-r (ltb a b) e (k q) | inr q ↦ or-l (ltb a b) e (lt→ltb a b q) ]
+
 pub of-at-most : (s : Bool) (a : ℕ) (t : Bool) (b : ℕ) → AtMost s a t b → T (below s a t b || level s a t b)
-of-at-most false a false b h = elim (eq-or-lt-of-le (le-of-sums a b h)) [
-  | inl e ↦ or-r (ltb a b) (level false a false b) (and-i (eqb a b) true (eq→eqb e) tt)
-  | inr l ↦ or-l (ltb a b) (level false a false b) (lt→ltb a b l)
-]
-  where
-    le-of-sums : (a b : ℕ) → a + 0 ≤ b + 0 → a ≤ b
-    le-of-sums a b h = omega arith
+of-at-most false a false b h = less-or a b (level false a false b) (omega arith) (λ e. and-i (eqb a b) true (eq→eqb e) tt)
 of-at-most false a true b h = both a b (omega arith)
-of-at-most true a false b h = go (ltb 0 (a + b)) (nltb→le 0 (a + b))
-  where
-    go : (c : Bool) → (T (not c) → a + b ≤ 0) → T (c || level true a false b)
-    go true k = tt
-    go false k = both a b (k tt)
-of-at-most true a true b h = elim (eq-or-lt-of-le (le-of-sums a b h)) [
-  | inl e ↦ or-r (ltb b a) (level true a true b) (and-i (eqb a b) true (eq→eqb (sym e)) tt)
-  | inr l ↦ or-l (ltb b a) (level true a true b) (lt→ltb b a l)
-]
-  where
-    le-of-sums : (a b : ℕ) → 0 + b ≤ 0 + a → b ≤ a
-    le-of-sums a b h = omega arith
+of-at-most true a false b h = less-or 0 (a + b) (level true a false b) (omega arith) (λ e. both a b (omega arith))
+of-at-most true a true b h = less-or b a (level true a true b) (omega arith) (λ e. and-i (eqb a b) true (eq→eqb (sym e)) tt)
 
 pub flip : (s : Bool) (a : ℕ) (t : Bool) (b : ℕ) → AtMost s a t b → AtMost (not t) b (not s) a
 flip false a false b h = omega arith
@@ -136,60 +119,66 @@ through s X p t Y q v Z r Q h k = to-order s X r v Z p (past (plus s X) (minus s
         le-of-mul-le-mul-right l Q
 
 -- ---- sums
--- v is `round` of a signed number that is the sum of ±a and ±b
-pub record Rounded (f : Format) (v : Float) (s : Bool) (a : ℕ) (t : Bool) (b c : ℕ) : Type 0 where
-  pub sign : Bool
-  pub size : ℕ
-  pub is : v ≡ round f sign size c
-  pub value : plus sign size + minus s a + minus t b ≡ minus sign size + plus s a + plus t b
+-- by the order of the two sizes
+by-order : (a b : ℕ) (P : Bool → Bool → Type 0) → (a < b → P true false) → (b < a → P false true) → (a ≡ b → P false false) → P (ltb a b) (ltb b a)
+by-order a b P l g e = go (ltb a b) (ltb→lt a b) (nltb→le a b) (ltb b a) (ltb→lt b a) (nltb→le b a)
+  where
+    go : (x : Bool) → (T x → a < b) → (T (not x) → b ≤ a) → (y : Bool) → (T y → b < a) → (T (not y) → a ≤ b) → P x y
+    go true h k true h' k' = absurd (omega (arith, h tt, h' tt))
+    go true h k false h' k' = l (h tt)
+    go false h k true h' k' = g (h' tt)
+    go false h k false h' k' = e (omega (arith, k tt, k' tt))
 
-pub sum-is : (f : Format) (s : Bool) (a : ℕ) (t : Bool) (b c : ℕ) → Rounded f (sum f s a t b c) s a t b c
+-- v is ±r rounded over c, and ±r is ±a + ±b
+pub record Summed (f : Format) (v : Float) (s : Bool) (a : ℕ) (t : Bool) (b c : ℕ) (u : Bool) (r : ℕ) : Type 0 where
+  pub is : v ≡ round f u r c
+  pub value : plus u r + minus s a + minus t b ≡ minus u r + plus s a + plus t b
+
+-- what `sum` rounds
+pub summed : (f : Format) (s : Bool) (a : ℕ) (t : Bool) (b c : ℕ) → Summed f (sum f s a t b c) s a t b c (sumSign s a t b) (sumSize s a t b)
 unfolding sum
-sum-is f false a false b c = record { sign = false; size = a + b; is = refl; value = omega arith }
-sum-is f true a true b c = record { sign = true; size = a + b; is = refl; value = omega arith }
-sum-is f false a true b c = go (ltb a b) (ltb→lt a b) (nltb→le a b)
+summed f s a t b c =
+    by-order a b
+    (λ x y. Summed f (cond (Bool·beq s t) (round f s (a + b) c) (cond x (round f t (b - a) c) (round f (s && y) (a - b) c))) s a t b c (cond x t (cond y s (s && t))) (sumSize s a t b))
+    (less s t) (more s t) (same s t)
   where
-    go : (x : Bool) → (T x → a < b) → (T (not x) → b ≤ a) → Rounded f (cond x (round f true (b - a) c) (round f false (a - b) c)) false a true b c
-    go true l g = let k : a < b = l tt in record { sign = true; size = b - a; is = refl; value = omega arith }
-    go false l g = let k : b ≤ a = g tt in record { sign = false; size = a - b; is = refl; value = omega arith }
-sum-is f true a false b c = go (ltb a b) (ltb→lt a b) (nltb→le a b) (ltb b a) (ltb→lt b a) (nltb→le b a)
-  where
-    go : (x : Bool) → (T x → a < b) → (T (not x) → b ≤ a) → (y : Bool) → (T y → b < a) → (T (not y) → a ≤ b)
-        → Rounded f (cond x (round f false (b - a) c) (round f y (a - b) c)) true a false b c
-    go true l g y l' g' = let k : a < b = l tt in record { sign = false; size = b - a; is = refl; value = omega arith }
-    go false l g true l' g' = let k : b < a = l' tt in record { sign = true; size = a - b; is = refl; value = omega arith }
-    go false l g false l' g' = let k : b ≤ a = g tt in let k' : a ≤ b = g' tt in record { sign = false; size = a - b; is = refl; value = omega arith }
+    less : (s t : Bool) → a < b → Summed f (cond (Bool·beq s t) (round f s (a + b) c) (round f t (b - a) c)) s a t b c t (sumSize s a t b)
+    less true true l = record { is = refl; value = omega arith }
+    less false false l = record { is = refl; value = omega arith }
+    less true false l = record { is = ap (λ (z : ℕ). round f false z c) (omega arith); value = omega arith }
+    less false true l = record { is = ap (λ (z : ℕ). round f true z c) (omega arith); value = omega arith }
+
+    more : (s t : Bool) → b < a → Summed f (cond (Bool·beq s t) (round f s (a + b) c) (round f (s && true) (a - b) c)) s a t b c s (sumSize s a t b)
+    more true true l = record { is = refl; value = omega arith }
+    more false false l = record { is = refl; value = omega arith }
+    more true false l = record { is = ap (λ (z : ℕ). round f true z c) (omega arith); value = omega arith }
+    more false true l = record { is = ap (λ (z : ℕ). round f false z c) (omega arith); value = omega arith }
+
+    same : (s t : Bool) → a ≡ b → Summed f (cond (Bool·beq s t) (round f s (a + b) c) (round f (s && false) (a - b) c)) s a t b c (s && t) (sumSize s a t b)
+    same true true e = record { is = refl; value = omega arith }
+    same false false e = record { is = refl; value = omega arith }
+    same true false e = record { is = ap (λ (z : ℕ). round f false z c) (omega arith); value = omega arith }
+    same false true e = record { is = ap (λ (z : ℕ). round f false z c) (omega arith); value = omega arith }
 
 -- that number is at most the sum of the sizes
-pub sum-size : (u : Bool) (r : ℕ) (s : Bool) (a : ℕ) (t : Bool) (b : ℕ) → plus u r + minus s a + minus t b ≡ minus u r + plus s a + plus t b → r ≤ a + b
-sum-size true r true a true b e = omega arith
-sum-size true r true a false b e = omega arith
-sum-size true r false a true b e = omega arith
-sum-size true r false a false b e = omega arith
-sum-size false r true a true b e = omega arith
-sum-size false r true a false b e = omega arith
-sum-size false r false a true b e = omega arith
-sum-size false r false a false b e = omega arith
-
-unlike-sum-comm : (f : Format) (a b c : ℕ) → sum f false a true b c ≡ sum f true b false a c
-unfolding sum
-unlike-sum-comm f a b c = go (ltb a b) (ltb→lt a b) (nltb→le a b) (ltb b a) (ltb→lt b a) (nltb→le b a)
+pub sum-size : (s : Bool) (a : ℕ) (t : Bool) (b : ℕ) → sumSize s a t b ≤ a + b
+sum-size s a t b = go (Bool·beq s t)
   where
-    never : a < b → b < a → ⊥
-    never h k = omega arith
-
-    go : (x : Bool) → (T x → a < b) → (T (not x) → b ≤ a) → (y : Bool) → (T y → b < a) → (T (not y) → a ≤ b)
-        → cond x (round f true (b - a) c) (round f false (a - b) c) ≡ cond y (round f false (a - b) c) (round f x (b - a) c)
-    go true l g true l' g' = absurd (never (l tt) (l' tt))
-    go true l g false l' g' = refl
-    go false l g true l' g' = refl
-    go false l g false l' g' = let k : b ≤ a = g tt in let k' : a ≤ b = g' tt in ap (λ (z : ℕ). round f false z c) (omega arith)
+    go : (x : Bool) → cond x (a + b) (apart a b) ≤ a + b
+    go true = omega arith
+    go false = omega arith
 
 pub sum-comm : (f : Format) (s : Bool) (a : ℕ) (t : Bool) (b c : ℕ) → sum f s a t b c ≡ sum f t b s a c
-sum-comm f true a true b c = unfold sum in ap (λ (z : ℕ). round f true z c) (plus-comm a b)
-sum-comm f true a false b c = sym (unlike-sum-comm f b a c)
-sum-comm f false a true b c = unlike-sum-comm f a b c
-sum-comm f false a false b c = unfold sum in ap (λ (z : ℕ). round f false z c) (plus-comm a b)
+sum-comm f s a t b c = summed f s a t b c .is ∙ (λ i. round f (signs i) (sizes s t i) c) ∙ sym (summed f t b s a c .is)
+  where
+    signs : sumSign s a t b ≡ sumSign t b s a
+    signs = by-order a b (λ x y. cond x t (cond y s (s && t)) ≡ cond y s (cond x t (t && s))) (λ l. refl) (λ l. refl) (λ e. and-comm s t)
+
+    sizes : (s t : Bool) → sumSize s a t b ≡ sumSize t b s a
+    sizes true true = omega arith
+    sizes true false = omega arith
+    sizes false true = omega arith
+    sizes false false = omega arith
 
 -- with X / p ≤ X' / p', and Y / q added to both
 pub sums-order : (s : Bool) (X p : ℕ) (s' : Bool) (X' p' : ℕ) (t : Bool) (Y q : ℕ) (u : Bool) (r : ℕ) (v : Bool) (w : ℕ) → AtMost s (X * p') s' (X' * p)
@@ -244,12 +233,18 @@ Signed s nan = ⊥
 Signed s (inf t) = t ≡ s
 Signed s (fin t m e) = t ≡ s
 
+pub signed-number : (s : Bool) (x : Float) → Signed s x → T (not (isNan x))
+unfolding isNan
+signed-number s nan h = h
+signed-number s (inf t) h = tt
+signed-number s (fin t m e) h = tt
+
 odd-signed : (d : ℕ) (s : Bool) (q k l : ℕ) → Signed s (odd d s q k l)
 unfolding odd
 odd-signed d s zero k l = refl
 odd-signed d s (suc q) k l = refl
 
-units-signed : (f : Format) (s : Bool) (q k : ℕ) → Signed s (units f s q k)
+pub units-signed : (f : Format) (s : Bool) (q k : ℕ) → Signed s (units f s q k)
 unfolding units
 units-signed f s q k = go (ltb (q * 2 ^ k) (2 ^ (low f + suc (emax f))))
   where

@@ -50,7 +50,7 @@ in-units num den a c C L e =
     ∙ apart-scale (num * L) (C * den) c
 
 -- two distances are in the order of their counts
-units-order : (L A de X B dd Y : ℕ) → 0 < L → A * L ≡ X * de → B * L ≡ Y * dd → X ≤ Y → A * dd ≤ B * de
+pub units-order : (L A de X B dd Y : ℕ) → 0 < L → A * L ≡ X * de → B * L ≡ Y * dd → X ≤ Y → A * dd ≤ B * de
 units-order L A de X B dd Y P p q h = transfer A B de dd X Y L L P P p q (mul-le-mul-right L h)
 
 -- and the counts in the order of the distances
@@ -65,11 +65,8 @@ order-units L A de X B dd Y P Q p q h = le-of-mul-le-mul-right (bound (mul-le-mu
 last : (f : Format) (s : Bool) (k j : ℕ) → (cond s (top f) 0 + (k * hid f + j)) % 2 ≡ j % 2
 last f s k j = subst (λ (h : ℕ). (cond s (h * suc (ones f)) 0 + (k * h + j)) % 2 ≡ j % 2) (sym hid-even) (go s (2 ^ (prec f - 2)) (suc (ones f)))
   where
-    less : (p : ℕ) → 2 ≤ p → p - 1 ≡ suc (p - 2)
-    less p h = omega arith
-
     hid-even : hid f ≡ 2 * 2 ^ (prec f - 2)
-    hid-even = ap (λ (x : ℕ). 2 ^ x) (less (prec f) (two f)) ∙ pow-succ' 2 (prec f - 2)
+    hid-even = ap (λ (x : ℕ). 2 ^ x) (omega (arith, two f)) ∙ pow-succ' 2 (prec f - 2)
 
     go : (s : Bool) (g x : ℕ) → (cond s (2 * g * x) 0 + (k * (2 * g) + j)) % 2 ≡ j % 2
     go true g x = omega arith
@@ -152,10 +149,7 @@ reached f num den D h =
     let o : b * 2 ^ x .K * den ≤ 2 * (num * L) =
     overflows (prec f) (x .K) (num * L) den D (subst (λ (y : ℕ). 2 ^ y ≤ kept (prec f) (num * L) den * 2 ^ drop (prec f) (num * L) den) (x .ends) h) in
     let e : 2 ^ x .K ≡ 2 ^ (emax f - prec f) * L * 2 = ap (λ (y : ℕ). 2 ^ y) (sym (x .mid)) ∙ pow-add 2 (emax f - prec f + low f) 1 ∙ ap (λ (y : ℕ). y * 2) (pow-add 2 (emax f - prec f) (low f)) in
-    subst (λ (y : ℕ). y * den ≤ num) (sym (middle-is f)) (le-of-mul-le-mul-right (cancel b (2 ^ (emax f - prec f)) L (subst (λ (y : ℕ). b * y * den ≤ 2 * (num * L)) e o)) (pow-pos (low f)))
-  where
-    cancel : (b g L : ℕ) → b * (g * L * 2) * den ≤ 2 * (num * L) → b * g * den * L ≤ num * L
-    cancel b g L h = omega arith
+    subst (λ (y : ℕ). y * den ≤ num) (sym (middle-is f)) (le-of-mul-le-mul-right (omega (arith, subst (λ (y : ℕ). b * y * den ≤ 2 * (num * L)) e o)) (pow-pos (low f)))
 
 -- ---- the value that `round` counts is the closest
 module _ (f : Format) (num den : ℕ) (D : 0 < den) where
@@ -233,16 +227,13 @@ module _ (f : Format) (num den : ℕ) (D : 0 < den) where
         | inr o ↦ absurd (clash (o .0) (o .1) (o .2))
       ]
     where
-      no : (a b c d : ℕ) → a ≡ b → a ≡ c % 2 → b ≡ d % 2 → c % 2 ≡ 0 → d % 2 ≡ 1 → ⊥
-      no a b c d x y z u t = omega arith
-
       clash : (j : ℕ) → count f n d (held f s n d (x .held)) ≡ j * 2 ^ k → Other q w j → ⊥
       clash j c o =
           let g = x .held in
           let odd : toBits f (fin s n d) % 2 ≡ j % 2 = parity f s n d j k (held f s n d g .value ∙ ap (λ (y : ℕ). y * down d) c) (le-trans (o .to) (whole-lt p N den)) (full j (o .from)) in
           let even : toBits f (fin s m e) % 2 ≡ w % 2 = last-of s m e v in
-          let differ : fin s m e ≢ fin s n d = λ i. no (toBits f (fin s m e) % 2) (toBits f (fin s n d) % 2) w j (ap (λ (y : Float). toBits f y % 2) i) even odd (o .even) (o .odd) in
-          no (toBits f (fin s n d) % 2) (toBits f (fin s n d) % 2) w j refl (x .tie m e fit differ (le-antisymm (x .no-nearer m e fit) (closest-is s m e fit v .no-nearer n d g)) ∙ sym (o .even)) odd (o .even) (o .odd)
+          let differ : fin s m e ≢ fin s n d = λ i. omega (arith, ap (λ (y : Float). toBits f y % 2) i, o .even, o .odd) in
+          omega (arith, x .tie m e fit differ (le-antisymm (x .no-nearer m e fit) (closest-is s m e fit v .no-nearer n d g)) ∙ sym (o .even), o .even, o .odd)
 
 -- below the middle `round` gives a count
 pub counted : (f : Format) (s : Bool) (num den : ℕ) (D : 0 < den) → num < middle f * den → HasValue (round f s num den) s (grid f num den) (2 ^ low f)

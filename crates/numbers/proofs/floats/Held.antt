@@ -1,16 +1,17 @@
 -- A finite value that a format holds, counted in the format's smallest values, and that it is written in one way. Assumes nothing.
-use mathlib.Core.Path.{_≡_, sym, ap, _∙_, subst}
+use mathlib.Core.Path.{_≡_, refl, sym, ap, _∙_, subst}
 use Prim.Native.Nat.{ℕ, zero, suc, _+_, _-_, _*_, _%_, _^_, _≤_, _<_}
 use native.Mathlib.Nat.{mul-assoc, mul-one, zero-mul, mul-right-comm, mul-lt-mul-of-pos-right, eq-of-mul-eq-mul-right, add-comm}
 use mathlib.Core.Bool.{Bool, _&&_}
 use lib.IntN.{ℤ, pos, negsuc}
 use lib.Dec.{T, leb, ltb, eqb, ltb→lt, leb→le}
 use lib.Pow.{pow-add, pow-pos}
-use lib.Ieee.{Float, nan, inf, fin, Format, prec, emax, low, up, down, fits, toBits, ofBits}
+use lib.Ieee.{Float, fin, Format, prec, emax, low, up, down, fits, toBits, ofBits}
 use lib.Ieee.Digits.{back}
 use lib.Ieee.Fits.{down-pos, and-l, and-r}
 use lib.Ieee.Exact.{HasValue}
 use lib.Ieee.Bits.{ofBits-toBits}
+use Rattle.numbers.proofs.floats.Values.{with-value}
 use Rattle.numbers.proofs.floats.Patterns.{toBits-val, pow-le-back, shifted}
 
 -- m * 2 ^ e, counted in the format's smallest values, is a number of no more digits than the format keeps, and zeros after it.
@@ -66,29 +67,14 @@ held f s zero e h = record {
   fine = pow-pos (low f + suc (emax f));
   value = ap (λ (x : ℕ). x * 2 ^ low f) (zero-mul (up e)) ∙ zero-mul (2 ^ low f) ∙ sym (zero-mul (down e));
 }
-held f s (suc m) e h = go e few lo fine
+held f s (suc m) e h =
+    let A = eqb (suc m % 2) 1 in
+    let B = ltb (suc m) (2 ^ prec f) in
+    let C = leb (down e) (2 ^ low f) in
+    let D = ltb (suc m * up e) (2 ^ suc (emax f) * down e) in
+    go e (ltb→lt (suc m) (2 ^ prec f) (and-r A B (and-l (A && B) C (and-l (A && B && C) D h)))) (leb→le (down e) (2 ^ low f) (and-r (A && B) C (and-l (A && B && C) D h)))
+    (ltb→lt (suc m * up e) (2 ^ suc (emax f) * down e) (and-r (A && B && C) D h))
   where
-    A : Bool
-    A = eqb (suc m % 2) 1
-
-    B : Bool
-    B = ltb (suc m) (2 ^ prec f)
-
-    C : Bool
-    C = leb (down e) (2 ^ low f)
-
-    D : Bool
-    D = ltb (suc m * up e) (2 ^ suc (emax f) * down e)
-
-    few : suc m < 2 ^ prec f
-    few = ltb→lt (suc m) (2 ^ prec f) (and-r A B (and-l (A && B) C (and-l (A && B && C) D h)))
-
-    lo : down e ≤ 2 ^ low f
-    lo = leb→le (down e) (2 ^ low f) (and-r (A && B) C (and-l (A && B && C) D h))
-
-    fine : suc m * up e < 2 ^ suc (emax f) * down e
-    fine = ltb→lt (suc m * up e) (2 ^ suc (emax f) * down e) (and-r (A && B && C) D h)
-
     go : (e : ℤ) → suc m < 2 ^ prec f → down e ≤ 2 ^ low f → suc m * up e < 2 ^ suc (emax f) * down e → Held f (suc m) e
     go (pos a) x y z = whole f m a x z
     go (negsuc a) x y z = parts f m a x y z
@@ -105,16 +91,12 @@ counted f m e h a c v =
 
 -- two values of one format that are the same number with the same sign are the same
 pub value-unique : (f : Format) (x y : Float) (s : Bool) (a c : ℕ) → 0 < c → T (fits f x) → T (fits f y) → HasValue x s a c → HasValue y s a c → x ≡ y
-value-unique f nan y s a c C p q v w = absurd v
-value-unique f (inf t) y s a c C p q v w = absurd v
-value-unique f (fin t m e) nan s a c C p q v w = absurd w
-value-unique f (fin t m e) (inf u) s a c C p q v w = absurd w
-value-unique f (fin t m e) (fin u n d) s a c C p q v w =
-    let h = held f t m e p in
-    let k = held f u n d q in
-    let same : count f m e h ≡ count f n d k = eq-of-mul-eq-mul-right c C (count f m e h) (count f n d k) (sym (counted f m e h a c (v .1)) ∙ counted f n d k a c (w .1)) in
-    let x = fin t m e in
-    let y = fin u n d in
-    let is : toBits f x ≡ toBits f y =
-    toBits-val f x s (count f n d k) (v .0, h .value ∙ ap (λ (z : ℕ). z * down e) same) ∙ sym (toBits-val f y s (count f n d k) (w .0, k .value)) in
-    sym (ofBits-toBits f x p) ∙ ap (ofBits f) is ∙ ofBits-toBits f y q
+value-unique f x y s a c C p q v w =
+    with-value (λ x. T (fits f x) → x ≡ y) x s a c v (λ m e v p. with-value (λ y. T (fits f y) → fin s m e ≡ y) y s a c w (λ n d w q.
+    let h = held f s m e p in
+    let k = held f s n d q in
+    let x = fin s m e in
+    let y = fin s n d in
+    let same : count f m e h ≡ count f n d k = eq-of-mul-eq-mul-right c C (count f m e h) (count f n d k) (sym (counted f m e h a c v) ∙ counted f n d k a c w) in
+    let is : toBits f x ≡ toBits f y = toBits-val f x s (count f n d k) (refl, h .value ∙ ap (λ (z : ℕ). z * down e) same) ∙ sym (toBits-val f y s (count f n d k) (refl, k .value)) in
+    sym (ofBits-toBits f x p) ∙ ap (ofBits f) is ∙ ofBits-toBits f y q) q) p

@@ -6,13 +6,14 @@ use native.Mathlib.Nat.{le-trans, le-of-eq, le-of-lt, le-antisymm, le-dest, lt-o
 use native.Mathlib.Omega.{arith}
 use lib.Arith.{add-le-cancel-left}
 use lib.Pow.{pow-add, pow-pos, pow-mono, shl-lt, le-ones}
-use lib.Ieee.{size, nearest}
+use lib.Ieee.{nearest}
 use lib.Ieee.Digits.{size-reaches, size-le}
 use lib.Ieee.Fits.{kept-lt, nearest-le}
 use lib.Ieee.Nearest.{closest}
 use lib.Ieee.Order.{drop, kept}
 use Rattle.numbers.specs.Nearest.{apart}
 use Rattle.numbers.proofs.floats.Compared.{Cmp, cmp, le-or-lt}
+use Rattle.numbers.proofs.floats.Differences.{zero-of}
 use Rattle.numbers.proofs.floats.Patterns.{shifted, pow-le-back}
 
 -- ---- how far q * u + r is from j * u
@@ -36,14 +37,6 @@ pub record Best (n u q w j : ℕ) : Type 0 where
   pub near : apart n (w * u) ≤ apart n (j * u)
   pub same : apart n (w * u) ≡ apart n (j * u) → (j ≡ w) ⊎ Other q w j
 
--- no units are no steps
-none : (i u : ℕ) → 0 < u → i * u ≡ 0 → i ≡ 0
-none zero u U e = refl
-none (suc i) u U e = absurd (no (i * u) u U e)
-  where
-    no : (x u : ℕ) → 0 < u → suc i * u ≡ 0 → ⊥
-    no x u U e = omega arith
-
 -- at a tie the chosen one is even, one of the two, and half a unit away
 record Tied (q u r w : ℕ) : Type 0 where
   even : w % 2 ≡ 0
@@ -56,10 +49,7 @@ tied q u r c = go (q % 2) refl
     go : (b : ℕ) → q % 2 ≡ b → Tied q u r (q + b)
     go zero e = record { even = omega arith; either = inl (omega arith); far = omega arith }
     go (suc zero) e = record { even = omega arith; either = inr (omega arith); far = omega arith }
-    go (suc (suc b)) e = absurd (no q b e)
-      where
-        no : (q b : ℕ) → q % 2 ≡ suc (suc b) → ⊥
-        no q b e = omega arith
+    go (suc (suc b)) e = absurd (omega arith)
 
 -- the two beside a tie
 split : (q w j : ℕ) → w % 2 ≡ 0 → (w ≡ q) ⊎ (w ≡ suc q) → (j ≡ q) ⊎ (j ≡ suc q) → (j ≡ w) ⊎ Other q w j
@@ -72,39 +62,33 @@ split q w j v (inr a) (inl b) = inr record { even = v; odd = omega arith; from =
 lower : (q u r j i : ℕ) (o : Ordering) → r < u → Cmp o (r * 2) u → j + i ≡ q → Best (q * u + r) u q (nearest q o) j
 lower q u r j i Ordering·lt R c e =
     let b = from-below q u r j i e in
-    record { near = omega arith; same = λ h. let z : i ≡ 0 = none i u (omega arith) (omega arith) in inl (omega arith) }
+    record { near = omega arith; same = λ h. let z : i ≡ 0 = zero-of i u (omega arith) (omega arith) in inl (omega arith) }
 lower q u r j i Ordering·eq R c e =
     let b = from-below q u r j i e in
     let t = tied q u r c in
     record {
       near = omega arith;
-      same = λ h. let z : i ≡ 0 = none i u (omega arith) (omega arith) in split q (q + q % 2) j (t .even) (t .either) (inl (omega arith));
+      same = λ h. let z : i ≡ 0 = zero-of i u (omega arith) (omega arith) in split q (q + q % 2) j (t .even) (t .either) (inl (omega arith));
     }
 lower q u r j i Ordering·gt R c e =
     let b = from-below q u r j i e in
-    record { near = omega arith; same = λ h. absurd (no h b) }
-  where
-    no : apart (q * u + r) (suc q * u) ≡ apart (q * u + r) (j * u) → apart (q * u + r) (j * u) ≡ i * u + r → ⊥
-    no h b = omega arith
+    record { near = omega arith; same = λ h. absurd (omega arith) }
 
 -- a multiple i units above q + 1
 higher : (q u r j i : ℕ) (o : Ordering) → r < u → Cmp o (r * 2) u → suc q + i ≡ j → Best (q * u + r) u q (nearest q o) j
 higher q u r j i Ordering·lt R c e =
     let b = from-above q u r j i R e in
-    record { near = omega arith; same = λ h. absurd (no h b) }
-  where
-    no : apart (q * u + r) (q * u) ≡ apart (q * u + r) (j * u) → apart (q * u + r) (j * u) ≡ i * u + (u - r) → ⊥
-    no h b = omega arith
+    record { near = omega arith; same = λ h. absurd (omega arith) }
 higher q u r j i Ordering·eq R c e =
     let b = from-above q u r j i R e in
     let t = tied q u r c in
     record {
       near = omega arith;
-      same = λ h. let z : i ≡ 0 = none i u (omega arith) (omega arith) in split q (q + q % 2) j (t .even) (t .either) (inr (omega arith));
+      same = λ h. let z : i ≡ 0 = zero-of i u (omega arith) (omega arith) in split q (q + q % 2) j (t .even) (t .either) (inr (omega arith));
     }
 higher q u r j i Ordering·gt R c e =
     let b = from-above q u r j i R e in
-    record { near = omega arith; same = λ h. let z : i ≡ 0 = none i u (omega arith) (omega arith) in inl (omega arith) }
+    record { near = omega arith; same = λ h. let z : i ≡ 0 = zero-of i u (omega arith) (omega arith) in inl (omega arith) }
 
 -- The whole number that `nearest` chooses is the best multiple.
 best : (q u r j : ℕ) (o : Ordering) → r < u → Cmp o (r * 2) u → Best (q * u + r) u q (nearest q o) j
@@ -132,25 +116,18 @@ pub whole-ge : (p n den : ℕ) → 0 < p → 0 < drop p n den → 2 ^ (p - 1) �
 whole-ge p n den P K =
     let k = drop p n den in
     subst (λ (x : ℕ). 2 ^ (p - 1) ≤ x) (div-div-eq-div-mul n den (2 ^ k))
-    (le-div-iff-mul-le (pow-pos k) .1 (le-trans (le-of-eq (sym (pow-add 2 (p - 1) k))) (size-reaches (n / den) (p - 1 + k) (all (size (n / den)) p P K))))
-  where
-    all : (z p : ℕ) → 0 < p → 0 < z - p → p - 1 + (z - p) < z
-    all z p P h = omega arith
+    (le-div-iff-mul-le (pow-pos k) .1 (le-trans (le-of-eq (sym (pow-add 2 (p - 1) k))) (size-reaches (n / den) (p - 1 + k) (omega arith))))
 
 -- c * 2 ^ z is as near to n / den as the chosen multiple only where it is that one, or the odd one at a tie
 pub record Beside (n den k q w C : ℕ) : Type 0 where
   pub near : apart n (w * 2 ^ k * den) ≤ apart n (C * den)
   pub same : apart n (w * 2 ^ k * den) ≡ apart n (C * den) → (C ≡ w * 2 ^ k) ⊎ ((j : ℕ) × (C ≡ j * 2 ^ k) × Other q w j)
 
--- a product turned
-turn : (a b c : ℕ) → a * (b * c) ≡ a * c * b
-turn a b c = omega arith
-
 -- what is a multiple of 2 ^ k
 multiple : (n den k q w j C : ℕ) → C ≡ j * 2 ^ k → Best n (den * 2 ^ k) q w j → Beside n den k q w C
 multiple n den k q w j C e b =
-    let x : w * (den * 2 ^ k) ≡ w * 2 ^ k * den = turn w den (2 ^ k) in
-    let y : j * (den * 2 ^ k) ≡ C * den = turn j den (2 ^ k) ∙ ap (λ (a : ℕ). a * den) (sym e) in
+    let x : w * (den * 2 ^ k) ≡ w * 2 ^ k * den = omega arith in
+    let y : j * (den * 2 ^ k) ≡ C * den = omega arith ∙ ap (λ (a : ℕ). a * den) (sym e) in
     record {
       near = subst (λ (a : ℕ). apart n a ≤ apart n (C * den)) x (subst (λ (a : ℕ). apart n (w * (den * 2 ^ k)) ≤ apart n a) y (b .near));
       same = λ h. elim (b .same (ap (apart n) x ∙ h ∙ ap (apart n) (sym y))) [ inl i ↦ inl (e ∙ ap (λ (a : ℕ). a * 2 ^ k) i) | inr o ↦ inr (j, e, o) ];
@@ -159,12 +136,13 @@ multiple n den k q w j C e b =
 -- what is less than q * 2 ^ k, which is at most n / den
 less : (n den k q w C : ℕ) → C * den < q * (den * 2 ^ k) → q * (den * 2 ^ k) ≤ n → Best n (den * 2 ^ k) q w q → Beside n den k q w C
 less n den k q w C l h b =
-    let x : w * (den * 2 ^ k) ≡ w * 2 ^ k * den = turn w den (2 ^ k) in
-    let far : apart n (w * 2 ^ k * den) < apart n (C * den) = subst (λ (a : ℕ). apart n a < apart n (C * den)) x (further (w * (den * 2 ^ k)) (q * (den * 2 ^ k)) (C * den) (b .near) l h) in
+    let x : w * (den * 2 ^ k) ≡ w * 2 ^ k * den = omega arith in
+    let far : apart n (w * 2 ^ k * den) < apart n (C * den) = subst (λ (a : ℕ). apart n a < apart n (C * den)) x (omega (arith, b .near)) in
     record { near = le-of-lt far; same = λ g. absurd (lt-irrefl (apart n (C * den)) (subst (λ (a : ℕ). a < apart n (C * den)) g far)) }
-  where
-    further : (x y c : ℕ) → apart n x ≤ apart n y → c < y → y ≤ n → apart n x < apart n c
-    further x y c a b d = omega arith
+
+-- a number of p digits with fewer zeros after it is smaller than one that has all of its p digits
+pub fewer : (p c z k q : ℕ) → 0 < p → c < 2 ^ p → z < k → 2 ^ (p - 1) ≤ q → c * 2 ^ z < q * 2 ^ k
+fewer p c z k q P F g l = lt-of-lt-of-le (shl-lt p z F) (le-trans (pow-mono (omega arith)) (le-trans (le-of-eq (pow-add 2 (p - 1) k)) (mul-le-mul-right (2 ^ k) l)))
 
 -- Of all numbers of at most p digits and zeros after them none is nearer.
 pub best-number : (p n den c z : ℕ) → 0 < p → 0 < den → c < 2 ^ p → Beside n den (drop p n den) (whole p n den) (kept p n den) (c * 2 ^ z)
@@ -172,7 +150,7 @@ best-number p n den c z P D F = elim (le-or-lt k z) [
   | inl g ↦ multiple n den k q (kept p n den) (c * 2 ^ (z - k)) (c * 2 ^ z) (shifted c k z g) (best-multiple n (den * 2 ^ k) (c * 2 ^ (z - k)) U)
   | inr g ↦
       less n den k q (kept p n den) (c * 2 ^ z)
-      (lt-of-lt-of-le (mul-lt-mul-of-pos-right (fewer g) D) (le-of-eq (sym (turn q den (2 ^ k)))))
+      (lt-of-lt-of-le (mul-lt-mul-of-pos-right (fewer p c z k q P F g (whole-ge p n den P (omega arith))) D) (le-of-eq (sym (omega arith))))
       (div-mul-le-self n (den * 2 ^ k)) (best-multiple n (den * 2 ^ k) q U)
 ]
   where
@@ -184,17 +162,6 @@ best-number p n den c z P D F = elim (le-or-lt k z) [
 
     U : 0 < den * 2 ^ k
     U = mul-pos D (pow-pos k)
-
-    room : (z k p : ℕ) → 0 < p → z < k → p + z ≤ p - 1 + k
-    room z k p P h = omega arith
-
-    some : (z k : ℕ) → z < k → 0 < k
-    some z k h = omega arith
-
-    fewer : z < k → c * 2 ^ z < q * 2 ^ k
-    fewer g =
-        lt-of-lt-of-le (shl-lt p z F)
-        (le-trans (pow-mono (room z k p P g)) (le-trans (le-of-eq (pow-add 2 (p - 1) k)) (mul-le-mul-right (2 ^ k) (whole-ge p n den P (some z k g)))))
 
 -- ---- where the chosen number reaches 2 ^ (p + K), the fraction reaches the middle between (2 ^ p - 1) * 2 ^ K and it
 -- at most half a unit is added
@@ -218,7 +185,7 @@ overflows p K n den D h = elim (le-or-lt ((2 ^ (p + 1) - 1) * 2 ^ K * den) (2 * 
   | inl l ↦ l
   | inr l ↦
       let k = drop p n den in
-      let few : k ≤ K = spare (size (n / den)) p K (size-le (n / den) (p + K) (div-lt-iff-lt-mul D .1 (subst (λ (x : ℕ). n < x * den) (sym (pow-add 2 p K)) (halved (2 ^ p) (2 ^ K) n (subst (λ (x : ℕ). 2 * n < (x - 1) * 2 ^ K * den) (pow-add 2 p 1) l))))) in
+      let few : k ≤ K = omega (arith, size-le (n / den) (p + K) (div-lt-iff-lt-mul D .1 (subst (λ (x : ℕ). n < x * den) (sym (pow-add 2 p K)) (halved (2 ^ p) (2 ^ K) n (subst (λ (x : ℕ). 2 * n < (x - 1) * 2 ^ K * den) (pow-add 2 p 1) l))))) in
       let many : K ≤ k = add-le-cancel-left p (pow-le-back (p + K) (p + k) (le-trans h (le-trans (mul-le-mul-right (2 ^ k) (kept-le p n den)) (le-of-eq (sym (pow-add 2 p k)))))) in
       let e : k ≡ K = le-antisymm few many in
       let top : 2 ^ p ≤ kept p n den = le-of-mul-le-mul-right (subst (λ (x : ℕ). 2 ^ p * 2 ^ K ≤ kept p n den * 2 ^ x) e (subst (λ (x : ℕ). x ≤ kept p n den * 2 ^ k) (pow-add 2 p K) h)) (pow-pos K) in
@@ -226,9 +193,6 @@ overflows p K n den D h = elim (le-or-lt ((2 ^ (p + 1) - 1) * 2 ^ K * den) (2 * 
       (reached (2 ^ p) (2 ^ K) (kept p n den) top (subst (λ (x : ℕ). 2 * (kept p n den * (den * 2 ^ x)) ≤ 2 * n + den * 2 ^ x) e (gained n (den * 2 ^ k) (mul-pos D (pow-pos k)))))
 ]
   where
-    spare : (z p K : ℕ) → z ≤ p + K → z - p ≤ K
-    spare z p K h = omega arith
-
     halved : (a b n : ℕ) → 2 * n < (a * 2 - 1) * b * den → n < a * b * den
     halved a b n h =
         let l : (a * 2 - 1) * b * den ≤ a * 2 * b * den = mul-le-mul-right den (mul-le-mul-right b (omega arith)) in
@@ -236,10 +200,7 @@ overflows p K n den D h = elim (le-or-lt ((2 ^ (p + 1) - 1) * 2 ^ K * den) (2 * 
 
     less-one : (w X : ℕ) → 2 * (w * (den * X)) ≤ 2 * n + den * X → (w * 2 - 1) * X * den ≤ 2 * n
     less-one zero X g = omega arith
-    less-one (suc w) X g = subst (λ (x : ℕ). x * X * den ≤ 2 * n) (odd w) (omega arith)
-      where
-        odd : (w : ℕ) → 2 * w + 1 ≡ suc w * 2 - 1
-        odd w = omega arith
+    less-one (suc w) X g = let o : 2 * w + 1 ≡ suc w * 2 - 1 = omega arith in subst (λ (x : ℕ). x * X * den ≤ 2 * n) o (omega arith)
 
     reached : (a X w : ℕ) → a ≤ w → 2 * (w * (den * X)) ≤ 2 * n + den * X → (a * 2 - 1) * X * den ≤ 2 * n
     reached a X w l g = le-trans (mul-le-mul-right den (mul-le-mul-right X (omega arith))) (less-one w X g)

@@ -3,18 +3,20 @@
 use mathlib.Core.Path.{_≡_, refl, sym, ap, _∙_, subst}
 use mathlib.Core.Logic.{_⊎_, inl, inr}
 use Prim.Native.Nat.{ℕ, zero, suc, _+_, _-_, _*_, _/_, _%_, _^_, _≤_, _<_, compare, Ordering, Ordering·lt, Ordering·eq, Ordering·gt}
-use native.Mathlib.Nat.{le-trans, le-of-eq, le-antisymm, le-refl, lt-of-lt-of-le, lt-of-le-of-lt, lt-irrefl, lt-of-not-le, eq-or-lt-of-le, le-of-suc-le-suc, le-dest, le-div-iff-mul-le, div-lt-iff-lt-mul, mul-div-cancel, mul-le-mul-right, le-of-mul-le-mul-right, mul-assoc, mul-one, pow-succ', add-mul-div-right, add-mul-mod-self-right, add-assoc, add-suc}
+use native.Mathlib.Nat.{le-trans, le-of-eq, le-refl, lt-of-lt-of-le, lt-of-le-of-lt, lt-irrefl, lt-of-not-le, eq-or-lt-of-le, le-of-suc-le-suc, le-dest, le-div-iff-mul-le, div-lt-iff-lt-mul, mul-div-cancel, mul-le-mul-right, le-of-mul-le-mul-right, mul-assoc, mul-one, pow-succ', add-mul-div-right, add-mul-mod-self-right, add-assoc}
 use native.Mathlib.Omega.{arith}
 use mathlib.Core.Bool.{Bool, true, false, not, cond}
 use lib.IntN.{ℤ}
 use lib.Dec.{T, ltb, ltb→lt, nltb→le}
 use lib.Pow.{pow-add, pow-pos, pow-mono, pow-lt, shl-lt}
-use lib.Ieee.{Float, nan, inf, fin, Format, prec, emax, low, up, down, size, nearest, odd, units, round, isNan, hid, ones, top, ofBits, toBits, nanBits}
+use lib.Ieee.{Float, inf, fin, Format, prec, emax, low, up, down, size, nearest, odd, units, round, hid, ones, top, ofBits, toBits, nanBits}
 use lib.Ieee.Digits.{back, size-lt, size-le}
 use lib.Ieee.Fits.{round-is, two, reach, two-le-pos, odd-fits, inf-fits, down-pos}
 use lib.Ieee.Exact.{HasValue, odd-sign}
 use lib.Ieee.Nearest.{closest}
 use lib.Ieee.Bits.{ofBits-toBits, nanBits-is}
+use Rattle.numbers.proofs.floats.Differences.{units-signed, signed-number}
+use Rattle.numbers.proofs.floats.Values.{with-value}
 
 -- ---- how many digits are dropped
 pub pow-lt-back : (i p : ℕ) → 2 ^ i < 2 ^ p → i < p
@@ -26,30 +28,19 @@ pow-le-back i p h = le-of-suc-le-suc (lt-of-not-le (λ (g : suc p ≤ i). lt-irr
 pub size-gt : (n j : ℕ) → 2 ^ j ≤ n → j < size n
 size-gt n j h = pow-lt-back j (size n) (lt-of-le-of-lt h (size-lt n))
 
-pub size-exact : (a n : ℕ) → 2 ^ a ≤ n → n < 2 ^ suc a → size n ≡ suc a
-size-exact a n lo hi = le-antisymm (size-le n (suc a) hi) (size-gt n a lo)
+-- how many of n's digits stand after the first p
+pub size-drop : (p n k : ℕ) → 0 < p → 2 ^ (p - 1 + k) ≤ n → n < 2 ^ (p + k) → size n - p ≡ k
+size-drop p n k P lo hi = omega (arith, size-gt n (p - 1 + k) lo, size-le n (p + k) hi)
 
 -- n * 2 ^ j as a multiple of 2 ^ k
 pub shifted : (n k j : ℕ) → k ≤ j → n * 2 ^ j ≡ n * 2 ^ (j - k) * 2 ^ k
 shifted n k j h = ap (λ (x : ℕ). n * 2 ^ x) (sym (back j k h)) ∙ ap (λ (x : ℕ). n * x) (pow-add 2 (j - k) k) ∙ sym (mul-assoc n (2 ^ (j - k)) (2 ^ k))
 
-pub one-more : (p k : ℕ) → 0 < p → suc (p - 1 + k) ≡ p + k
-one-more p k h = omega arith
-
-pub dropped : (z p k : ℕ) → z ≡ p + k → z - p ≡ k
-dropped z p k e = omega arith
-
-none-over : (z p : ℕ) → z ≤ p → z - p ≡ 0
-none-over z p h = omega arith
-
 pub drop-is : (p n den k : ℕ) → 0 < p → 0 < den → 2 ^ (p - 1 + k) * den ≤ n → n < 2 ^ (p + k) * den → size (n / den) - p ≡ k
-drop-is p n den k P D lo hi =
-    dropped (size (n / den)) p k
-    (size-exact (p - 1 + k) (n / den) (le-div-iff-mul-le D .1 lo) (subst (λ (z : ℕ). n / den < 2 ^ z) (sym (one-more p k P)) (div-lt-iff-lt-mul D .1 hi))
-    ∙ one-more p k P)
+drop-is p n den k P D lo hi = size-drop p (n / den) k P (le-div-iff-mul-le D .1 lo) (div-lt-iff-lt-mul D .1 hi)
 
 pub drop-none : (p n den : ℕ) → 0 < den → n < 2 ^ p * den → size (n / den) - p ≡ 0
-drop-none p n den D hi = none-over (size (n / den)) p (size-le (n / den) p (div-lt-iff-lt-mul D .1 hi))
+drop-none p n den D hi = omega (arith, size-le (n / den) p (div-lt-iff-lt-mul D .1 hi))
 
 -- so `round` is `units` of the nearest multiple
 pub round-at : (f : Format) (s : Bool) (num den k : ℕ) → size (num * 2 ^ low f / den) - prec f ≡ k
@@ -57,16 +48,10 @@ pub round-at : (f : Format) (s : Bool) (num den k : ℕ) → size (num * 2 ^ low
 round-at f s num den k e = round-is f s num den ∙ ap (λ (j : ℕ). units f s (closest (num * 2 ^ low f) (den * 2 ^ j)) j) e
 
 -- ---- the nearest multiple, moved by an even number of units
-even-more : (c w : ℕ) → c % 2 ≡ 0 → w + c + (w + c) % 2 ≡ w + w % 2 + c
-even-more c w e = omega arith
-
-suc-more : (c w : ℕ) → suc (w + c) ≡ suc w + c
-suc-more c w = omega arith
-
 nearest-shift : (c w : ℕ) (o : Ordering) → c % 2 ≡ 0 → nearest (w + c) o ≡ nearest w o + c
 nearest-shift c w Ordering·lt e = refl
-nearest-shift c w Ordering·eq e = even-more c w e
-nearest-shift c w Ordering·gt e = suc-more c w
+nearest-shift c w Ordering·eq e = omega arith
+nearest-shift c w Ordering·gt e = omega arith
 
 pub closest-shift : (n u c : ℕ) → 0 < u → c % 2 ≡ 0 → closest (n + c * u) u ≡ closest n u + c
 closest-shift n u c U e =
@@ -82,17 +67,12 @@ toBits-is f s m e n p = ap (λ (x : ℕ). cond s (top f) 0 + (size x - prec f) *
 
 pub toBits-val : (f : Format) (x : Float) (s : Bool) (a : ℕ) → HasValue x s a (2 ^ low f)
     → toBits f x ≡ cond s (top f) 0 + (size a - prec f) * hid f + a / 2 ^ (size a - prec f)
-toBits-val f nan s a h = absurd h
-toBits-val f (inf t) s a h = absurd h
-toBits-val f (fin t m e) s a h =
-    toBits-is f t m e a (ap (λ (x : ℕ). x / down e) (h .1) ∙ mul-div-cancel a (down-pos e))
-    ∙ ap (λ (b : Bool). cond b (top f) 0 + (size a - prec f) * hid f + a / 2 ^ (size a - prec f)) (h .0)
+toBits-val f x s a h =
+    with-value (λ x. toBits f x ≡ cond s (top f) 0 + (size a - prec f) * hid f + a / 2 ^ (size a - prec f)) x s a (2 ^ low f) h
+    (λ m e p. toBits-is f s m e a (ap (λ (x : ℕ). x / down e) p ∙ mul-div-cancel a (down-pos e)))
 
 twice-hid : (p : ℕ) → 0 < p → 2 ^ p ≡ 2 * 2 ^ (p - 1)
-twice-hid p h = ap (λ (x : ℕ). 2 ^ x) (suc-pred p h) ∙ pow-succ' 2 (p - 1)
-  where
-    suc-pred : (p : ℕ) → 0 < p → p ≡ suc (p - 1)
-    suc-pred p h = omega arith
+twice-hid p h = ap (λ (x : ℕ). 2 ^ x) (omega arith) ∙ pow-succ' 2 (p - 1)
 
 -- the field and the digits that `toBits` writes for a
 abbrev pub written : ℕ → ℕ → ℕ
@@ -102,39 +82,25 @@ written-at : (p a k q : ℕ) → size a - p ≡ k → a ≡ q * 2 ^ k → writte
 written-at p a k q d e =
     ap (λ (j : ℕ). j * 2 ^ (p - 1) + a / 2 ^ j) d ∙ ap (λ (x : ℕ). k * 2 ^ (p - 1) + x / 2 ^ k) e ∙ ap (λ (x : ℕ). k * 2 ^ (p - 1) + x) (mul-div-cancel q (pow-pos k))
 
-step : (a h : ℕ) → suc a * h + h ≡ a * h + 2 * h
-step a h = omega arith
-
 pub written-is : (p q k : ℕ) → 0 < p → q ≤ 2 ^ p → (k ≡ 0) ⊎ (2 ^ (p - 1) ≤ q) → written p (q * 2 ^ k) ≡ k * 2 ^ (p - 1) + q
 written-is p q k P hi lo = elim (eq-or-lt-of-le hi) [
   | inl e ↦
       let a = q * 2 ^ k in
       let e1 : a ≡ 2 ^ (p - 1) * 2 ^ suc k =
-      ap (λ (x : ℕ). x * 2 ^ k) (e ∙ twice-hid p P) ∙ regroup (2 ^ (p - 1)) (2 ^ k) ∙ ap (λ (x : ℕ). 2 ^ (p - 1) * x) (sym (pow-succ' 2 k)) in
+      ap (λ (x : ℕ). x * 2 ^ k) (e ∙ twice-hid p P) ∙ omega arith ∙ ap (λ (x : ℕ). 2 ^ (p - 1) * x) (sym (pow-succ' 2 k)) in
       let e2 : a ≡ 2 ^ (p + k) = ap (λ (x : ℕ). x * 2 ^ k) e ∙ sym (pow-add 2 p k) in
       written-at p a (suc k) (2 ^ (p - 1))
-      (dropped (size a) p (suc k) (size-exact (p + k) a (le-of-eq (sym e2)) (lt-of-le-of-lt (le-of-eq e2) (pow-lt (le-refl (suc (p + k))))) ∙ sym (add-suc p k)))
-      e1
-      ∙ step k (2 ^ (p - 1))
+      (omega (arith, size-gt a (p + k) (le-of-eq (sym e2)), size-le a (suc (p + k)) (lt-of-le-of-lt (le-of-eq e2) (pow-lt (le-refl (suc (p + k))))))) e1
+      ∙ omega arith
       ∙ ap (λ (x : ℕ). k * 2 ^ (p - 1) + x) (sym (e ∙ twice-hid p P))
   | inr l ↦ written-at p (q * 2 ^ k) k q (below l lo) refl
 ]
   where
-    regroup : (h t : ℕ) → 2 * h * t ≡ h * (2 * t)
-    regroup h t = omega arith
-
     below : q < 2 ^ p → (k ≡ 0) ⊎ (2 ^ (p - 1) ≤ q) → size (q * 2 ^ k) - p ≡ k
-    below l (inl z) = subst (λ (j : ℕ). size (q * 2 ^ j) - p ≡ j) (sym z) (none-over (size (q * 2 ^ 0)) p (size-le (q * 2 ^ 0) p (subst (λ (x : ℕ). x < 2 ^ p) (sym (mul-one q)) l)))
-    below l (inr g) =
-        dropped (size (q * 2 ^ k)) p k
-        (size-exact (p - 1 + k) (q * 2 ^ k) (le-trans (le-of-eq (pow-add 2 (p - 1) k)) (mul-le-mul-right (2 ^ k) g)) (subst (λ (z : ℕ). q * 2 ^ k < 2 ^ z) (sym (one-more p k P)) (shl-lt p k l))
-        ∙ one-more p k P)
+    below l (inl z) = subst (λ (j : ℕ). size (q * 2 ^ j) - p ≡ j) (sym z) (omega (arith, size-le (q * 2 ^ 0) p (subst (λ (x : ℕ). x < 2 ^ p) (sym (mul-one q)) l)))
+    below l (inr g) = size-drop p (q * 2 ^ k) k P (le-trans (le-of-eq (pow-add 2 (p - 1) k)) (mul-le-mul-right (2 ^ k) g)) (shl-lt p k l)
 
 -- ---- where it overflows the pattern is the infinity's
--- from q * 2 ^ k at or above 2 ^ (low + emax + 1)
-far : (p e k : ℕ) → 2 ≤ p → e + p - 2 + suc e ≤ p + k → 2 * e ≤ suc k
-far p e k P h = omega arith
-
 -- d is how far suc k is above 2 * e
 full : (e h k q d : ℕ) → suc k ≡ 2 * e + d → 0 < h → h ≤ q → q ≤ 2 * h → (d ≡ 0 → 2 * h ≤ q) → k * h + q ≤ (2 * e + 1) * h → k * h + q ≡ (2 * e + 1) * h
 full e h k q zero s p lo hi big fit = let f : 2 * h ≤ q = big refl in omega (arith, ap (λ (x : ℕ). x * h) s)
@@ -144,12 +110,6 @@ full e h k q (suc (suc d)) s p lo hi big fit = omega (arith, ap (λ (x : ℕ). x
 toBits-inf : (f : Format) (s : Bool) → toBits f (inf s) ≡ cond s (top f) 0 + ones f * hid f
 unfolding toBits
 toBits-inf f s = refl
-
-no-zero : (p e k : ℕ) → 2 ≤ p → p ≤ suc e → 2 * e ≤ suc k → k ≡ 0 → ⊥
-no-zero p e k P R h z = omega arith
-
-edge : (p e k : ℕ) → 2 ≤ p → suc k ≡ 2 * e + 0 → p + k ≡ e + p - 2 + suc e
-edge p e k P h = omega arith
 
 pub pattern : (f : Format) (s : Bool) (q k : ℕ) → q ≤ 2 ^ prec f → (k ≡ 0) ⊎ (hid f ≤ q) → k * hid f + q ≤ ones f * hid f
     → ofBits f (cond s (top f) 0 + (k * hid f + q)) ≡ units f s q k
@@ -177,31 +137,18 @@ pattern f s q k hi lo fit = go (ltb (q * 2 ^ k) over) (ltb→lt (q * 2 ^ k) over
         ∙ ofBits-toBits f v (odd-fits f (suc (prec f)) s q k (lt-of-le-of-lt hi (pow-lt (le-refl (suc (prec f))))) hi (h tt))
     go false h g =
         let up-to : low f + suc (emax f) ≤ prec f + k = pow-le-back (low f + suc (emax f)) (prec f + k) (le-trans (g tt) (le-trans (mul-le-mul-right (2 ^ k) hi) (le-of-eq (sym (pow-add 2 (prec f) k))))) in
-        let k-ge : 2 * emax f ≤ suc k = far (prec f) (emax f) k (two f) up-to in
+        let k-ge : 2 * emax f ≤ suc k = omega (arith, two f) in
         let d = le-dest k-ge .0 in
         let sk : suc k ≡ 2 * emax f + d = sym (le-dest k-ge .1) in
-        let q-ge : hid f ≤ q = elim lo [ inl z ↦ absurd (no-zero (prec f) (emax f) k (two f) (reach f) k-ge z) | inr l ↦ l ] in
+        let q-ge : hid f ≤ q = elim lo [ inl z ↦ absurd (omega (arith, two f, reach f)) | inr l ↦ l ] in
         let whole : d ≡ 0 → 2 * hid f ≤ q =
         λ z. le-trans (le-of-eq (sym (twice-hid (prec f) P)))
-        (le-of-mul-le-mul-right (le-trans (le-of-eq (sym (pow-add 2 (prec f) k) ∙ ap (λ (x : ℕ). 2 ^ x) (edge (prec f) (emax f) k (two f) (sk ∙ ap (λ (x : ℕ). 2 * emax f + x) z)))) (g tt)) (pow-pos k)) in
+        (le-of-mul-le-mul-right (le-trans (le-of-eq (sym (pow-add 2 (prec f) k) ∙ ap (λ (x : ℕ). 2 ^ x) (omega (arith, two f, sk ∙ ap (λ (x : ℕ). 2 * emax f + x) z)))) (g tt)) (pow-pos k)) in
         ap (ofBits f)
         (ap (λ (x : ℕ). cond s (top f) 0 + x) (full (emax f) (hid f) k q d sk (pow-pos (prec f - 1)) q-ge (le-trans hi (le-of-eq (twice-hid (prec f) P))) whole fit) ∙ sym (toBits-inf f s))
         ∙ ofBits-toBits f (inf s) (inf-fits f s)
 
-units-no-nan : (f : Format) (s : Bool) (q k : ℕ) → isNan (units f s q k) ≡ false
-unfolding units odd isNan
-units-no-nan f s zero k = go (ltb (zero * 2 ^ k) (2 ^ (low f + suc (emax f))))
-  where
-    go : (b : Bool) → isNan (cond b (odd (suc (prec f)) s zero k (low f)) (inf s)) ≡ false
-    go true = refl
-    go false = refl
-units-no-nan f s (suc q) k = go (ltb (suc q * 2 ^ k) (2 ^ (low f + suc (emax f))))
-  where
-    go : (b : Bool) → isNan (cond b (odd (suc (prec f)) s (suc q) k (low f)) (inf s)) ≡ false
-    go true = refl
-    go false = refl
-
 pub pattern-no-nan : (f : Format) (s : Bool) (q k : ℕ) → q ≤ 2 ^ prec f → (k ≡ 0) ⊎ (hid f ≤ q) → k * hid f + q ≤ ones f * hid f
     → T (not (nanBits f (cond s (top f) 0 + (k * hid f + q))))
 pattern-no-nan f s q k hi lo fit =
-    subst (λ (b : Bool). T (not b)) (sym (nanBits-is f (cond s (top f) 0 + (k * hid f + q)) ∙ ap isNan (pattern f s q k hi lo fit) ∙ units-no-nan f s q k)) tt
+    rw (nanBits-is f (cond s (top f) 0 + (k * hid f + q)), pattern f s q k hi lo fit) (signed-number s (units f s q k) (units-signed f s q k))

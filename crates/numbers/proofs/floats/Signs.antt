@@ -1,7 +1,7 @@
 -- The bit pattern of a value without its sign: the pattern's rest by the sign's weight is the pattern of the value's size. Assumes nothing.
 use mathlib.Core.Path.{_≡_, sym, ap, _∙_, subst}
 use mathlib.Core.Bool.{Bool, true, false, not}
-use Prim.Native.Nat.{ℕ, zero, suc, _+_, _*_, _%_, _<_}
+use Prim.Native.Nat.{ℕ, _+_, _*_, _%_, _<_}
 use native.Mathlib.Nat.{mod-eq-of-lt, add-mod-left, zero-add}
 use native.Mathlib.Omega.{arith}
 use lib.IntN.{ℤ}
@@ -10,31 +10,18 @@ use lib.Ieee.{Float, nan, inf, fin, Format, binary32, binary64, fits, isNan, neg
 use lib.Ieee.Fits.{neg-fits}
 use lib.Ieee.Bits.{toBits-lt, ofBits-toBits, nanBits-is}
 use Rattle.numbers.specs.Scalar.{absOf}
-use Rattle.numbers.proofs.Laws.Order.{abs-number}
-
-regroup : (t a b : ℕ) → t + a + b ≡ t + (0 + a + b)
-regroup t a b = omega arith
-
-lower : (a t : ℕ) → t + a < 2 * t → a < t
-lower a t h = omega arith
+use Rattle.numbers.proofs.Laws.Order.{abs-number, abs-fits}
 
 negative-bits : (f : Format) (m : ℕ) (e : ℤ) → toBits f (fin true m e) ≡ top f + toBits f (fin false m e)
 unfolding toBits
-negative-bits f m e = regroup _ _ _
+negative-bits f m e = omega arith
 
 flipped : (f : Format) (m : ℕ) (e : ℤ) → T (fits f (fin false m e)) → T (fits f (fin true m e))
 unfolding neg
 flipped f m e h = neg-fits f (fin false m e) h
 
 pub size-lt-top : (f : Format) (m : ℕ) (e : ℤ) → T (fits f (fin false m e)) → toBits f (fin false m e) < top f
-size-lt-top f m e h = lower _ _ (subst (λ (n : ℕ). n < 2 * top f) (negative-bits f m e) (toBits-lt f (fin true m e) (flipped f m e h)))
-
-abs-fits : (f : Format) (x : Float) → T (fits f x) → T (fits f (absOf x))
-unfolding absOf fits
-abs-fits f nan h = tt
-abs-fits f (inf s) h = tt
-abs-fits f (fin s zero e) h = h
-abs-fits f (fin s (suc m) e) h = h
+size-lt-top f m e h = omega (arith, subst (λ (n : ℕ). n < 2 * top f) (negative-bits f m e) (toBits-lt f (fin true m e) (flipped f m e h)))
 
 inf-lt : (f : Format) → ones f * hid f < top f
 inf-lt binary32 = lit< tt
@@ -50,8 +37,8 @@ abs-bits f (fin true m e) h n =
 abs-bits f (fin false m e) h n = mod-eq-of-lt (size-lt-top f m e h)
 
 -- so the pattern's rest is read as the value's size, and is no NaN's
-pub read-abs : (f : Format) (x : Float) → T (fits f x) → T (not (isNan x)) → ofBits f (toBits f x % top f) ≡ absOf x
-read-abs f x h n = ap (ofBits f) (abs-bits f x h n) ∙ ofBits-toBits f (absOf x) (abs-fits f x h)
-
-pub abs-pattern : (f : Format) (x : Float) → T (fits f x) → T (not (isNan x)) → T (not (nanBits f (toBits f x % top f)))
-abs-pattern f x h n = subst (λ (b : Bool). T (not b)) (sym (nanBits-is f (toBits f x % top f) ∙ ap isNan (read-abs f x h n))) (subst (λ (b : Bool). T (not b)) (sym (abs-number x)) n)
+pub read-abs : (f : Format) (x : Float) → fits f x ≡ true → T (not (isNan x)) → (ofBits f (toBits f x % top f) ≡ absOf x) × T (not (nanBits f (toBits f x % top f)))
+read-abs f x g n =
+    let h : T (fits f x) = subst T (sym g) tt in
+    let is : ofBits f (toBits f x % top f) ≡ absOf x = ap (ofBits f) (abs-bits f x h n) ∙ ofBits-toBits f (absOf x) (abs-fits f x h) in
+    (is, subst (λ (b : Bool). T (not b)) (sym (nanBits-is f (toBits f x % top f) ∙ ap isNan is ∙ abs-number x)) n)

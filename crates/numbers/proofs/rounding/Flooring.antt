@@ -9,7 +9,7 @@ use lib.IntN.{ℤ, pos, negsuc, negℤ, _-ℤ_, +ℤ-idl}
 use lib.Dec.{T, leb, le→leb, lit<, lit≤}
 use lib.Pow.{pow-add, pow-pos, pow-mono, shl-lt, shl-shr, shr-shr, shl-exact}
 use lib.Arith.{lt→nleb, digits-div}
-use lib.Ieee.{Float, nan, inf, fin, binary64, up, down, isNan, ofFields, ofBits}
+use lib.Ieee.{Float, inf, binary64, up, down, isNan, ofFields, ofBits}
 use lib.Ieee.Fits.{down-pos}
 use lib.Ieee.Exact.{HasValue}
 use lib.Ieee.Nearest.{div-same}
@@ -19,56 +19,38 @@ use mir.Val.{SFits, toZ, ofZ}
 use mir.ValLaws.{toZ-pos, toZ-ofZ}
 use Rattle.numbers.specs.Rounding.{floorOf}
 use Rattle.numbers.specs.Inner.{scaled}
-use Rattle.numbers.proofs.rounding.Narrowing.{val, fields-value, exp, digits, signed, with-lead, lead-lo, top-field}
+use Rattle.numbers.proofs.rounding.Narrowing.{val, fields-value, exp, signed, top-field}
+use Rattle.numbers.proofs.floats.Values.{with-value}
 use Rattle.numbers.proofs.floats.Patterns.{shifted}
 
 -- ---- m * 2 ^ e / 2 ^ 1075, by shifts
 pub scaled-none : (m e : ℕ) → m < 9007199254740992 → e < 1023 → 0 ≡ scaled m e
 unfolding scaled
-scaled-none m e h l = sym (div-eq-of-lt (lt-of-lt-of-le (shl-lt 53 e h) (pow-mono (room e l))))
-  where
-    room : (e : ℕ) → e < 1023 → 53 + e ≤ 1075
-    room e l = omega arith
+scaled-none m e h l = sym (div-eq-of-lt (lt-of-lt-of-le (shl-lt 53 e h) (pow-mono {j = 1075} (omega arith))))
 
 pub scaled-down : (m e : ℕ) → e ≤ 1075 → m / 2 ^ (1075 - e) ≡ scaled m e
 unfolding scaled
-scaled-down m e h = ap (λ (k : ℕ). k / 2 ^ (1075 - e)) (sym (shl-shr m e)) ∙ shr-shr (m * 2 ^ e) e (1075 - e) ∙ ap (λ (k : ℕ). m * 2 ^ e / 2 ^ k) (join e h)
-  where
-    join : (e : ℕ) → e ≤ 1075 → e + (1075 - e) ≡ 1075
-    join e h = omega arith
+scaled-down m e h =
+    let j : e + (1075 - e) ≡ 1075 = omega arith in
+    ap (λ (k : ℕ). k / 2 ^ (1075 - e)) (sym (shl-shr m e)) ∙ shr-shr (m * 2 ^ e) e (1075 - e) ∙ ap (λ (k : ℕ). m * 2 ^ e / 2 ^ k) j
 
 pub scaled-up : (m e : ℕ) → m < 9007199254740992 → 1075 ≤ e → e < 1086 → m * 2 ^ (e - 1075) % 18446744073709551616 ≡ scaled m e
 unfolding scaled
-scaled-up m e h lo hi = shl-exact 53 (e - 1075) 64 h (room e hi) ∙ sym (ap (λ (k : ℕ). k / 2 ^ 1075) (shifted m 1075 e lo) ∙ shl-shr (m * 2 ^ (e - 1075)) 1075)
-  where
-    room : (e : ℕ) → e < 1086 → 53 + (e - 1075) ≤ 64
-    room e h = omega arith
+scaled-up m e h lo hi = shl-exact 53 (e - 1075) 64 h (omega arith) ∙ sym (ap (λ (k : ℕ). k / 2 ^ 1075) (shifted m 1075 e lo) ∙ shl-shr (m * 2 ^ (e - 1075)) 1075)
 
 pub scaled-lt : (m e : ℕ) → m < 9007199254740992 → e < 1086 → scaled m e < 9223372036854775808
 unfolding scaled
-scaled-lt m e h l = div-lt-iff-lt-mul (pow-pos 1075) .1 (lt-of-lt-of-le (shl-lt 53 e h) (le-trans (pow-mono (room e l)) (lit≤ tt)))
-  where
-    room : (e : ℕ) → e < 1086 → 53 + e ≤ 1138
-    room e h = omega arith
+scaled-lt m e h l = div-lt-iff-lt-mul (pow-pos 1075) .1 (lt-of-lt-of-le (shl-lt 53 e h) (le-trans (pow-mono {j = 1138} (omega arith)) (lit≤ tt)))
 
 -- ---- a quotient rounded up
 abbrev pub ceiling : ℕ → ℕ → ℕ
 ceiling a c = (a + (c - 1)) / c
 
 pub ceiling-le : (a c q : ℕ) → 0 < c → a ≤ q * c → ceiling a c ≤ q
-ceiling-le a c q C h = below ((a + (c - 1)) / c) q (div-lt-iff-lt-mul C .1 (less a c q (q * c) C h))
-  where
-    less : (a c q p : ℕ) → 0 < c → a ≤ q * c → a + (c - 1) < suc q * c
-    less a c q p C h = omega arith
-
-    below : (r q : ℕ) → r < suc q → r ≤ q
-    below r q h = omega arith
+ceiling-le a c q C h = let l : a + (c - 1) < suc q * c = omega arith in le-of-suc-le-suc (div-lt-iff-lt-mul C .1 l)
 
 le-ceiling : (a c : ℕ) → 0 < c → a ≤ ceiling a c * c
-le-ceiling a c C = go a c (ceiling a c) ((a + (c - 1)) % c) C (div-add-mod' (a + (c - 1)) c) (mod-lt (a + (c - 1)) C)
-  where
-    go : (a c q r : ℕ) → 0 < c → q * c + r ≡ a + (c - 1) → r < c → a ≤ q * c
-    go a c q r C e l = omega arith
+le-ceiling a c C = omega (arith, div-add-mod' (a + (c - 1)) c, mod-lt (a + (c - 1)) C)
 
 pub ceiling-mono : (a b c d : ℕ) → 0 < b → 0 < d → a * d ≤ c * b → ceiling a b ≤ ceiling c d
 ceiling-mono a b c d B D h = ceiling-le a b (ceiling c d) B (le-of-mul-le-mul-right (le-trans h (le-trans (mul-le-mul-right b (le-ceiling c d D)) (le-of-eq (mul-right-comm (ceiling c d) d b)))) D)
@@ -78,25 +60,13 @@ ceiling-same a b c d B D e = le-antisymm (ceiling-mono a b c d B D (le-of-eq e))
 
 -- of a number above 0 it is one more than the quotient of one less
 pub ceiling-suc : (a c : ℕ) → 0 < a → 0 < c → ceiling a c ≡ suc ((a - 1) / c)
-ceiling-suc a c A C = ap (λ (k : ℕ). k / c) (shift a c A C) ∙ add-mul-div-right (a - 1) 1 C ∙ one ((a - 1) / c)
-  where
-    shift : (a c : ℕ) → 0 < a → 0 < c → a + (c - 1) ≡ a - 1 + 1 * c
-    shift a c A C = omega arith
-
-    one : (q : ℕ) → q + 1 ≡ suc q
-    one q = omega arith
+ceiling-suc a c A C = ap (λ (k : ℕ). k / c) (omega arith) ∙ add-mul-div-right (a - 1) 1 C ∙ omega arith
 
 pub ceiling-zero : (c : ℕ) → 0 < c → ceiling 0 c ≡ 0
-ceiling-zero c C = div-eq-of-lt (less c C)
-  where
-    less : (c : ℕ) → 0 < c → 0 + (c - 1) < c
-    less c C = omega arith
+ceiling-zero c C = div-eq-of-lt (omega arith)
 
 ceiling-whole : (q c : ℕ) → 0 < c → ceiling (q * c) c ≡ q
-ceiling-whole q c C = digits-div q (less c C)
-  where
-    less : (c : ℕ) → 0 < c → c - 1 < c
-    less c C = omega arith
+ceiling-whole q c C = digits-div q (omega arith)
 
 -- ---- by the fraction that a value equals
 abbrev floorFrac : Bool → ℕ → ℕ → ℤ
@@ -104,22 +74,18 @@ floorFrac s a c = cond s (negℤ (pos (min (ceiling a c) 9223372036854775808))) 
 
 floor-value : (x : Float) (s : Bool) (a c : ℕ) → 0 < c → HasValue x s a c → floorOf x ≡ floorFrac s a c
 unfolding floorOf
-floor-value nan s a c C h = absurd h
-floor-value (inf t) s a c C h = absurd h
-floor-value (fin t m e) s a c C h =
-    (λ i. cond (h .0 i) (negℤ (pos (min (ceiling-same (m * up e) (down e) a c (down-pos e) C (h .1) i) 9223372036854775808))) (pos (min (div-same (m * up e) (down e) a c (down-pos e) C (h .1) i) 9223372036854775807)))
+floor-value x s a c C h =
+    with-value (λ x. floorOf x ≡ floorFrac s a c) x s a c h
+    (λ m e p i. cond s (negℤ (pos (min (ceiling-same (m * up e) (down e) a c (down-pos e) C p i) 9223372036854775808))) (pos (min (div-same (m * up e) (down e) a c (down-pos e) C p i) 9223372036854775807)))
 
 -- ---- the number that the fields stand for, in units of 2 ^ -1074, cut and rounded up
 val-div : (e t : ℕ) → t < 4503599627370496 → val e t / 2 ^ 1074 ≡ scaled (4503599627370496 + t) e
 unfolding scaled
-val-div zero t h = div-eq-of-lt (lt-of-lt-of-le (shl-lt 52 0 h) (lit≤ tt)) ∙ scaled-none (4503599627370496 + t) 0 (with-lead t h) (lit< tt)
+val-div zero t h = div-eq-of-lt (lt-of-lt-of-le (shl-lt 52 0 h) (lit≤ tt)) ∙ scaled-none (4503599627370496 + t) 0 (omega arith) (lit< tt)
 val-div (suc x) t h = div-same ((4503599627370496 + t) * 2 ^ x) (2 ^ 1074) ((4503599627370496 + t) * 2 ^ suc x) (2 ^ 1075) (pow-pos 1074) (pow-pos 1075) (doubled (4503599627370496 + t) (2 ^ x) (2 ^ suc x) (2 ^ 1074) (pow-succ' 2 x))
   where
     doubled : (m p r l : ℕ) → r ≡ 2 * p → m * p * (2 * l) ≡ m * r * l
-    doubled m p r l e = swap m p l ∙ sym (ap (λ (k : ℕ). m * k * l) e)
-      where
-        swap : (m p l : ℕ) → m * p * (2 * l) ≡ m * (2 * p) * l
-        swap m p l = omega arith
+    doubled m p r l e = omega arith ∙ sym (ap (λ (k : ℕ). m * k * l) e)
 
 -- from 2 ^ 52 on there is nothing to cut
 val-whole : (e t : ℕ) → t < 4503599627370496 → 1075 ≤ e → ceiling (val e t) (2 ^ 1074) ≡ scaled (4503599627370496 + t) e
@@ -136,72 +102,39 @@ val-whole (suc x) t h l =
 -- below it, of a number above 0, the next whole number is that after what one digit less is cut to
 val-next : (e t : ℕ) → t < 4503599627370496 → e < 1075 → 0 < e + t → ceiling (val e t) (2 ^ 1074) ≡ suc (scaled (4503599627370496 + t - 1) e)
 val-next zero t h l p =
-    ceiling-suc (t * 2 ^ 0) (2 ^ 1074) (some t p) (pow-pos 1074)
-    ∙ ap suc (div-eq-of-lt (lt-of-le-of-lt (less t) (lt-of-lt-of-le (shl-lt 52 0 h) (lit≤ tt))) ∙ scaled-none (4503599627370496 + t - 1) 0 (fits t h) (lit< tt))
-  where
-    some : (t : ℕ) → 0 < 0 + t → 0 < t * 1
-    some t p = omega arith
-
-    less : (t : ℕ) → t * 1 - 1 ≤ t * 1
-    less t = omega arith
-
-    fits : (t : ℕ) → t < 4503599627370496 → 4503599627370496 + t - 1 < 9007199254740992
-    fits t h = omega arith
+    ceiling-suc (t * 2 ^ 0) (2 ^ 1074) (omega arith) (pow-pos 1074)
+    ∙ ap suc (div-eq-of-lt (lt-of-le-of-lt (omega arith) (lt-of-lt-of-le (shl-lt 52 0 h) (lit≤ tt))) ∙ scaled-none (4503599627370496 + t - 1) 0 (omega arith) (lit< tt))
 val-next (suc x) t h l p =
     let m = 4503599627370496 + t in
+    let j : x + (1074 - x) ≡ 1074 = omega arith in
     ceiling-same (m * 2 ^ x) (2 ^ 1074) m (2 ^ (1074 - x)) (pow-pos 1074) (pow-pos (1074 - x))
-    (mul-assoc m (2 ^ x) (2 ^ (1074 - x)) ∙ ap (λ (k : ℕ). m * k) (sym (pow-add 2 x (1074 - x)) ∙ ap (λ (k : ℕ). 2 ^ k) (join x l)))
-    ∙ ceiling-suc m (2 ^ (1074 - x)) (some t) (pow-pos (1074 - x))
-    ∙ ap suc (ap (λ (k : ℕ). (m - 1) / 2 ^ k) (same x) ∙ scaled-down (m - 1) (suc x) (within x l))
-  where
-    join : (x : ℕ) → suc x < 1075 → x + (1074 - x) ≡ 1074
-    join x h = omega arith
-
-    same : (x : ℕ) → 1074 - x ≡ 1075 - suc x
-    same x = omega arith
-
-    within : (x : ℕ) → suc x < 1075 → suc x ≤ 1075
-    within x h = omega arith
-
-    some : (t : ℕ) → 0 < 4503599627370496 + t
-    some t = omega arith
+    (mul-assoc m (2 ^ x) (2 ^ (1074 - x)) ∙ ap (λ (k : ℕ). m * k) (sym (pow-add 2 x (1074 - x)) ∙ ap (λ (k : ℕ). 2 ^ k) j))
+    ∙ ceiling-suc m (2 ^ (1074 - x)) (omega arith) (pow-pos (1074 - x))
+    ∙ ap suc (ap (λ (k : ℕ). (m - 1) / 2 ^ k) (omega arith) ∙ scaled-down (m - 1) (suc x) (omega arith))
 
 -- from 2 ^ 63 on it is out of the range
 val-large : (e t : ℕ) → 1086 ≤ e → 9223372036854775808 * 2 ^ 1074 ≤ val e t
 val-large zero t l = absurd (not-suc-le-zero l)
-val-large (suc x) t l = le-trans (le-trans (lit≤ tt) (pow-mono (room x l))) (le-trans (le-of-eq (pow-add 2 52 x)) (mul-le-mul-right (2 ^ x) (lead-lo t)))
-  where
-    room : (x : ℕ) → 1086 ≤ suc x → 1137 ≤ 52 + x
-    room x h = omega arith
+val-large (suc x) t l = le-trans (le-trans (lit≤ tt) (pow-mono {i = 1137} (omega arith))) (le-trans (le-of-eq (pow-add 2 52 x)) (mul-le-mul-right (2 ^ x) (omega arith)))
 
 -- ---- a pattern's fields
-abbrev pub e-of : ℕ → ℕ
-e-of n = n % 9223372036854775808 / 4503599627370496
-
 abbrev pub t-of : ℕ → ℕ
 t-of n = n % 9223372036854775808 % 4503599627370496
 
 abbrev pub m-of : ℕ → ℕ
 m-of n = 4503599627370496 + t-of n
 
-t-lt : (n : ℕ) → t-of n < 4503599627370496
-t-lt n = omega arith
-
-reads : (n : ℕ) → ofBits binary64 n ≡ ofFields binary64 (leb 9223372036854775808 n) (e-of n) (t-of n)
-unfolding exp digits
-reads n = signed n ∙ ap (ofFields binary64 (leb 9223372036854775808 n) (e-of n)) (last n)
-  where
-    last : (n : ℕ) → n % 4503599627370496 ≡ n % 9223372036854775808 % 4503599627370496
-    last n = omega arith
+reads : (n : ℕ) → ofBits binary64 n ≡ ofFields binary64 (leb 9223372036854775808 n) (exp n) (t-of n)
+reads n = signed n ∙ ap (ofFields binary64 (leb 9223372036854775808 n) (exp n)) (omega arith)
 
 -- its floor, where it is finite
-finite-floor : (n : ℕ) (s : Bool) → leb 9223372036854775808 n ≡ s → e-of n < 2047 → floorOf (ofBits binary64 n) ≡ floorFrac s (val (e-of n) (t-of n)) (2 ^ 1074)
+finite-floor : (n : ℕ) (s : Bool) → leb 9223372036854775808 n ≡ s → exp n < 2047 → floorOf (ofBits binary64 n) ≡ floorFrac s (val (exp n) (t-of n)) (2 ^ 1074)
 finite-floor n s p h =
-    ap floorOf (reads n ∙ ap (λ (b : Bool). ofFields binary64 b (e-of n) (t-of n)) p)
-    ∙ floor-value (ofFields binary64 s (e-of n) (t-of n)) s (val (e-of n) (t-of n)) (2 ^ 1074) (pow-pos 1074) (fields-value s (e-of n) (t-of n) h)
+    ap floorOf (reads n ∙ ap (λ (b : Bool). ofFields binary64 b (exp n) (t-of n)) p)
+    ∙ floor-value (ofFields binary64 s (exp n) (t-of n)) s (val (exp n) (t-of n)) (2 ^ 1074) (pow-pos 1074) (fields-value s (exp n) (t-of n) h)
 
 -- and where it is an infinity
-infinite-floor : (n : ℕ) (s : Bool) → leb 9223372036854775808 n ≡ s → e-of n ≡ 2047 → T (not (isNan (ofBits binary64 n))) → floorOf (ofBits binary64 n) ≡ floorOf (inf s)
+infinite-floor : (n : ℕ) (s : Bool) → leb 9223372036854775808 n ≡ s → exp n ≡ 2047 → T (not (isNan (ofBits binary64 n))) → floorOf (ofBits binary64 n) ≡ floorOf (inf s)
 infinite-floor n s p h t =
     let is : ofBits binary64 n ≡ ofFields binary64 s 2047 (t-of n) = reads n ∙ (λ i. ofFields binary64 (p i) (h i) (t-of n)) in
     ap floorOf (is ∙ top-field s (t-of n) (subst (λ (v : Float). T (not (isNan v))) is t))
@@ -212,9 +145,6 @@ no-sign n h = is-false (leb 9223372036854775808 n) (lt→nleb 922337203685477580
 pub sign : (n : ℕ) → 9223372036854775808 ≤ n → leb 9223372036854775808 n ≡ true
 sign n h = is-true (leb 9223372036854775808 n) (le→leb 9223372036854775808 n h)
 
-finite-e : (e : ℕ) → e < 1086 → e < 2047
-finite-e e h = omega arith
-
 pub capped : (q : ℕ) → q < 9223372036854775808 → min q 9223372036854775807 ≡ q
 capped q h = omega arith
 
@@ -222,64 +152,46 @@ pub capped-most : (q : ℕ) → q ≤ 9223372036854775808 → min q 922337203685
 capped-most q h = omega arith
 
 -- ---- the floor by what the program tests
-pub plain : (n : ℕ) → n < 9223372036854775808 → e-of n < 1086 → floorOf (ofBits binary64 n) ≡ pos (scaled (m-of n) (e-of n))
+pub plain : (n : ℕ) → n < 9223372036854775808 → exp n < 1086 → floorOf (ofBits binary64 n) ≡ pos (scaled (m-of n) (exp n))
 plain n h l =
-    finite-floor n false (no-sign n h) (finite-e (e-of n) l)
-    ∙ ap (λ (q : ℕ). pos (min q 9223372036854775807)) (val-div (e-of n) (t-of n) (t-lt n))
-    ∙ ap pos (capped (scaled (m-of n) (e-of n)) (scaled-lt (m-of n) (e-of n) (with-lead (t-of n) (t-lt n)) l))
+    finite-floor n false (no-sign n h) (omega arith)
+    ∙ ap (λ (q : ℕ). pos (min q 9223372036854775807)) (val-div (exp n) (t-of n) (omega arith))
+    ∙ ap pos (capped (scaled (m-of n) (exp n)) (scaled-lt (m-of n) (exp n) (omega arith) l))
 
 pub minus-none : (n : ℕ) → 9223372036854775808 ≤ n → n % 9223372036854775808 ≡ 0 → floorOf (ofBits binary64 n) ≡ pos 0
 minus-none n h z =
-    finite-floor n true (sign n h) (none z)
+    finite-floor n true (sign n h) (omega arith)
     ∙ ap (λ (b : ℕ). floorFrac true (val (b / 4503599627370496) (b % 4503599627370496)) (2 ^ 1074)) z
-  where
-    none : n % 9223372036854775808 ≡ 0 → e-of n < 2047
-    none z = omega arith
 
-pub minus-cut : (n : ℕ) → 9223372036854775808 ≤ n → (n % 9223372036854775808 ≡ 0 → ⊥) → e-of n < 1075 → floorOf (ofBits binary64 n) ≡ negsuc (scaled (m-of n - 1) (e-of n))
+pub minus-cut : (n : ℕ) → 9223372036854775808 ≤ n → (n % 9223372036854775808 ≡ 0 → ⊥) → exp n < 1075 → floorOf (ofBits binary64 n) ≡ negsuc (scaled (m-of n - 1) (exp n))
 minus-cut n h z l =
-    finite-floor n true (sign n h) (finite-e (e-of n) (more (e-of n) l))
-    ∙ ap (λ (q : ℕ). negℤ (pos (min q 9223372036854775808))) (val-next (e-of n) (t-of n) (t-lt n) l (some n z))
-    ∙ ap (λ (q : ℕ). negℤ (pos q)) (capped-most (suc (scaled (m-of n - 1) (e-of n))) (scaled-lt (m-of n - 1) (e-of n) (less (t-of n) (t-lt n)) (more (e-of n) l)))
-  where
-    more : (e : ℕ) → e < 1075 → e < 1086
-    more e h = omega arith
+    finite-floor n true (sign n h) (omega arith)
+    ∙ ap (λ (q : ℕ). negℤ (pos (min q 9223372036854775808))) (val-next (exp n) (t-of n) (omega arith) l (omega arith))
+    ∙ ap (λ (q : ℕ). negℤ (pos q)) (capped-most (suc (scaled (m-of n - 1) (exp n))) (scaled-lt (m-of n - 1) (exp n) (omega arith) (omega arith)))
 
-    less : (t : ℕ) → t < 4503599627370496 → 4503599627370496 + t - 1 < 9007199254740992
-    less t h = omega arith
-
-    some : (n : ℕ) → (n % 9223372036854775808 ≡ 0 → ⊥) → 0 < n % 9223372036854775808 / 4503599627370496 + n % 9223372036854775808 % 4503599627370496
-    some n z = omega arith
-
-pub minus-whole : (n : ℕ) → 9223372036854775808 ≤ n → 1075 ≤ e-of n → e-of n < 1086 → floorOf (ofBits binary64 n) ≡ negℤ (pos (scaled (m-of n) (e-of n)))
+pub minus-whole : (n : ℕ) → 9223372036854775808 ≤ n → 1075 ≤ exp n → exp n < 1086 → floorOf (ofBits binary64 n) ≡ negℤ (pos (scaled (m-of n) (exp n)))
 minus-whole n h lo l =
-    finite-floor n true (sign n h) (finite-e (e-of n) l)
-    ∙ ap (λ (q : ℕ). negℤ (pos (min q 9223372036854775808))) (val-whole (e-of n) (t-of n) (t-lt n) lo)
-    ∙ ap (λ (q : ℕ). negℤ (pos q)) (capped-most (scaled (m-of n) (e-of n)) (le-of-lt (scaled-lt (m-of n) (e-of n) (with-lead (t-of n) (t-lt n)) l)))
+    finite-floor n true (sign n h) (omega arith)
+    ∙ ap (λ (q : ℕ). negℤ (pos (min q 9223372036854775808))) (val-whole (exp n) (t-of n) (omega arith) lo)
+    ∙ ap (λ (q : ℕ). negℤ (pos q)) (capped-most (scaled (m-of n) (exp n)) (le-of-lt (scaled-lt (m-of n) (exp n) (omega arith) l)))
 
 -- the ends of the range
-pub out : (n : ℕ) (s : Bool) → leb 9223372036854775808 n ≡ s → 1086 ≤ e-of n → T (not (isNan (ofBits binary64 n))) → floorOf (ofBits binary64 n) ≡ cond s (negsuc 9223372036854775807) (pos 9223372036854775807)
-out n s p l t = elim (eq-or-lt-of-le (highest n)) [
+pub out : (n : ℕ) (s : Bool) → leb 9223372036854775808 n ≡ s → 1086 ≤ exp n → T (not (isNan (ofBits binary64 n))) → floorOf (ofBits binary64 n) ≡ cond s (negsuc 9223372036854775807) (pos 9223372036854775807)
+out n s p l t = let E : exp n ≤ 2047 = omega arith in elim (eq-or-lt-of-le E) [
   | inl e ↦ infinite-floor n s p e t ∙ ends s
-  | inr g ↦ finite-floor n s p g ∙ far s (val (e-of n) (t-of n)) (2 ^ 1074) (pow-pos 1074) (val-large (e-of n) (t-of n) l)
+  | inr g ↦ finite-floor n s p g ∙ far s (val (exp n) (t-of n)) (2 ^ 1074) (pow-pos 1074) (val-large (exp n) (t-of n) l)
 ]
   where
-    highest : (n : ℕ) → n % 9223372036854775808 / 4503599627370496 ≤ 2047
-    highest n = omega arith
-
     ends : (s : Bool) → floorOf (inf s) ≡ cond s (negsuc 9223372036854775807) (pos 9223372036854775807)
     ends true = unfold floorOf in refl
     ends false = unfold floorOf in refl
 
-    top : (q : ℕ) → 9223372036854775808 ≤ q → min q 9223372036854775807 ≡ 9223372036854775807
-    top q h = omega arith
-
-    end : (q : ℕ) → 9223372036854775808 ≤ q → min q 9223372036854775808 ≡ 9223372036854775808
-    end q h = omega arith
-
     far : (s : Bool) (a c : ℕ) → 0 < c → 9223372036854775808 * c ≤ a → floorFrac s a c ≡ cond s (negsuc 9223372036854775807) (pos 9223372036854775807)
-    far true a c C h = ap (λ (q : ℕ). negℤ (pos q)) (end (ceiling a c) (le-of-mul-le-mul-right (le-trans h (le-ceiling a c C)) C))
-    far false a c C h = ap pos (top (a / c) (le-div-iff-mul-le C .1 h))
+    far true a c C h =
+        let l : 9223372036854775808 ≤ ceiling a c = le-of-mul-le-mul-right (le-trans h (le-ceiling a c C)) C in
+        let e : min (ceiling a c) 9223372036854775808 ≡ 9223372036854775808 = omega arith in
+        ap (λ (q : ℕ). negℤ (pos q)) e
+    far false a c C h = ap pos (omega (arith, le-div-iff-mul-le C .1 h))
 
 -- ---- the machine's signed numbers
 module _ (q : ℕ) (h : q < 9223372036854775808) where

@@ -4,10 +4,10 @@ use mathlib.Core.Logic.{_⊎_, inl, inr}
 use Prim.Native.Nat.{ℕ, zero, suc, _+_, _-_, _*_, _/_, _%_, _^_, _≤_, _<_, compare, Ordering, Ordering·lt, Ordering·eq, Ordering·gt}
 use native.Mathlib.Nat.{eq-or-lt-of-le, mul-le-mul-left, le-trans, le-of-eq, lt-of-lt-of-le, lt-of-le-of-lt, mul-assoc, mul-pos, mul-le-mul-right, mul-lt-mul-of-pos-right, div-lt-iff-lt-mul}
 use native.Mathlib.Omega.{arith}
-use mathlib.Core.Bool.{Bool, true, false, not, cond, true≢false}
+use mathlib.Core.Bool.{Bool, true, false, not, cond}
 use lib.Dec.{T, leb, ltb, eqb, eqb·suc-zero, eqb→eq, not-T, lit<, lit≤, leb→le, nleb→lt}
 use lib.Pow.{pow-add, pow-pos, pow-mono, shl-lt}
-use lib.Ieee.{Float, nan, inf, fin, Format, binary32, binary64, up, down, nearest, odd, units, round, add, isNan, ofFields, ofBits, toBits, nanBits}
+use lib.Ieee.{Float, nan, inf, binary32, binary64, up, down, nearest, odd, units, round, add, isNan, ofFields, ofBits, toBits, nanBits}
 use lib.Ieee.Fits.{down-pos, nearest-le}
 use lib.Ieee.Exact.{HasValue, odd-sign}
 use lib.Ieee.Nearest.{closest, closest-same, nearest-ge}
@@ -16,62 +16,31 @@ use lib.Ieee.Scale.{round-same}
 use lib.Arith.{lt→nleb, le→nltb}
 use lib.Ieee.Bits.{cond-no, is-false, toBits-ofBits, nanBits-is}
 use Rattle.numbers.specs.Rounding.{narrowOf}
+use Rattle.numbers.proofs.floats.Values.{with-value, value-no-nan, add-value}
 use Rattle.numbers.proofs.floats.Patterns.{drop-is, drop-none, round-at, closest-shift, pattern, pattern-no-nan}
 
 -- ---- by the fraction that a value equals
 narrow-value : (x : Float) (s : Bool) (a c : ℕ) → 0 < c → HasValue x s a c → narrowOf x ≡ round binary32 s a c
 unfolding narrowOf
-narrow-value nan s a c C h = absurd h
-narrow-value (inf t) s a c C h = absurd h
-narrow-value (fin t m e) s a c C h = round-same binary32 t (m * up e) (down e) a c (down-pos e) C (h .1) ∙ ap (λ (b : Bool). round binary32 b a c) (h .0)
-
-pub add-value : (f : Format) (x y : Float) (a b c : ℕ) → 0 < c → HasValue x false a c → HasValue y false b c → add f x y ≡ round f false (a + b) c
-unfolding add
-add-value f nan y a b c C h k = absurd h
-add-value f (inf s) y a b c C h k = absurd h
-add-value f (fin true m e) y a b c C h k = absurd (true≢false (h .0))
-add-value f (fin false m e) nan a b c C h k = absurd k
-add-value f (fin false m e) (inf t) a b c C h k = absurd k
-add-value f (fin false m e) (fin true n d) a b c C h k = absurd (true≢false (k .0))
-add-value f (fin false m e) (fin false n d) a b c C h k =
-    round-same f false (m * up e * down d + n * up d * down e) (down e * down d) (a + b) c (mul-pos (down-pos e) (down-pos d)) C
-    (joined (m * up e) (n * up d) (down e) (down d) a b c (h .1) (k .1))
-  where
-    joined : (x y p q a b c : ℕ) → x * c ≡ a * p → y * c ≡ b * q → (x * q + y * p) * c ≡ (a + b) * (p * q)
-    joined x y p q a b c h k = omega (arith, ap (λ (z : ℕ). z * q) h, ap (λ (z : ℕ). z * p) k)
+narrow-value x s a c C h = with-value (λ x. narrowOf x ≡ round binary32 s a c) x s a c h (λ m e p. round-same binary32 s (m * up e) (down e) a c (down-pos e) C p)
 
 -- ---- the number that the fields stand for, in units of 2 ^ -1074
 abbrev pub val : ℕ → ℕ → ℕ
 val zero t = t * 2 ^ 0
 val (suc x) t = (4503599627370496 + t) * 2 ^ x
 
-differ : (x : ℕ) → suc x < 2047 → suc x ≡ 2047 → ⊥
-differ x h e = omega arith
-
 pub fields-value : (s : Bool) (E t : ℕ) → E < 2047 → HasValue (ofFields binary64 s E t) s (val E t) (2 ^ 1074)
 unfolding ofFields
 fields-value s zero t h = odd-sign 53 s t 0 1074
 fields-value s (suc x) t h =
     subst (λ (v : Float). HasValue v s (val (suc x) t) (2 ^ 1074))
-    (sym (cond-no (eqb (suc x) 2047) (cond (eqb t 0) (inf s) nan) (odd 53 s (4503599627370496 + t) x 1074) (not-T (eqb (suc x) 2047) (λ (u : T (eqb (suc x) 2047)). differ x h (eqb→eq (suc x) 2047 u)))))
+    (sym (cond-no (eqb (suc x) 2047) (cond (eqb t 0) (inf s) nan) (odd 53 s (4503599627370496 + t) x 1074) (not-T (eqb (suc x) 2047) (λ (u : T (eqb (suc x) 2047)). (omega (arith, eqb→eq (suc x) 2047 u))))))
     (odd-sign 53 s (4503599627370496 + t) x 1074)
 
-narrow-fields : (s : Bool) (E t : ℕ) → E < 2047 → narrowOf (ofFields binary64 s E t) ≡ round binary32 s (val E t) (2 ^ 1074)
-narrow-fields s E t h = narrow-value (ofFields binary64 s E t) s (val E t) (2 ^ 1074) (pow-pos 1074) (fields-value s E t h)
-
 -- ---- below 2 ^ -126
-pub with-lead : (t : ℕ) → t < 4503599627370496 → 4503599627370496 + t < 9007199254740992
-with-lead t h = omega arith
-
-pub lead-lo : (t : ℕ) → 4503599627370496 ≤ 4503599627370496 + t
-lead-lo t = omega arith
-
-low-exp : (x : ℕ) → suc x < 897 → 53 + x ≤ 948
-low-exp x h = omega arith
-
 val-low : (E t : ℕ) → E < 897 → t < 4503599627370496 → val E t < 2 ^ 948
 val-low zero t h l = lt-of-lt-of-le (shl-lt 52 0 l) (lit≤ tt)
-val-low (suc x) t h l = lt-of-lt-of-le (shl-lt 53 x (with-lead t l)) (pow-mono (low-exp x h))
+val-low (suc x) t h l = lt-of-lt-of-le (shl-lt 53 x (omega arith)) (pow-mono {j = 948} (omega arith))
 
 -- N / 2 ^ 925 to the nearest whole number
 abbrev pub tiny : ℕ → ℕ
@@ -85,66 +54,40 @@ round-tiny s N h =
     round-at binary32 s N (2 ^ 1074) 0 (drop-none 24 (N * 2 ^ 149) (2 ^ 1074) (pow-pos 1074) (lt-of-lt-of-le (shl-lt 948 149 h) (lit≤ tt)))
     ∙ ap (λ (q : ℕ). units binary32 s q 0) (closest-same (N * 2 ^ 149) (2 ^ 1074 * 2 ^ 0) N (2 ^ 925) (pow-pos 1074) (pow-pos 925) (mul-assoc N (2 ^ 149) (2 ^ 925)))
 
-within : (q : ℕ) → q ≤ 8388608 → q ≤ 16777216
-within q h = omega arith
-
-within-all : (q : ℕ) → q ≤ 8388608 → 0 * 8388608 + q ≤ 2139095040
-within-all q h = omega arith
-
--- the same by the sum with 2 ^ -97, which is 2 ^ 977 units of binary64
-sum-lo : (N P : ℕ) → P ≤ N + P
-sum-lo N P = omega arith
-
-sum-hi : (N P : ℕ) → N < P → N + P < 2 * P
-sum-hi N P h = omega arith
-
 sum-at : (N : ℕ) → N < 2 ^ 948 → round binary64 false (N + 2 ^ 977) (2 ^ 1074) ≡ units binary64 false (tiny N + 4503599627370496) 925
 sum-at N h =
-    let hi : N + 2 ^ 977 < 2 ^ 978 = sum-hi N (2 ^ 977) (lt-of-lt-of-le h (lit≤ tt)) in
+    let hi = above N (2 ^ 977) (lt-of-lt-of-le h (lit≤ tt)) in
     round-at binary64 false (N + 2 ^ 977) (2 ^ 1074) 925
-    (drop-is 53 ((N + 2 ^ 977) * 2 ^ 1074) (2 ^ 1074) 925 (lit< tt) (pow-pos 1074) (mul-le-mul-right (2 ^ 1074) (sum-lo N (2 ^ 977))) (mul-lt-mul-of-pos-right hi (pow-pos 1074)))
+    (drop-is 53 ((N + 2 ^ 977) * 2 ^ 1074) (2 ^ 1074) 925 (lit< tt) (pow-pos 1074) (mul-le-mul-right (2 ^ 1074) (hi .0)) (mul-lt-mul-of-pos-right (hi .1) (pow-pos 1074)))
     ∙ ap (λ (q : ℕ). units binary64 false q 925)
     (closest-same ((N + 2 ^ 977) * 2 ^ 1074) (2 ^ 1074 * 2 ^ 925) (N + 2 ^ 977) (2 ^ 925) (mul-pos (pow-pos 1074) (pow-pos 925)) (pow-pos 925) (mul-assoc (N + 2 ^ 977) (2 ^ 1074) (2 ^ 925))
     ∙ closest-shift N (2 ^ 925) 4503599627370496 (pow-pos 925) refl)
+  where
+    above : (N P : ℕ) → N < P → (P ≤ N + P) × (N + P < 2 * P)
+    above N P h = (omega arith, omega arith)
 
 -- ---- a pattern's fields
-ofBits-is : (b : ℕ) → ofBits binary64 b ≡ ofFields binary64 (leb 9223372036854775808 b) (b % 9223372036854775808 / 4503599627370496) (b % 4503599627370496)
-unfolding ofBits
-ofBits-is b = refl
-
 -- the pattern without its sign
 abbrev pub size-of : ℕ → ℕ
 size-of n = n % 9223372036854775808
 
-unfoldable pub exp : ℕ → ℕ
+abbrev pub exp : ℕ → ℕ
 exp n = n % 9223372036854775808 / 4503599627370496
 
-unfoldable pub digits : ℕ → ℕ
+abbrev pub digits : ℕ → ℕ
 digits n = n % 4503599627370496
 
-same-fields : (s t : Bool) (E F x y : ℕ) → s ≡ t → E ≡ F → x ≡ y → ofFields binary64 s E x ≡ ofFields binary64 t F y
-same-fields s t E F x y p q r = λ i. ofFields binary64 (p i) (q i) (r i)
-
-digits-lt : (n : ℕ) → digits n < 4503599627370496
-unfolding digits
-digits-lt n = omega arith
-
 unsigned : (n : ℕ) → ofBits binary64 (size-of n) ≡ ofFields binary64 false (exp n) (digits n)
-unfolding exp digits
-unsigned n = ofBits-is (size-of n) ∙ same-fields _ _ _ _ _ _ (is-false _ (lt→nleb 9223372036854775808 (size-of n) (below n))) (twice n) (last n)
-  where
-    below : (n : ℕ) → n % 9223372036854775808 < 9223372036854775808
-    below n = omega arith
-
-    twice : (n : ℕ) → n % 9223372036854775808 % 9223372036854775808 / 4503599627370496 ≡ n % 9223372036854775808 / 4503599627370496
-    twice n = omega arith
-
-    last : (n : ℕ) → n % 9223372036854775808 % 4503599627370496 ≡ n % 4503599627370496
-    last n = omega arith
+unfolding ofBits
+unsigned n =
+    let s = is-false (leb 9223372036854775808 (size-of n)) (lt→nleb 9223372036854775808 (size-of n) (omega arith)) in
+    let e : exp (size-of n) ≡ exp n = omega arith in
+    let d : digits (size-of n) ≡ digits n = omega arith in
+    λ i. ofFields binary64 (s i) (e i) (d i)
 
 pub signed : (n : ℕ) → ofBits binary64 n ≡ ofFields binary64 (leb 9223372036854775808 n) (exp n) (digits n)
-unfolding exp digits
-signed n = ofBits-is n
+unfolding ofBits
+signed n = refl
 
 -- the number that a pattern stands for
 abbrev pub value : ℕ → ℕ
@@ -154,29 +97,16 @@ value n = val (exp n) (digits n)
 sign-bit : (n : ℕ) → n < 18446744073709551616 → cond (leb 9223372036854775808 n) 2147483648 0 ≡ n / 9223372036854775808 * 2147483648
 sign-bit n h = go (leb 9223372036854775808 n) (leb→le 9223372036854775808 n) (nleb→lt 9223372036854775808 n)
   where
-    one : (n : ℕ) → 9223372036854775808 ≤ n → n < 18446744073709551616 → 2147483648 ≡ n / 9223372036854775808 * 2147483648
-    one n a b = omega arith
-
-    none : (n : ℕ) → n < 9223372036854775808 → 0 ≡ n / 9223372036854775808 * 2147483648
-    none n a = omega arith
-
     go : (b : Bool) → (T b → 9223372036854775808 ≤ n) → (T (not b) → n < 9223372036854775808) → cond b 2147483648 0 ≡ n / 9223372036854775808 * 2147483648
-    go true p q = one n (p tt) h
-    go false p q = none n (q tt)
+    go true p q = omega (arith, p tt)
+    go false p q = omega (arith, q tt)
 
 -- ---- below 2 ^ -126, by the pattern
 abbrev pub yOf : ℕ → Float
 yOf n = add binary64 (ofBits binary64 (size-of n)) (ofBits binary64 4170333254945079296)
 
-small-exp : (n : ℕ) → size-of n < 4039728865751334912 → exp n < 897
-unfolding exp
-small-exp n h = omega arith
-
-finite-exp : (E : ℕ) → E < 897 → E < 2047
-finite-exp E h = omega arith
-
 value-small : (n : ℕ) → size-of n < 4039728865751334912 → value n < 2 ^ 948
-value-small n h = val-low (exp n) (digits n) (small-exp n h) (digits-lt n)
+value-small n h = val-low (exp n) (digits n) (omega arith) (omega arith)
 
 magic-value : HasValue (ofBits binary64 4170333254945079296) false (2 ^ 977) (2 ^ 1074)
 unfolding ofBits
@@ -185,59 +115,26 @@ magic-value = (refl, refl)
 pub size-value : (n : ℕ) → exp n < 2047 → HasValue (ofBits binary64 (size-of n)) false (value n) (2 ^ 1074)
 size-value n h = subst (λ (v : Float). HasValue v false (value n) (2 ^ 1074)) (sym (unsigned n)) (fields-value false (exp n) (digits n) h)
 
-y-is : (n : ℕ) → size-of n < 4039728865751334912 → yOf n ≡ units binary64 false (tiny (value n) + 4503599627370496) 925
-y-is n h =
-    add-value binary64 (ofBits binary64 (size-of n)) (ofBits binary64 4170333254945079296) (value n) (2 ^ 977) (2 ^ 1074) (pow-pos 1074) (size-value n (finite-exp (exp n) (small-exp n h))) magic-value
-    ∙ sum-at (value n) (value-small n h)
+-- the sum is no NaN, and the program has its last digits for those of the result
+pub record Tiny (n : ℕ) : Type 0 where
+  pub some : T (not (isNan (yOf n)))
+  pub lo : 4170333254945079296 ≤ toBits binary64 (yOf n)
+  pub rest : toBits binary64 (yOf n) - 4170333254945079296 ≡ tiny (value n)
+  pub small : tiny (value n) ≤ 8388608
 
-y-hi : (q : ℕ) → q ≤ 8388608 → q + 4503599627370496 ≤ 9007199254740992
-y-hi q h = omega arith
-
-y-lo : (q : ℕ) → 4503599627370496 ≤ q + 4503599627370496
-y-lo q = omega arith
-
-y-fit : (q : ℕ) → q ≤ 8388608 → 925 * 4503599627370496 + (q + 4503599627370496) ≤ 2047 * 4503599627370496
-y-fit q h = omega arith
-
-y-pattern : (q : ℕ) → q ≤ 8388608 → units binary64 false (q + 4503599627370496) 925 ≡ ofBits binary64 (0 + (925 * 4503599627370496 + (q + 4503599627370496)))
-y-pattern q h = sym (pattern binary64 false (q + 4503599627370496) 925 (y-hi q h) (inr (y-lo q)) (y-fit q h))
-
-y-no-nan-bits : (q : ℕ) → q ≤ 8388608 → T (not (nanBits binary64 (0 + (925 * 4503599627370496 + (q + 4503599627370496)))))
-y-no-nan-bits q h = pattern-no-nan binary64 false (q + 4503599627370496) 925 (y-hi q h) (inr (y-lo q)) (y-fit q h)
-
-y-bits-lt : (q : ℕ) → q ≤ 8388608 → 0 + (925 * 4503599627370496 + (q + 4503599627370496)) < 18446744073709551616
-y-bits-lt q h = omega arith
-
-y-reads : (n : ℕ) → size-of n < 4039728865751334912 → yOf n ≡ ofBits binary64 (0 + (925 * 4503599627370496 + (tiny (value n) + 4503599627370496)))
-y-reads n h = y-is n h ∙ y-pattern (tiny (value n)) (tiny-le (value n) (value-small n h))
-
-read-no-nan : (b : ℕ) → T (not (nanBits binary64 b)) → T (not (isNan (ofBits binary64 b)))
-read-no-nan b t = subst (λ (x : Bool). T (not x)) (nanBits-is binary64 b) t
-
-pub y-no-nan : (n : ℕ) → size-of n < 4039728865751334912 → T (not (isNan (yOf n)))
-y-no-nan n h = subst (λ (v : Float). T (not (isNan v))) (sym (y-reads n h)) (read-no-nan _ (y-no-nan-bits (tiny (value n)) (tiny-le (value n) (value-small n h))))
-
-y-bits : (n : ℕ) → size-of n < 4039728865751334912 → toBits binary64 (yOf n) ≡ 0 + (925 * 4503599627370496 + (tiny (value n) + 4503599627370496))
-y-bits n h =
+pub small-digits : (n : ℕ) → size-of n < 4039728865751334912 → Tiny n
+small-digits n h =
     let q = tiny (value n) in
     let l : q ≤ 8388608 = tiny-le (value n) (value-small n h) in
-    ap (toBits binary64) (y-reads n h) ∙ toBits-ofBits binary64 (0 + (925 * 4503599627370496 + (q + 4503599627370496))) (y-bits-lt q l) (read-no-nan _ (y-no-nan-bits q l))
-
--- what the program has for the digits
-pub small-digits : (n : ℕ) → size-of n < 4039728865751334912 → (4170333254945079296 ≤ toBits binary64 (yOf n)) × (toBits binary64 (yOf n) - 4170333254945079296 ≡ tiny (value n)) × (tiny (value n) ≤ 8388608)
-small-digits n h = (at-least (toBits binary64 (yOf n)) (tiny (value n)) (y-bits n h), rest (toBits binary64 (yOf n)) (tiny (value n)) (y-bits n h), tiny-le (value n) (value-small n h))
-  where
-    at-least : (y q : ℕ) → y ≡ 0 + (925 * 4503599627370496 + (q + 4503599627370496)) → 4170333254945079296 ≤ y
-    at-least y q e = omega arith
-
-    rest : (y q : ℕ) → y ≡ 0 + (925 * 4503599627370496 + (q + 4503599627370496)) → y - 4170333254945079296 ≡ q
-    rest y q e = omega arith
-
-pub value-no-nan : (x : Float) (s : Bool) (a c : ℕ) → HasValue x s a c → T (not (isNan x))
-unfolding isNan
-value-no-nan nan s a c v = v
-value-no-nan (inf t) s a c v = absurd v
-value-no-nan (fin t m e) s a c v = tt
+    let b = 925 * 4503599627370496 + (q + 4503599627370496) in
+    let is : yOf n ≡ ofBits binary64 (0 + b) =
+    add-value binary64 (ofBits binary64 (size-of n)) (ofBits binary64 4170333254945079296) (value n) (2 ^ 977) (2 ^ 1074) (pow-pos 1074) (size-value n (omega arith)) magic-value
+    ∙ sum-at (value n) (value-small n h)
+    ∙ sym (pattern binary64 false (q + 4503599627370496) 925 (omega arith) (inr (omega arith)) (omega arith)) in
+    let no-nan : T (not (isNan (ofBits binary64 (0 + b)))) =
+    subst (λ (x : Bool). T (not x)) (nanBits-is binary64 (0 + b)) (pattern-no-nan binary64 false (q + 4503599627370496) 925 (omega arith) (inr (omega arith)) (omega arith)) in
+    let bits = ap (toBits binary64) is ∙ toBits-ofBits binary64 (0 + b) (omega arith) no-nan in
+    record { some = subst (λ (v : Float). T (not (isNan v))) (sym is) no-nan; lo = omega arith; rest = omega arith; small = l }
 
 pub size-no-nan : (n : ℕ) → exp n < 2047 → T (not (nanBits binary64 (size-of n)))
 size-no-nan n h = subst (λ (x : Bool). T (not x)) (sym (nanBits-is binary64 (size-of n))) (value-no-nan (ofBits binary64 (size-of n)) false (value n) (2 ^ 1074) (size-value n h))
@@ -256,7 +153,9 @@ made n q k r h hi lo fit e = (
 
 -- the value that the pattern n is narrowed to
 narrow-pattern : (n : ℕ) → exp n < 2047 → narrowOf (ofBits binary64 n) ≡ round binary32 (leb 9223372036854775808 n) (value n) (2 ^ 1074)
-narrow-pattern n h = ap narrowOf (signed n) ∙ narrow-fields (leb 9223372036854775808 n) (exp n) (digits n) h
+narrow-pattern n h =
+    let s = leb 9223372036854775808 n in
+    ap narrowOf (signed n) ∙ narrow-value (ofFields binary64 s (exp n) (digits n)) s (value n) (2 ^ 1074) (pow-pos 1074) (fields-value s (exp n) (digits n) h)
 
 abbrev pub Right : ℕ → ℕ → Type 0
 Right n r = (ofBits binary32 (n / 9223372036854775808 * 2147483648 + r) ≡ narrowOf (ofBits binary64 n)) × T (not (nanBits binary32 (n / 9223372036854775808 * 2147483648 + r)))
@@ -265,11 +164,8 @@ pub narrow-small : (n : ℕ) → n < 18446744073709551616 → size-of n < 403972
 narrow-small n h l =
     let N = value n in
     let d = small-digits n l in
-    let m = made n (tiny N) 0 (toBits binary64 (yOf n) - 4170333254945079296) h (within (tiny N) (d .2)) (inl refl) (within-all (tiny N) (d .2)) (zero-more (tiny N) ∙ sym (d .1)) in
-    (m .0 ∙ sym (narrow-pattern n (finite-exp (exp n) (small-exp n l)) ∙ round-tiny (leb 9223372036854775808 n) N (value-small n l)), m .1)
-  where
-    zero-more : (q : ℕ) → 0 * 8388608 + q ≡ q
-    zero-more q = omega arith
+    let m = made n (tiny N) 0 (toBits binary64 (yOf n) - 4170333254945079296) h (omega arith) (inl refl) (omega arith) (omega arith) in
+    (m .0 ∙ sym (narrow-pattern n (omega arith) ∙ round-tiny (leb 9223372036854775808 n) N (value-small n l)), m .1)
 
 -- ---- from 2 ^ -126 up: with x for the exponent's field less one, and k for x - 896
 -- sig * 2 ^ x units of binary64
@@ -280,22 +176,13 @@ mid-round s sig k lo hi =
     let n = sig * 2 ^ x * 2 ^ 149 in
     let shape : n ≡ sig * 2 ^ (x + 149) = mul-assoc sig (2 ^ x) (2 ^ 149) ∙ ap (λ (z : ℕ). sig * z) (sym (pow-add 2 x 149)) in
     let a : 2 ^ (24 - 1 + k) * 2 ^ 1074 ≤ n =
-    le-trans (le-of-eq (sym (pow-add 2 (23 + k) 1074) ∙ ap (λ (z : ℕ). 2 ^ z) (ea k) ∙ pow-add 2 52 (x + 149))) (le-trans (mul-le-mul-right (2 ^ (x + 149)) lo) (le-of-eq (sym shape))) in
+    le-trans (le-of-eq (sym (pow-add 2 (23 + k) 1074) ∙ ap (λ (z : ℕ). 2 ^ z) (omega arith) ∙ pow-add 2 52 (x + 149))) (le-trans (mul-le-mul-right (2 ^ (x + 149)) lo) (le-of-eq (sym shape))) in
     let b : n < 2 ^ (24 + k) * 2 ^ 1074 =
-    lt-of-le-of-lt (le-of-eq shape) (lt-of-lt-of-le (mul-lt-mul-of-pos-right hi (pow-pos (x + 149))) (le-of-eq (sym (pow-add 2 53 (x + 149)) ∙ ap (λ (z : ℕ). 2 ^ z) (eb k) ∙ pow-add 2 (24 + k) 1074))) in
+    lt-of-le-of-lt (le-of-eq shape) (lt-of-lt-of-le (mul-lt-mul-of-pos-right hi (pow-pos (x + 149))) (le-of-eq (sym (pow-add 2 53 (x + 149)) ∙ ap (λ (z : ℕ). 2 ^ z) (omega arith) ∙ pow-add 2 (24 + k) 1074))) in
     let c : n * 536870912 ≡ sig * (2 ^ 1074 * 2 ^ k) =
-    ap (λ (z : ℕ). z * 536870912) shape ∙ mul-assoc sig (2 ^ (x + 149)) 536870912 ∙ ap (λ (z : ℕ). sig * z) (sym (pow-add 2 (x + 149) 29) ∙ ap (λ (z : ℕ). 2 ^ z) (ec k) ∙ pow-add 2 1074 k) in
+    ap (λ (z : ℕ). z * 536870912) shape ∙ mul-assoc sig (2 ^ (x + 149)) 536870912 ∙ ap (λ (z : ℕ). sig * z) (sym (pow-add 2 (x + 149) 29) ∙ ap (λ (z : ℕ). 2 ^ z) (omega arith) ∙ pow-add 2 1074 k) in
     round-at binary32 s (sig * 2 ^ x) (2 ^ 1074) k (drop-is 24 n (2 ^ 1074) k (lit< tt) (pow-pos 1074) a b)
     ∙ ap (λ (q : ℕ). units binary32 s q k) (closest-same n (2 ^ 1074 * 2 ^ k) sig 536870912 (mul-pos (pow-pos 1074) (pow-pos k)) (lit< tt) c)
-  where
-    ea : (k : ℕ) → 23 + k + 1074 ≡ 52 + (896 + k + 149)
-    ea k = omega arith
-
-    eb : (k : ℕ) → 53 + (896 + k + 149) ≡ 24 + k + 1074
-    eb k = omega arith
-
-    ec : (k : ℕ) → 896 + k + 149 + 29 ≡ 1074 + k
-    ec k = omega arith
 
 -- ---- to the nearest multiple of 2 ^ 29, as the program does it
 rounded : (b : ℕ) → closest b 536870912 ≡ (b + 268435455 + b / 536870912 % 2) / 536870912
@@ -307,85 +194,39 @@ rounded b = go (compare (b % 536870912 * 2) 536870912) (cmp (b % 536870912 * 2) 
     go Ordering·gt h = omega arith
 
 mid-lo : (sig : ℕ) → 4503599627370496 ≤ sig → 8388608 ≤ closest sig 536870912
-mid-lo sig h = le-trans (d sig h) (nearest-ge (sig / 536870912) (compare (sig % 536870912 * 2) 536870912))
-  where
-    d : (sig : ℕ) → 4503599627370496 ≤ sig → 8388608 ≤ sig / 536870912
-    d sig h = omega arith
+mid-lo sig h = le-trans (omega arith) (nearest-ge (sig / 536870912) (compare (sig % 536870912 * 2) 536870912))
 
 mid-hi : (sig : ℕ) → sig < 9007199254740992 → closest sig 536870912 ≤ 16777216
-mid-hi sig h = le-trans (nearest-le (sig / 536870912) (compare (sig % 536870912 * 2) 536870912)) (d sig h)
-  where
-    d : (sig : ℕ) → sig < 9007199254740992 → suc (sig / 536870912) ≤ 16777216
-    d sig h = omega arith
-
--- the pattern's field is 897 + k, and so its size is sig + (896 + k) * 2 ^ 52
-mid-exp : (n : ℕ) → 4039728865751334912 ≤ size-of n → exp n ≡ suc (896 + (exp n - 897))
-unfolding exp
-mid-exp n h = omega arith
-
-mid-size : (n k : ℕ) → exp n ≡ suc (896 + k) → size-of n ≡ 4503599627370496 + digits n + (896 + k) * 8388608 * 536870912
-unfolding exp digits
-mid-size n k h = omega arith
-
-mid-value : (n k : ℕ) → exp n ≡ suc (896 + k) → value n ≡ (4503599627370496 + digits n) * 2 ^ (896 + k)
-mid-value n k e = ap (λ (E : ℕ). val E (digits n)) e
+mid-hi sig h = le-trans (nearest-le (sig / 536870912) (compare (sig % 536870912 * 2) 536870912)) (omega arith)
 
 mid-units : (n k : ℕ) → exp n ≡ suc (896 + k) → exp n < 2047 → narrowOf (ofBits binary64 n) ≡ units binary32 (leb 9223372036854775808 n) (closest (4503599627370496 + digits n) 536870912) k
 mid-units n k e h =
     narrow-pattern n h
-    ∙ ap (λ (N : ℕ). round binary32 (leb 9223372036854775808 n) N (2 ^ 1074)) (mid-value n k e)
-    ∙ mid-round (leb 9223372036854775808 n) (4503599627370496 + digits n) k (lead-lo (digits n)) (with-lead (digits n) (digits-lt n))
-
-even : (x : ℕ) → x * 8388608 % 2 ≡ 0
-even x = omega arith
+    ∙ ap (λ (E : ℕ). round binary32 (leb 9223372036854775808 n) (val E (digits n)) (2 ^ 1074)) e
+    ∙ mid-round (leb 9223372036854775808 n) (4503599627370496 + digits n) k (omega arith) (omega arith)
 
 mid-is : (n k : ℕ) → exp n ≡ suc (896 + k) → k * 8388608 + closest (4503599627370496 + digits n) 536870912 ≡ (size-of n + 268435455 + size-of n / 536870912 % 2) / 536870912 - 7516192768
 mid-is n k e =
     let sig = 4503599627370496 + digits n in
-    let a : closest (size-of n) 536870912 ≡ closest sig 536870912 + (896 + k) * 8388608 =
-    ap (λ (b : ℕ). closest b 536870912) (mid-size n k e) ∙ closest-shift sig 536870912 ((896 + k) * 8388608) (lit< tt) (even (896 + k)) in
-    less ((size-of n + 268435455 + size-of n / 536870912 % 2) / 536870912) (closest sig 536870912) k (sym (rounded (size-of n)) ∙ a)
-  where
-    less : (r q k : ℕ) → r ≡ q + (896 + k) * 8388608 → k * 8388608 + q ≡ r - 7516192768
-    less r q k e = omega arith
-
-mid-fit : (n k q : ℕ) → exp n ≡ suc (896 + k) → size-of n < 5183643171103440896 → q ≤ 16777216 → k * 8388608 + q ≤ 255 * 8388608
-unfolding exp
-mid-fit n k q e h l = omega arith
-
-pub mid-fin : (n : ℕ) → size-of n < 5183643171103440896 → exp n < 2047
-unfolding exp
-mid-fin n h = omega arith
+    let s : size-of n ≡ sig + (896 + k) * 8388608 * 536870912 = omega arith in
+    let a : closest (size-of n) 536870912 ≡ closest sig 536870912 + (896 + k) * 8388608 = ap (λ (b : ℕ). closest b 536870912) s ∙ closest-shift sig 536870912 ((896 + k) * 8388608) (lit< tt) (omega arith) in
+    omega (arith, rounded (size-of n))
 
 pub narrow-mid : (n : ℕ) → n < 18446744073709551616 → 4039728865751334912 ≤ size-of n → size-of n < 5183643171103440896
     → Right n ((size-of n + 268435455 + size-of n / 536870912 % 2) / 536870912 - 7516192768)
 narrow-mid n h lo hi =
     let k = exp n - 897 in
-    let e : exp n ≡ suc (896 + k) = mid-exp n lo in
+    let e : exp n ≡ suc (896 + k) = omega arith in
     let sig = 4503599627370496 + digits n in
     let q = closest sig 536870912 in
-    let q-hi : q ≤ 16777216 = mid-hi sig (with-lead (digits n) (digits-lt n)) in
-    let m = made n q k ((size-of n + 268435455 + size-of n / 536870912 % 2) / 536870912 - 7516192768) h q-hi (inr (mid-lo sig (lead-lo (digits n)))) (mid-fit n k q e hi q-hi) (mid-is n k e) in
-    (m .0 ∙ sym (mid-units n k e (mid-fin n hi)), m .1)
+    let q-hi : q ≤ 16777216 = mid-hi sig (omega arith) in
+    let m = made n q k ((size-of n + 268435455 + size-of n / 536870912 % 2) / 536870912 - 7516192768) h q-hi (inr (mid-lo sig (omega arith))) (omega arith) (mid-is n k e) in
+    (m .0 ∙ sym (mid-units n k e (omega arith)), m .1)
 
 -- ---- from 2 ^ 128 up
 over : (s : Bool) (q k : ℕ) → 8388608 ≤ q → 254 ≤ k → units binary32 s q k ≡ inf s
 unfolding units
 over s q k a b = cond-no (ltb (q * 2 ^ k) (2 ^ 277)) (odd 25 s q k 149) (inf s) (le→nltb (q * 2 ^ k) (2 ^ 277) (le-trans (le-trans (lit≤ tt) (mul-le-mul-left 8388608 (pow-mono b))) (mul-le-mul-right (2 ^ k) a)))
-
-high-k : (n : ℕ) → 5183643171103440896 ≤ size-of n → 254 ≤ exp n - 897
-unfolding exp
-high-k n h = omega arith
-
-low-enough : (n : ℕ) → 5183643171103440896 ≤ size-of n → 4039728865751334912 ≤ size-of n
-low-enough n h = omega arith
-
-exp-in : (n : ℕ) → (exp n ≡ 2047) ⊎ (exp n < 2047)
-unfolding exp
-exp-in n = eq-or-lt-of-le (d n)
-  where
-    d : (n : ℕ) → n % 9223372036854775808 / 4503599627370496 ≤ 2047
-    d n = omega arith
 
 -- an infinity: the field is all ones, and no NaN has no digits
 pub top-field : (s : Bool) (t : ℕ) → T (not (isNan (ofFields binary64 s 2047 t))) → ofFields binary64 s 2047 t ≡ inf s
@@ -395,13 +236,13 @@ top-field s (suc t) n = absurd (subst (λ (b : Bool). T (not (isNan (cond b (inf
 
 high-is : (n : ℕ) → 5183643171103440896 ≤ size-of n → T (not (isNan (ofBits binary64 n))) → narrowOf (ofBits binary64 n) ≡ inf (leb 9223372036854775808 n)
 unfolding narrowOf
-high-is n h t = elim (exp-in n) [
+high-is n h t = let E : exp n ≤ 2047 = omega arith in elim (eq-or-lt-of-le E) [
   | inl e ↦
       let f : ofBits binary64 n ≡ ofFields binary64 (leb 9223372036854775808 n) 2047 (digits n) = signed n ∙ ap (λ (E : ℕ). ofFields binary64 (leb 9223372036854775808 n) E (digits n)) e in
       ap narrowOf (f ∙ top-field (leb 9223372036854775808 n) (digits n) (subst (λ (v : Float). T (not (isNan v))) f t))
   | inr l ↦
       let k = exp n - 897 in
-      mid-units n k (mid-exp n (low-enough n h)) l ∙ over (leb 9223372036854775808 n) (closest (4503599627370496 + digits n) 536870912) k (mid-lo (4503599627370496 + digits n) (lead-lo (digits n))) (high-k n h)
+      mid-units n k (omega arith) l ∙ over (leb 9223372036854775808 n) (closest (4503599627370496 + digits n) 536870912) k (mid-lo (4503599627370496 + digits n) (omega arith)) (omega arith)
 ]
 
 inf-units : (s : Bool) → units binary32 s 8388608 254 ≡ inf s

@@ -2,31 +2,29 @@
 use mathlib.Core.Path.{_≡_, refl, sym, ap, _∙_, subst}
 use mathlib.Core.Logic.{_⊎_, inl, inr}
 use Prim.Native.Nat.{ℕ, zero, suc, _+_, _-_, _*_, _/_, _%_, _^_, _≤_, _<_, compare}
-use native.Mathlib.Nat.{le-trans, lt-of-lt-of-le, lt-of-le-of-lt, zero-lt-suc, lt-irrefl, mul-mul-mul-comm, mul-assoc, mul-comm, mul-one, zero-mul, mul-right-comm, mul-pos, eq-of-mul-eq-mul-right}
+use native.Mathlib.Nat.{le-trans, lt-of-lt-of-le, lt-of-le-of-lt, zero-lt-suc, lt-irrefl, mul-assoc, mul-comm, mul-one, zero-mul, mul-right-comm, mul-pos, eq-of-mul-eq-mul-right}
 use native.Mathlib.Omega.{arith}
 use mathlib.Core.Bool.{Bool, true, false, not, _&&_, _||_, Bool·beq, true≢false, false≢true}
 use lib.IntN.{ℤ}
 use lib.Dec.{T, leb, ltb, eqb, lt→ltb, eqb→eq, lit<, lit≤}
 use lib.Pow.{pow-add, pow-pos, shl-lt}
-use lib.Ieee.{Float, nan, inf, fin, Format, binary64, up, down, size, nearest, units, round, mul, lt, eq, isNan, fits, ofFields, ofBits, toBits, nanBits}
+use lib.Ieee.{Float, nan, inf, fin, binary64, up, down, size, nearest, units, mul, lt, eq, isNan, fits, ofFields, ofBits, toBits, nanBits}
 use lib.Ieee.Fits.{and-l, up-pos, down-pos, nearest-le, kept-lt, mul-fits}
 use lib.Ieee.Digits.{size-le}
 use lib.Ieee.Exact.{HasValue, round-exact}
 use lib.Ieee.Nearest.{nearest-ge}
-use lib.Ieee.Scale.{round-same}
 use lib.Ieee.Bits.{ofBits-toBits}
 use Rattle.numbers.specs.SquareRoot.{root, sqrtOf}
 use Rattle.numbers.specs.Inner.{nearestRoot, rootBits}
+use Rattle.numbers.proofs.floats.Differences.{zero-of}
+use Rattle.numbers.proofs.floats.Values.{value-no-nan, same-value, mul-value}
 use Rattle.numbers.proofs.floats.Patterns.{pattern, pattern-no-nan, toBits-val, size-gt}
-use Rattle.numbers.proofs.rounding.Narrowing.{value-no-nan, val, value, exp, digits, size-of, size-value, signed, top-field}
+use Rattle.numbers.proofs.rounding.Narrowing.{val, value, exp, digits, size-of, size-value, signed, top-field}
 use Rattle.numbers.proofs.square_root.Roots.{root-around, rootOf-at, square-le, square-lt, four-pow, doubled}
 use Rattle.numbers.proofs.floats.Signs.{size-lt-top}
 use Rattle.numbers.proofs.Laws.Order.{nought}
 
 -- ---- the root of a value with N * 2 ^ 1074 = M * 4 ^ k, for an M of 105 or 106 digits
-not-zero : (N d : ℕ) → 0 < N → 0 < d → N * d ≡ 0 → ⊥
-not-zero N d a b e = lt-irrefl 0 (subst (λ (x : ℕ). 0 < x) e (mul-pos a b))
-
 abbrev pub Wide : ℕ → Type 0
 Wide M = (2 ^ 104 ≤ M) × (M < 2 ^ 106)
 
@@ -40,7 +38,7 @@ unfolding sqrtOf nearestRoot
 sqrt-units nan N M k h P e w = absurd h
 sqrt-units (inf t) N M k h P e w = absurd h
 sqrt-units (fin true m d) N M k h P e w = absurd (true≢false (h .0))
-sqrt-units (fin false zero d) N M k h P e w = absurd (not-zero N (down d) P (down-pos d) (sym (h .1) ∙ ap (λ (x : ℕ). x * 2 ^ 1074) (zero-mul (up d)) ∙ zero-mul (2 ^ 1074)))
+sqrt-units (fin false zero d) N M k h P e w = absurd (lt-irrefl 0 (subst (λ (n : ℕ). 0 < n) (zero-of N (down d) (down-pos d) (sym (h .1) ∙ ap (λ (x : ℕ). x * 2 ^ 1074) (zero-mul (up d)) ∙ zero-mul (2 ^ 1074))) P))
 sqrt-units (fin false (suc m) d) N M k h P e w =
     rootOf-at binary64 (suc m * up d) (down d) M k (root M) (down-pos d)
     (sym (mul-assoc (suc m * up d) (2 ^ 1074) (2 ^ 1074))
@@ -76,18 +74,12 @@ halves x w k (inl h) = sym (pow-add 2 x 1074) ∙ ap (λ (z : ℕ). 2 ^ z) (h .1
 halves x w k (inr h) = sym (pow-add 2 x 1074) ∙ ap (λ (z : ℕ). 2 ^ z) (h .1) ∙ pow-add 2 53 (k + k) ∙ ap (λ (z : ℕ). 9007199254740992 * z) (sym (four-two k)) ∙ ap (λ (z : ℕ). z * 4503599627370496 * 4 ^ k) (sym (h .0))
 
 parity : (x : ℕ) → ((2 - suc x % 2 ≡ 1) × (x + 1074 ≡ 52 + ((suc x + 1021) / 2 + (suc x + 1021) / 2))) ⊎ ((2 - suc x % 2 ≡ 2) × (x + 1074 ≡ 53 + ((suc x + 1021) / 2 + (suc x + 1021) / 2)))
-parity x = go (suc x % 2) refl (d x)
+parity x = go (suc x % 2) refl (omega arith)
   where
-    d : (x : ℕ) → suc x % 2 < 2
-    d x = omega arith
-
     go : (r : ℕ) → suc x % 2 ≡ r → suc x % 2 < 2 → ((2 - suc x % 2 ≡ 1) × (x + 1074 ≡ 52 + ((suc x + 1021) / 2 + (suc x + 1021) / 2))) ⊎ ((2 - suc x % 2 ≡ 2) × (x + 1074 ≡ 53 + ((suc x + 1021) / 2 + (suc x + 1021) / 2)))
     go zero e l = inr (omega arith, omega arith)
     go (suc zero) e l = inl (omega arith, omega arith)
-    go (suc (suc r)) e l = absurd (no (suc x % 2) r e l)
-      where
-        no : (y r : ℕ) → y ≡ suc (suc r) → y < 2 → ⊥
-        no y r e l = omega arith
+    go (suc (suc r)) e l = absurd (omega arith)
 
 -- the number whose root is taken, for a field suc x
 abbrev M-of : ℕ → ℕ → ℕ
@@ -98,37 +90,19 @@ scaled x t =
     let k = (suc x + 1021) / 2 in
     mul-assoc (4503599627370496 + t) (2 ^ x) (2 ^ 1074)
     ∙ ap (λ (z : ℕ). (4503599627370496 + t) * z) (halves x (2 - suc x % 2) k (parity x))
-    ∙ regroup (4503599627370496 + t) (2 - suc x % 2) 4503599627370496 (4 ^ k)
-  where
-    regroup : (s w c p : ℕ) → s * (w * c * p) ≡ s * w * c * p
-    regroup s w c p = omega arith
+    ∙ omega arith
 
 wide-of : (x t : ℕ) → t < 4503599627370496 → Wide (M-of x t)
 wide-of x t h =
     let d = doubled (4503599627370496 + t) (2 - suc x % 2) (omega arith) (omega arith) (omega arith) (omega arith) in
-    (grow ((4503599627370496 + t) * (2 - suc x % 2)) (d .0), less ((4503599627370496 + t) * (2 - suc x % 2)) (d .1))
-  where
-    grow : (m : ℕ) → 4503599627370496 ≤ m → 2 ^ 104 ≤ m * 4503599627370496
-    grow m h = omega arith
-
-    less : (m : ℕ) → m < 18014398509481984 → m * 4503599627370496 < 2 ^ 106
-    less m h = omega arith
-
--- the fields of a pattern with no sign
-exp-is : (b x : ℕ) → b < 9223372036854775808 → b / 4503599627370496 ≡ suc x → exp b ≡ suc x
-unfolding exp
-exp-is b x h e = omega arith
-
-size-is : (b : ℕ) → b < 9223372036854775808 → size-of b ≡ b
-size-is b h = omega arith
+    (omega (arith, d .0), omega (arith, d .1))
 
 -- the value of such a pattern
 normal-value : (b x : ℕ) → b / 4503599627370496 ≡ suc x → suc x < 2047 → HasValue (ofBits binary64 b) false ((4503599627370496 + b % 4503599627370496) * 2 ^ x) (2 ^ 1074)
-unfolding digits
 normal-value b x e l =
     let B : b < 9223372036854775808 = omega arith in
-    let E : exp b ≡ suc x = exp-is b x B e in
-    subst (λ (z : ℕ). HasValue (ofBits binary64 z) false ((4503599627370496 + b % 4503599627370496) * 2 ^ x) (2 ^ 1074)) (size-is b B)
+    let E : exp b ≡ suc x = omega arith in
+    subst (λ (z : ℕ). HasValue (ofBits binary64 z) false ((4503599627370496 + b % 4503599627370496) * 2 ^ x) (2 ^ 1074)) (omega arith)
     (subst (λ (z : ℕ). HasValue (ofBits binary64 (size-of b)) false (val z (b % 4503599627370496)) (2 ^ 1074)) E (size-value b (subst (λ (z : ℕ). z < 2047) (sym E) l)))
 
 -- what `rootBits` is
@@ -138,33 +112,15 @@ bits-is b x e =
     let f : ℕ → ℕ = λ z. (4503599627370496 + b % 4503599627370496) * (2 - z % 2) * 4503599627370496 in
     ap (λ (z : ℕ). (z + 1021) / 2 * 4503599627370496 + nearest (root (f z)) (compare (f z * 4) ((2 * root (f z) + 1) * (2 * root (f z) + 1)))) (sym e)
 
-field-of : (b : ℕ) → 4503599627370496 ≤ b → b / 4503599627370496 ≡ suc (b / 4503599627370496 - 1)
-field-of b h = omega arith
-
-lead-pos : (t : ℕ) → 0 < 4503599627370496 + t
-lead-pos t = omega arith
-
 normal-root : (b : ℕ) → 4503599627370496 ≤ b → b < 9218868437227405312 → Right (ofBits binary64 b) (rootBits b)
 normal-root b lo hi =
     let x = b / 4503599627370496 - 1 in
     let t = b % 4503599627370496 in
-    let e : b / 4503599627370496 ≡ suc x = field-of b lo in
+    let e : b / 4503599627370496 ≡ suc x = omega arith in
     rooted (ofBits binary64 b) ((4503599627370496 + t) * 2 ^ x) (M-of x t) ((suc x + 1021) / 2) (rootBits b)
-    (normal-value b x e (omega arith)) (mul-pos (lead-pos t) (pow-pos x)) (scaled x t) (wide-of x t (omega arith)) (omega arith) (bits-is b x e)
+    (normal-value b x e (omega arith)) (mul-pos (omega arith) (pow-pos x)) (scaled x t) (wide-of x t (omega arith)) (omega arith) (bits-is b x e)
 
 -- ---- a subnormal pattern: 2 ^ 54 times the value is normal
-mul-value : (f : Format) (x y : Float) (a c b d : ℕ) → 0 < c → 0 < d → HasValue x false a c → HasValue y false b d → mul f x y ≡ round f false (a * b) (c * d)
-unfolding mul
-mul-value f nan y a c b d C D h k = absurd h
-mul-value f (inf s) y a c b d C D h k = absurd h
-mul-value f (fin true m e) y a c b d C D h k = absurd (true≢false (h .0))
-mul-value f (fin false m e) nan a c b d C D h k = absurd k
-mul-value f (fin false m e) (inf t) a c b d C D h k = absurd k
-mul-value f (fin false m e) (fin true n g) a c b d C D h k = absurd (true≢false (k .0))
-mul-value f (fin false m e) (fin false n g) a c b d C D h k =
-    round-same f false (m * up e * (n * up g)) (down e * down g) (a * b) (c * d) (mul-pos (down-pos e) (down-pos g)) (mul-pos C D)
-    (mul-mul-mul-comm (m * up e) (n * up g) c d ∙ ap (λ (z : ℕ). z * (n * up g * d)) (h .1) ∙ ap (λ (z : ℕ). a * down e * z) (k .1) ∙ mul-mul-mul-comm a (down e) b (down g))
-
 scale-value : HasValue (ofBits binary64 4850376798678024192) false (2 ^ 54) 1
 unfolding ofBits
 scale-value = (refl, refl)
@@ -175,28 +131,16 @@ larger x = mul binary64 x (ofBits binary64 4850376798678024192)
 larger-value : (x : Float) (N : ℕ) → HasValue x false N (2 ^ 1074) → N < 4503599627370496 → HasValue (larger x) false (N * 2 ^ 54) (2 ^ 1074)
 larger-value x N h l =
     subst (λ (y : Float). HasValue y false (N * 2 ^ 54) (2 ^ 1074)) (sym (mul-value binary64 x (ofBits binary64 4850376798678024192) N (2 ^ 1074) (2 ^ 54) 1 (pow-pos 1074) (lit< tt) h scale-value))
-    (round-exact binary64 false (N * 2 ^ 54) (2 ^ 1074) N 54 (pow-pos 1074) (wider N l) (lt-of-lt-of-le (shl-lt 52 54 l) (lit≤ tt)) refl)
-  where
-    wider : (N : ℕ) → N < 4503599627370496 → N < 9007199254740992
-    wider N h = omega arith
-
-same-value : (x : Float) (a b c : ℕ) → HasValue x false a c → HasValue x false b c → a ≡ b
-same-value nan a b c h k = absurd h
-same-value (inf t) a b c h k = absurd h
-same-value (fin t m e) a b c h k = eq-of-mul-eq-mul-right (down e) (down-pos e) a b (sym (h .1) ∙ k .1)
+    (round-exact binary64 false (N * 2 ^ 54) (2 ^ 1074) N 54 (pow-pos 1074) (omega arith) (lt-of-lt-of-le (shl-lt 52 54 l) (lit≤ tt)) refl)
 
 small-value : (b : ℕ) → b < 4503599627370496 → HasValue (ofBits binary64 b) false b (2 ^ 1074)
 small-value b h =
     let B : b < 9223372036854775808 = omega arith in
-    let v = size-value b (omega (arith, exp-zero b h)) in
-    subst (λ (z : ℕ). HasValue (ofBits binary64 b) false z (2 ^ 1074)) (ap (λ (E : ℕ). val E (digits b)) (exp-zero b h) ∙ mul-one (digits b) ∙ digits-all b h)
-    (subst (λ (z : ℕ). HasValue (ofBits binary64 z) false (value b) (2 ^ 1074)) (size-is b B) v)
-  where
-    exp-zero : (b : ℕ) → b < 4503599627370496 → exp b ≡ 0
-    exp-zero b h = unfold exp in omega arith
-
-    digits-all : (b : ℕ) → b < 4503599627370496 → digits b ≡ b
-    digits-all b h = unfold digits in omega arith
+    let x : exp b ≡ 0 = omega arith in
+    let d : digits b ≡ b = omega arith in
+    let v = size-value b (omega arith) in
+    subst (λ (z : ℕ). HasValue (ofBits binary64 b) false z (2 ^ 1074)) (ap (λ (E : ℕ). val E (digits b)) x ∙ mul-one (digits b) ∙ d)
+    (subst (λ (z : ℕ). HasValue (ofBits binary64 z) false (value b) (2 ^ 1074)) (omega arith) v)
 
 -- the pattern of the larger value
 larger-bits : (x : Float) (N : ℕ) → HasValue x false N (2 ^ 1074) → 0 < N → N < 4503599627370496 → (9007199254740992 ≤ toBits binary64 (larger x)) × (toBits binary64 (larger x) < 252201579132747776)
@@ -207,10 +151,7 @@ larger-bits x N h P l =
     let s1 : 54 < size a = size-gt a 54 (omega arith) in
     let s2 : size a ≤ 106 = size-le a 106 (shl-lt 52 54 l) in
     let k = kept-lt 53 a in
-    in-range (toBits binary64 (larger x)) (size a) (a / 2 ^ D) e s1 s2 k
-  where
-    in-range : (b z q : ℕ) → b ≡ 0 + (z - 53) * 4503599627370496 + q → 54 < z → z ≤ 106 → q < 9007199254740992 → (9007199254740992 ≤ b) × (b < 252201579132747776)
-    in-range b z q e s1 s2 k = (omega arith, omega arith)
+    (omega arith, omega arith)
 
 small-root : (b : ℕ) → 0 < b → b < 4503599627370496
     → (121597189939003392 ≤ rootBits (toBits binary64 (larger (ofBits binary64 b)))) × Right (ofBits binary64 b) (rootBits (toBits binary64 (larger (ofBits binary64 b))) - 121597189939003392)
@@ -222,11 +163,11 @@ small-root b P l =
     let r = larger-bits v b h P l in
     let x = c / 4503599627370496 - 1 in
     let t = c % 4503599627370496 in
-    let e : c / 4503599627370496 ≡ suc x = field-of c (omega arith) in
+    let e : c / 4503599627370496 ≡ suc x = omega arith in
     let k = (suc x + 1021) / 2 in
     let back : ofBits binary64 c ≡ y = ofBits-toBits binary64 y (mul-fits binary64 v (ofBits binary64 4850376798678024192)) in
     let same : (4503599627370496 + t) * 2 ^ x ≡ b * 2 ^ 54 =
-    same-value y ((4503599627370496 + t) * 2 ^ x) (b * 2 ^ 54) (2 ^ 1074) (subst (λ (z : Float). HasValue z false ((4503599627370496 + t) * 2 ^ x) (2 ^ 1074)) back (normal-value c x e (omega arith))) (larger-value v b h l) in
+    same-value y false ((4503599627370496 + t) * 2 ^ x) (b * 2 ^ 54) (2 ^ 1074) (subst (λ (z : Float). HasValue z false ((4503599627370496 + t) * 2 ^ x) (2 ^ 1074)) back (normal-value c x e (omega arith))) (larger-value v b h l) in
     let kk : k ≡ k - 27 + 27 = omega arith in
     let is = bits-is c x e in
     let exact : b * 2 ^ 1074 ≡ M-of x t * 4 ^ (k - 27) =
@@ -265,12 +206,10 @@ above-top x h t g =
     let b = toBits binary64 x in
     let n = above-bits x h t in
     let back : ofBits binary64 b ≡ x = ofBits-toBits binary64 x h in
-    let f : x ≡ ofFields binary64 (leb 9223372036854775808 b) 2047 (digits b) = sym back ∙ signed b ∙ ap (λ (E : ℕ). ofFields binary64 (leb 9223372036854775808 b) E (digits b)) (exp-top b g (n .1)) in
+    let e : exp b ≡ 2047 = omega (arith, n .1) in
+    let f : x ≡ ofFields binary64 (leb 9223372036854775808 b) 2047 (digits b) = sym back ∙ signed b ∙ ap (λ (E : ℕ). ofFields binary64 (leb 9223372036854775808 b) E (digits b)) e in
     plus x (leb 9223372036854775808 b) (f ∙ top-field (leb 9223372036854775808 b) (digits b) (subst (λ (v : Float). T (not (isNan v))) f (n .0))) t
   where
-    exp-top : (b : ℕ) → 9218868437227405312 ≤ b → b < 9223372036854775808 → exp b ≡ 2047
-    exp-top b g h = unfold exp in omega arith
-
     plus : (x : Float) (s : Bool) → x ≡ inf s → lt nought x ≡ true → x ≡ sqrtOf x
     plus x true e t = absurd (false≢true (sym (ap (lt nought) e) ∙ t))
     plus x false e t = e ∙ sym (ap sqrtOf e)
@@ -314,14 +253,8 @@ small x h t l =
     let v = small-value b l in
     let r = larger-bits (ofBits binary64 b) b v P l in
     let s = small-root b P l in
-    subst Small back
-    (record {
-      some = value-no-nan (larger (ofBits binary64 b)) false (b * 2 ^ 54) (2 ^ 1074) (larger-value (ofBits binary64 b) b v l);
-      lo = omega arith;
-      hi = omega arith;
-      room = s .0;
-      right = s .1;
-    })
+    let some = value-no-nan (larger (ofBits binary64 b)) false (b * 2 ^ 54) (2 ^ 1074) (larger-value (ofBits binary64 b) b v l) in
+    subst Small back (record { some = some; lo = omega arith; hi = omega arith; room = s .0; right = s .1 })
 
 pub normal : (x : Float) → T (fits binary64 x) → 4503599627370496 ≤ toBits binary64 x → toBits binary64 x < 9218868437227405312 → Right x (rootBits (toBits binary64 x))
 normal x h lo hi =

@@ -13,7 +13,7 @@ use lib.Ieee.Fits.{two, two-le-pos}
 use Rattle.numbers.specs.SquareRoot.{another, rootBy, root, rootOf}
 use Rattle.numbers.specs.Inner.{IsRoot, Extends, nearestRoot}
 use Rattle.numbers.proofs.floats.Compared.{le-or-lt, compare-scale, compare-lt, compare-gt}
-use Rattle.numbers.proofs.floats.Patterns.{size-exact, one-more, dropped}
+use Rattle.numbers.proofs.floats.Patterns.{size-drop}
 
 -- ---- squares
 pub square-le : (a b : ℕ) → a * a < suc b * suc b → a ≤ b
@@ -32,64 +32,34 @@ around n s r h = (omega (arith, h .0), omega (arith, h .0, h .1))
 another-around : (s n : ℕ) → Around (n / 4) s → Around n (another (2 * s) n)
 another-around s n h = go (leb (suc (2 * s) * suc (2 * s)) n) (leb→le (suc (2 * s) * suc (2 * s)) n) (nleb→lt (suc (2 * s) * suc (2 * s)) n)
   where
-    lo : (s n m : ℕ) → m * 4 ≤ n → s * s ≤ m → 2 * s * (2 * s) ≤ n
-    lo s n m e h = omega arith
-
-    hi : (s n m : ℕ) → n < m * 4 + 4 → m < suc s * suc s → n < suc (suc (2 * s)) * suc (suc (2 * s))
-    hi s n m e h = omega arith
-
-    q1 : (n : ℕ) → n / 4 * 4 ≤ n
-    q1 n = omega arith
-
-    q2 : (n : ℕ) → n < n / 4 * 4 + 4
-    q2 n = omega arith
-
     go : (b : Bool) → (T b → suc (2 * s) * suc (2 * s) ≤ n) → (T (not b) → n < suc (2 * s) * suc (2 * s)) → Around n (cond b (suc (2 * s)) (2 * s))
-    go true a b = (a tt, hi s n (n / 4) (q2 n) (h .1))
-    go false a b = (lo s n (n / 4) (q1 n) (h .0), b tt)
+    go true a b = (a tt, omega (arith, h .1))
+    go false a b = (omega (arith, h .0), b tt)
 
 rootBy-around : (d n : ℕ) → n < 4 ^ d → Around n (rootBy d n)
 unfolding rootBy
-rootBy-around zero n h = (z n h, h)
-  where
-    z : (n : ℕ) → n < 1 → 0 * 0 ≤ n
-    z n h = omega arith
-rootBy-around (suc d) n h = another-around (rootBy d (n / 4)) n (rootBy-around d (n / 4) (quarter n (4 ^ d) (subst (λ (x : ℕ). n < x) (pow-succ' 4 d) h)))
-  where
-    quarter : (n p : ℕ) → n < 4 * p → n / 4 < p
-    quarter n p h = omega arith
+rootBy-around zero n h = (omega arith, h)
+rootBy-around (suc d) n h = another-around (rootBy d (n / 4)) n (rootBy-around d (n / 4) (omega (arith, subst (λ (x : ℕ). n < x) (pow-succ' 4 d) h)))
 
 pub four-pow : (d : ℕ) → 4 ^ d ≡ 2 ^ d * 2 ^ d
 four-pow zero = refl
-four-pow (suc d) = pow-succ' 4 d ∙ ap (λ (x : ℕ). 4 * x) (four-pow d) ∙ regroup (2 ^ d) ∙ ap (λ (x : ℕ). x * x) (sym (pow-succ' 2 d))
-  where
-    regroup : (x : ℕ) → 4 * (x * x) ≡ 2 * x * (2 * x)
-    regroup x = omega arith
+four-pow (suc d) = pow-succ' 4 d ∙ ap (λ (x : ℕ). 4 * x) (four-pow d) ∙ omega arith ∙ ap (λ (x : ℕ). x * x) (sym (pow-succ' 2 d))
 
 pub root-around : (n : ℕ) → Around n (root n)
 unfolding root
 root-around n = rootBy-around (size n) n (lt-of-lt-of-le (size-lt n) (le-trans (grow (2 ^ size n) (pow-pos (size n))) (le-of-eq (sym (four-pow (size n))))))
   where
     grow : (x : ℕ) → 0 < x → x ≤ x * x
-    grow x h = le-trans (le-of-eq (one x)) (mul-le-mul-right x h)
-      where
-        one : (x : ℕ) → x ≡ 1 * x
-        one x = omega arith
+    grow x h = le-trans (le-of-eq (omega arith)) (mul-le-mul-right x h)
 
 sq-pos : (n r : ℕ) → n < r * r → 0 < r
-sq-pos n zero h = absurd (no n h)
-  where
-    no : (n : ℕ) → n < 0 * 0 → ⊥
-    no n h = omega arith
+sq-pos n zero h = absurd (omega arith)
 sq-pos n (suc k) h = zero-lt-suc k
 
 -- one less for the root
 shrink : (s rem qq n : ℕ) → 0 < s → s * s + rem ≡ n + qq → rem < qq → qq ≤ rem + 2 * s - 1 → IsRoot n (s - 1) (rem + 2 * s - 1 - qq)
 shrink zero rem qq n p e l g = absurd (lt-irrefl 0 p)
-shrink (suc t) rem qq n p e l g = subst (λ (x : ℕ). IsRoot n x (rem + 2 * suc t - 1 - qq)) (back t) (omega arith, omega arith)
-  where
-    back : (t : ℕ) → t ≡ suc t - 1
-    back t = omega arith
+shrink (suc t) rem qq n p e l g = let back : t ≡ suc t - 1 = omega arith in subst (λ (x : ℕ). IsRoot n x (rem + 2 * suc t - 1 - qq)) back (omega arith, omega arith)
 
 -- ---- from the root of n1 to that of n, by one division: B is a power of two in the code, and here any number up to 2 * s1
 module _ (B s1 r1 a1 a0 n1 : ℕ) (h1 : s1 * s1 + r1 ≡ n1) (h2 : r1 ≤ 2 * s1) (A1 : a1 < B) (A0 : a0 < B) (big : B ≤ 2 * s1) (S : 0 < s1) where
@@ -126,10 +96,8 @@ root-size p M k q P a lo hi =
     let r = root-around (M * 4 ^ k) in
     let ge : q * 2 ^ k ≤ R = square-le (q * 2 ^ k) R (lt-of-le-of-lt (le-trans (le-of-eq (scaled q k)) (mul-le-mul-right (4 ^ k) (a .0))) (r .1)) in
     let lt : R < suc q * 2 ^ k = square-lt R (suc q * 2 ^ k) (lt-of-le-of-lt (r .0) (lt-of-lt-of-le (mul-lt-mul-of-pos-right (a .1) (four-pos k)) (le-of-eq (sym (scaled (suc q) k))))) in
-    dropped (size R) p k
-    (size-exact (p - 1 + k) R (le-trans (le-of-eq (pow-add 2 (p - 1) k)) (le-trans (mul-le-mul-right (2 ^ k) lo) ge))
-    (subst (λ (z : ℕ). R < 2 ^ z) (sym (one-more p k P)) (lt-of-lt-of-le lt (le-trans (mul-le-mul-right (2 ^ k) hi) (le-of-eq (sym (pow-add 2 p k))))))
-    ∙ one-more p k P)
+    size-drop p R k P (le-trans (le-of-eq (pow-add 2 (p - 1) k)) (le-trans (mul-le-mul-right (2 ^ k) lo) ge))
+    (lt-of-lt-of-le lt (le-trans (mul-le-mul-right (2 ^ k) hi) (le-of-eq (sym (pow-add 2 p k)))))
 
 pub rootOf-at : (f : Format) (num den M k q : ℕ) → 0 < den → num * 4 ^ low f ≡ M * (den * 4 ^ k) → Around M q → 2 ^ (prec f - 1) ≤ q → q < 2 ^ prec f
     → rootOf f num den ≡ units f false (nearest q (compare (M * 4) ((2 * q + 1) * (2 * q + 1)))) k
@@ -137,37 +105,23 @@ unfolding rootOf
 rootOf-at f num den M k q D e a lo hi =
     let n = num * 4 ^ low f in
     let U : 0 < den * 4 ^ k = mul-pos D (four-pos k) in
-    let e1 : n / den ≡ M * 4 ^ k = ap (λ (x : ℕ). x / den) (e ∙ regroup M den (4 ^ k)) ∙ mul-div-cancel (M * 4 ^ k) D in
+    let e1 : n / den ≡ M * 4 ^ k = ap (λ (x : ℕ). x / den) (e ∙ omega arith) ∙ mul-div-cancel (M * 4 ^ k) D in
     let e2 : size (root (n / den)) - prec f ≡ k = ap (λ (x : ℕ). size (root x) - prec f) e1 ∙ root-size (prec f) M k q (two-le-pos (prec f) (two f)) a lo hi in
     let e3 : n / (den * 4 ^ k) ≡ M = ap (λ (x : ℕ). x / (den * 4 ^ k)) e ∙ mul-div-cancel M U in
     let e4 : root (n / (den * 4 ^ k)) ≡ q = ap root e3 ∙ around-unique M (root M) q (root-around M) a in
     let e5 : compare (n * 4) ((2 * q + 1) * (2 * q + 1) * (den * 4 ^ k)) ≡ compare (M * 4) ((2 * q + 1) * (2 * q + 1)) =
-    ap (λ (x : ℕ). compare x ((2 * q + 1) * (2 * q + 1) * (den * 4 ^ k))) (ap (λ (x : ℕ). x * 4) e ∙ swap M (den * 4 ^ k)) ∙ compare-scale (M * 4) ((2 * q + 1) * (2 * q + 1)) (den * 4 ^ k) U in
+    ap (λ (x : ℕ). compare x ((2 * q + 1) * (2 * q + 1) * (den * 4 ^ k))) (ap (λ (x : ℕ). x * 4) e ∙ omega arith) ∙ compare-scale (M * 4) ((2 * q + 1) * (2 * q + 1)) (den * 4 ^ k) U in
     ap (λ (j : ℕ). units f false (nearest (root (n / (den * 4 ^ j))) (compare (n * 4) ((2 * root (n / (den * 4 ^ j)) + 1) * (2 * root (n / (den * 4 ^ j)) + 1) * (den * 4 ^ j)))) j) e2
     ∙ ap (λ (r : ℕ). units f false (nearest r (compare (n * 4) ((2 * r + 1) * (2 * r + 1) * (den * 4 ^ k)))) k) e4
     ∙ ap (λ (o : Ordering). units f false (nearest q o) k) e5
-  where
-    regroup : (M d p : ℕ) → M * (d * p) ≡ M * p * d
-    regroup M d p = omega arith
-
-    swap : (M u : ℕ) → M * u * 4 ≡ M * 4 * u
-    swap M u = omega arith
 
 -- with what is left of M: up where it is more than q
 up-or-not : (M q r : ℕ) → IsRoot M q r → (r ≤ q → nearest q (compare (M * 4) ((2 * q + 1) * (2 * q + 1))) ≡ q) × (q < r → nearest q (compare (M * 4) ((2 * q + 1) * (2 * q + 1))) ≡ q + 1)
-up-or-not M q r h = (
-  λ l. ap (nearest q) (compare-lt (M * 4) ((2 * q + 1) * (2 * q + 1)) (below M q r (h .0) l)),
-  λ g. ap (nearest q) (compare-gt (M * 4) ((2 * q + 1) * (2 * q + 1)) (above M q r (h .0) g)) ∙ suc-is q,
-)
-  where
-    below : (M q r : ℕ) → q * q + r ≡ M → r ≤ q → M * 4 < (2 * q + 1) * (2 * q + 1)
-    below M q r e l = omega arith
-
-    above : (M q r : ℕ) → q * q + r ≡ M → q < r → (2 * q + 1) * (2 * q + 1) < M * 4
-    above M q r e l = omega arith
-
-    suc-is : (q : ℕ) → suc q ≡ q + 1
-    suc-is q = omega arith
+up-or-not M q r h =
+    let e = h .0 in (
+      λ l. ap (nearest q) (compare-lt (M * 4) ((2 * q + 1) * (2 * q + 1)) (omega arith)),
+      λ g. ap (nearest q) (compare-gt (M * 4) ((2 * q + 1) * (2 * q + 1)) (omega arith)) ∙ omega arith,
+    )
 
 -- ---- the sizes of what the code for one such step computes
 pub record Sizes (s r a c b q u : ℕ) : Type 0 where
@@ -228,24 +182,15 @@ doubled m w a b c d = (omega (arith, mul-le-mul (le-refl m) c), omega (arith, mu
 pub bracket : (M : ℕ) → (M * 4 < (2 * nearestRoot M + 1) * (2 * nearestRoot M + 1)) × ((2 * nearestRoot M - 1) * (2 * nearestRoot M - 1) < M * 4 + 1)
 bracket M = go (le-or-lt (M - root M * root M) (root M))
   where
-    left : (M s : ℕ) → s * s ≤ M → M < suc s * suc s → IsRoot M s (M - s * s)
-    left M s a b = (omega arith, omega arith)
-
     is : IsRoot M (root M) (M - root M * root M)
-    is = left M (root M) (root-around M .0) (root-around M .1)
+    is = let a = root-around M in (omega (arith, a .0), omega (arith, a .0, a .1))
 
     down-is : (M s r : ℕ) → s * s + r ≡ M → r ≤ s → (M * 4 < (2 * s + 1) * (2 * s + 1)) × ((2 * s - 1) * (2 * s - 1) < M * 4 + 1)
     down-is M zero r e l = (omega arith, omega arith)
-    down-is M (suc s) r e l = (omega arith, subst (λ (x : ℕ). x * x < M * 4 + 1) (odd-is s) (omega arith))
-      where
-        odd-is : (s : ℕ) → suc (2 * s) ≡ 2 * suc s - 1
-        odd-is s = omega arith
+    down-is M (suc s) r e l = let o : suc (2 * s) ≡ 2 * suc s - 1 = omega arith in (omega arith, subst (λ (x : ℕ). x * x < M * 4 + 1) o (omega arith))
 
     up-is : (M s r : ℕ) → s * s + r ≡ M → r ≤ 2 * s → s < r → (M * 4 < (2 * (s + 1) + 1) * (2 * (s + 1) + 1)) × ((2 * (s + 1) - 1) * (2 * (s + 1) - 1) < M * 4 + 1)
-    up-is M s r e h l = (omega arith, subst (λ (x : ℕ). x * x < M * 4 + 1) (odd-is s) (omega arith))
-      where
-        odd-is : (s : ℕ) → 2 * s + 1 ≡ 2 * (s + 1) - 1
-        odd-is s = omega arith
+    up-is M s r e h l = let o : 2 * s + 1 ≡ 2 * (s + 1) - 1 = omega arith in (omega arith, subst (λ (x : ℕ). x * x < M * 4 + 1) o (omega arith))
 
     go : (M - root M * root M ≤ root M) ⊎ (root M < M - root M * root M) → (M * 4 < (2 * nearestRoot M + 1) * (2 * nearestRoot M + 1)) × ((2 * nearestRoot M - 1) * (2 * nearestRoot M - 1) < M * 4 + 1)
     go (inl l) = subst (λ (n : ℕ). (M * 4 < (2 * n + 1) * (2 * n + 1)) × ((2 * n - 1) * (2 * n - 1) < M * 4 + 1)) (sym (nearest-down M (root M) (M - root M * root M) is l)) (down-is M (root M) (M - root M * root M) (is .0) l)
@@ -272,9 +217,6 @@ module _ (s r q u : ℕ) (lo : 67108864 ≤ s) (hi : s < 134217728) (left : r �
   pub last-down : u * 67108864 ≤ s * 67108864 + q + q * q → s * 67108864 + q ≡ nearestRoot ((s * s + r) * 4503599627370496)
   last-down g = go (leb (q * q) (u * 67108864 + 0)) (leb→le (q * q) (u * 67108864 + 0)) (nleb→lt (q * q) (u * 67108864 + 0))
     where
-      back : (x : ℕ) → 1 ≤ x → x ≡ x - 1 + 1
-      back x h = omega arith
-
       go : (b : Bool) → (T b → q * q ≤ u * 67108864 + 0) → (T (not b) → u * 67108864 + 0 < q * q) → s * 67108864 + q ≡ nearestRoot ((s * s + r) * 4503599627370496)
       go true h k =
           sym (nearest-down ((s * s + r) * 4503599627370496) (s * 67108864 + q) (u * 67108864 + 0 - q * q)
@@ -285,7 +227,7 @@ module _ (s r q u : ℕ) (lo : 67108864 ≤ s) (hi : s < 134217728) (left : r �
           let P : 0 < q = sq-pos (u * 67108864 + 0) q (k tt) in
           let Q : u * 67108864 + 0 < q * q = k tt in
           let W = square in
-          back (s * 67108864 + q) (omega arith)
+          omega arith
           ∙ sym (nearest-up ((s * s + r) * 4503599627370496) (s * 67108864 + q - 1) (u * 67108864 + 0 + 2 * (s * 67108864 + q) - 1 - q * q)
           (subst (λ (n : ℕ). IsRoot n (s * 67108864 + q - 1) (u * 67108864 + 0 + 2 * (s * 67108864 + q) - 1 - q * q)) same
           (less-one 67108864 s r 0 0 (s * s + r) refl left (omega arith) (omega arith) (omega arith) (omega arith) q u (omega arith) l (k tt)))

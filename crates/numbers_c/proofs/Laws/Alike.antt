@@ -1,4 +1,5 @@
 -- Each export's promise determines its answer, as `numbers` shows it of its own functions. Assumes nothing.
+--     NAME-alike  so it is with the promise of the export rungtwine_NAME
 use Rattle.numbers.proofs.Laws.Alike.{Alike, alike}
 use Rattle.numbers_c.proofs.rungtwine_min.Kinds as min-kinds
 use Rattle.numbers_c.proofs.rungtwine_min.Reads as min
@@ -25,50 +26,38 @@ use Rattle.numbers_c.proofs.rungtwine_first_root.Reads as first-root
 use Rattle.numbers_c.proofs.rungtwine_second_root.Kinds as second-root-kinds
 use Rattle.numbers_c.proofs.rungtwine_second_root.Reads as second-root
 
--- The smaller of two.
 pub min-alike : Alike 0 min-kinds.ps min-kinds.r min.Post
 min-alike κs a r s e f = alike
 
--- The larger of two.
 pub max-alike : Alike 0 max-kinds.ps max-kinds.r max.Post
 max-alike κs a r s e f = alike
 
--- The middle one of three.
 pub median-alike : Alike 0 median-kinds.ps median-kinds.r median.Post
 median-alike κs a r s e f = alike
 
--- The size of an f32.
 pub abs32-alike : Alike 0 abs32-kinds.ps abs32-kinds.r abs32.Post
 abs32-alike κs a r s e f = alike
 
--- The size of an f64.
 pub abs64-alike : Alike 0 abs64-kinds.ps abs64-kinds.r abs64.Post
 abs64-alike κs a r s e f = alike
 
--- The mix of two.
 pub mix-alike : Alike 0 mix-kinds.ps mix-kinds.r mix.Post
 mix-alike κs a r s e f = alike
 
--- An f64 narrowed to f32.
 pub narrow-alike : Alike 0 narrow-kinds.ps narrow-kinds.r narrow.Post
 narrow-alike κs a r s e f = alike
 
--- The square root of an f64.
 pub sqrt-alike : Alike 0 sqrt-kinds.ps sqrt-kinds.r sqrt.Post
 sqrt-alike κs a r s e f = alike
 
--- The floor of an f64.
 pub floor-alike : Alike 0 floor-kinds.ps floor-kinds.r floor.Post
 floor-alike κs a r s e f = alike
 
--- How many roots a quadratic has.
 pub root-count-alike : Alike 0 root-count-kinds.ps root-count-kinds.r root-count.Post
 root-count-alike κs a r s e f = alike
 
--- The first root of a quadratic.
 pub first-root-alike : Alike 0 first-root-kinds.ps first-root-kinds.r first-root.Post
 first-root-alike κs a r s e f = alike
 
--- The second root of a quadratic.
 pub second-root-alike : Alike 0 second-root-kinds.ps second-root-kinds.r second-root.Post
 second-root-alike κs a r s e f = alike

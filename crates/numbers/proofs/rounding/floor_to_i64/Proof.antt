@@ -11,7 +11,8 @@ use lib.Ieee.Bits.{ofBits-toBits}
 use Rattle.numbers.specs.Rounding.{floorOf}
 use Rattle.numbers.specs.Inner.{scaled}
 use Rattle.ground.proofs.Laws.Nan.{is-nan, no-nan}
-use Rattle.numbers.proofs.rounding.Flooring.{e-of, m-of, scaled-lt, no-sign, sign, plain, minus-none, minus-cut, minus-whole, out, kept, kept-fits, after-fits, after-kept, minus-fits, minus-kept}
+use Rattle.numbers.proofs.rounding.Narrowing.{exp}
+use Rattle.numbers.proofs.rounding.Flooring.{m-of, scaled-lt, no-sign, sign, plain, minus-none, minus-cut, minus-whole, out, kept, kept-fits, after-fits, after-kept, minus-fits, minus-kept}
 use Rattle.numbers.proofs.rounding.floor_to_i64.Statement.{statement}
 use Rattle.numbers.proofs.rounding.floor_to_i64.Tie as tie
 
@@ -35,26 +36,17 @@ returns c = ap floorOf (sym (is-nan (c .before .args .x) (c .if1 .taken)))
 float-to-bits-bits : tie.Need-float-to-bits-bits
 float-to-bits-bits c = no-nan (c .before .args .x) (c .if1 .left)
 
-add-m : tie.Need-add-m
-add-m c = search needs
-
-scale-requires : tie.Need-scale-requires
-scale-requires c κs = search needs
-
 -- what `scale` answers is an i64
 in-range : (r m e : ℕ) → r ≡ scaled m e → m < 9007199254740992 → e < 1086 → r < 9223372036854775808
 in-range r m e h a b = subst (λ (q : ℕ). q < 9223372036854775808) (sym h) (scaled-lt m e a b)
 
 first : (c : tie.After-scale) → c .scale .result < 9223372036854775808
-first c = let n = n-of (c .before .before .before .before) in in-range (c .scale .result) (m-of n) (e-of n) (c .scale .ensures) (omega arith) (omega arith)
-
-cast-result : tie.Need-cast-result
-cast-result c = kept-fits (c .scale .result) (first c)
+first c = let n = n-of (c .before .before .before .before) in in-range (c .scale .result) (m-of n) (exp n) (c .scale .ensures) (omega arith) (omega arith)
 
 returns-2 : tie.Need-returns-2
 returns-2 c =
     let s = c .before .before .before .before in
-    kept (c .scale .result) (first c) ∙ ap pos (c .scale .ensures) ∙ by s (pos (scaled (m-of (n-of s)) (e-of (n-of s)))) (plain (n-of s) (c .before .before .if2 .taken) (c .before .if3 .taken))
+    kept (c .scale .result) (first c) ∙ ap pos (c .scale .ensures) ∙ by s (pos (scaled (m-of (n-of s)) (exp (n-of s)))) (plain (n-of s) (c .before .before .if2 .taken) (c .before .if3 .taken))
 
 returns-3 : tie.Need-returns-3
 returns-3 c =
@@ -64,49 +56,25 @@ returns-3 c =
 returns-4 : tie.Need-returns-4
 returns-4 c = let s = c .before .before .before in by s (pos 0) (minus-none (n-of s) (c .before .if2 .left) (c .if4 .taken))
 
-sub-scale : tie.Need-sub-scale
-sub-scale c = search needs
-
-scale-requires-2 : tie.Need-scale-requires-2
-scale-requires-2 c κs = search needs
-
 second : (c : tie.After-scale2) → c .scale2 .result < 9223372036854775808
-second c = let n = n-of (c .before .before .before .before .before) in in-range (c .scale2 .result) (m-of n - 1) (e-of n) (c .scale2 .ensures) (omega arith) (omega arith)
-
-cast-result-2 : tie.Need-cast-result-2
-cast-result-2 c = kept-fits (c .scale2 .result) (second c)
-
-sub-result : tie.Need-sub-result
-sub-result c = after-fits (c .scale2 .result) (second c)
+second c = let n = n-of (c .before .before .before .before .before) in in-range (c .scale2 .result) (m-of n - 1) (exp n) (c .scale2 .ensures) (omega arith) (omega arith)
 
 returns-5 : tie.Need-returns-5
 returns-5 c =
     let s = c .before .before .before .before .before in
     after-kept (c .scale2 .result) (second c)
     ∙ ap negsuc (c .scale2 .ensures)
-    ∙ by s (negsuc (scaled (m-of (n-of s) - 1) (e-of (n-of s)))) (minus-cut (n-of s) (c .before .before .before .if2 .left) (c .before .before .if4 .left) (c .before .if5 .taken))
-
-scale-requires-3 : tie.Need-scale-requires-3
-scale-requires-3 c κs = search needs
+    ∙ by s (negsuc (scaled (m-of (n-of s) - 1) (exp (n-of s)))) (minus-cut (n-of s) (c .before .before .before .if2 .left) (c .before .before .if4 .left) (c .before .if5 .taken))
 
 third : (c : tie.After-scale3) → c .scale3 .result < 9223372036854775808
-third c = let n = n-of (c .before .before .before .before .before .before) in in-range (c .scale3 .result) (m-of n) (e-of n) (c .scale3 .ensures) (omega arith) (omega arith)
-
-cast-result-3 : tie.Need-cast-result-3
-cast-result-3 c = kept-fits (c .scale3 .result) (third c)
-
-sub-result-2 : tie.Need-sub-result-2
-sub-result-2 c = minus-fits (c .scale3 .result) (third c)
+third c = let n = n-of (c .before .before .before .before .before .before) in in-range (c .scale3 .result) (m-of n) (exp n) (c .scale3 .ensures) (omega arith) (omega arith)
 
 returns-6 : tie.Need-returns-6
 returns-6 c =
     let s = c .before .before .before .before .before .before in
     minus-kept (c .scale3 .result) (third c)
     ∙ ap (λ (q : ℕ). negℤ (pos q)) (c .scale3 .ensures)
-    ∙ by s (negℤ (pos (scaled (m-of (n-of s)) (e-of (n-of s))))) (minus-whole (n-of s) (c .before .before .before .before .if2 .left) (c .before .before .if5 .left) (c .before .if6 .taken))
-
-sub-result-3 : tie.Need-sub-result-3
-sub-result-3 c = search needs
+    ∙ by s (negℤ (pos (scaled (m-of (n-of s)) (exp (n-of s))))) (minus-whole (n-of s) (c .before .before .before .before .if2 .left) (c .before .before .if5 .left) (c .before .if6 .taken))
 
 returns-7 : tie.Need-returns-7
 returns-7 c =
@@ -114,25 +82,8 @@ returns-7 c =
     by s (negsuc 9223372036854775807) (out (n-of s) true (sign (n-of s) (c .before .before .before .if2 .left)) (c .if6 .left) (some (c .before .before .before .before)))
 
 pub floor-to-i64-spec : {M : Type 1} → statement M
-floor-to-i64-spec =
-    tie.close
-    (tie.spec
-    returns
-    float-to-bits-bits
-    add-m
-    scale-requires
-    cast-result
-    returns-2
-    returns-3
-    returns-4
-    sub-scale
-    scale-requires-2
-    cast-result-2
-    sub-result
-    returns-5
-    scale-requires-3
-    cast-result-3
-    sub-result-2
-    returns-6
-    sub-result-3
-    returns-7)
+floor-to-i64-spec = tie.close (tie.spec
+    returns float-to-bits-bits (λ c. search needs) (λ c κs. search needs) (λ c. kept-fits (c .scale .result) (first c)) returns-2 returns-3 returns-4
+    (λ c. search needs) (λ c κs. search needs) (λ c. kept-fits (c .scale2 .result) (second c)) (λ c. after-fits (c .scale2 .result) (second c))
+    returns-5 (λ c κs. search needs) (λ c. kept-fits (c .scale3 .result) (third c)) (λ c. minus-fits (c .scale3 .result) (third c)) returns-6
+    (λ c. search needs) returns-7)

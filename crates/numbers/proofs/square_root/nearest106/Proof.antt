@@ -28,70 +28,27 @@ steps c =
     let q : q-of c ≤ 67108864 = last-quotient (c .args .h .s) (c .args .h .r) (q-of c) (u-of c) (c .pre .0) (c .pre .1) (c .pre .2) e l in
     record { whole = e; rest = l; small = q; square = mul-le-mul q q }
 
-below : (s q : ℕ) → s < 134217728 → q ≤ 67108864 → s * 67108864 + q + 1 < 18014398509481984
-below s q h l = omega arith
-
-in-64 : (x : ℕ) → x < 18014398509481984 → x < 18446744073709551616
-in-64 x h = omega arith
-
-less : (x : ℕ) → x + 1 < 18014398509481984 → x < 18014398509481984
-less x h = omega arith
-
-mul-d : tie.Need-mul-d
-mul-d c = search needs
-
-mul-t : tie.Need-mul-t
-mul-t c = search needs
-
-div-q : tie.Need-div-q
-div-q c = search needs
-
-mul-s : tie.Need-mul-s
-mul-s c = search needs
-
-add-s : tie.Need-add-s
-add-s c = let z = steps (c .before .before .before) in omega arith
-
-mul-if1 : tie.Need-mul-if1
-mul-if1 c = let z = steps (c .before .before .before) in omega arith
-
-add-if1 : tie.Need-add-if1
-add-if1 c = let z = steps (c .before .before .before) in omega arith
-
-rem-if1 : tie.Need-rem-if1
-rem-if1 c = search needs
-
-mul-if1-2 : tie.Need-mul-if1-2
-mul-if1-2 c = let z = steps (c .before .before .before) in omega arith
+-- `omega` takes no number of more than 38 digits, so the bounds stand alone
+below : (s q : ℕ) → s < 134217728 → q ≤ 67108864 → (s * 67108864 + q + 1 < 18014398509481984) × (s * 67108864 + q < 18014398509481984) × (s * 67108864 + q + 1 < 18446744073709551616)
+below s q h l = (omega arith, omega arith, omega arith)
 
 add-result : tie.Need-add-result
-add-result c = let d = c .before .before .before .before in record { fits = in-64 _ (below (d .args .h .s) (q-of d) (d .pre .1) (steps d .small)) }
+add-result c = let d = c .before .before .before .before in record { fits = below (d .args .h .s) (q-of d) (d .pre .1) (steps d .small) .2 }
 
 returns : tie.Need-returns
 returns c =
     let d = c .before .before .before .before in
     let z = steps d in
-    (last-up (d .args .h .s) (d .args .h .r) (q-of d) (u-of d) (d .pre .0) (d .pre .1) (d .pre .2) (z .whole) (z .rest) (c .if1 .taken), below (d .args .h .s) (q-of d) (d .pre .1) (z .small))
+    (last-up (d .args .h .s) (d .args .h .r) (q-of d) (u-of d) (d .pre .0) (d .pre .1) (d .pre .2) (z .whole) (z .rest) (c .if1 .taken), below (d .args .h .s) (q-of d) (d .pre .1) (z .small) .0)
 
 returns-2 : tie.Need-returns-2
 returns-2 c =
     let d = c .before .before .before .before in
     let z = steps d in
-    (last-down (d .args .h .s) (d .args .h .r) (q-of d) (u-of d) (d .pre .0) (d .pre .1) (d .pre .2) (z .whole) (z .rest) (c .if1 .left), less _ (below (d .args .h .s) (q-of d) (d .pre .1) (z .small)))
+    (last-down (d .args .h .s) (d .args .h .r) (q-of d) (u-of d) (d .pre .0) (d .pre .1) (d .pre .2) (z .whole) (z .rest) (c .if1 .left), below (d .args .h .s) (q-of d) (d .pre .1) (z .small) .1)
 
 pub nearest106-spec : {M : Type 1} → statement M
-nearest106-spec =
-    tie.close
-    (tie.spec
-    mul-d
-    mul-t
-    div-q
-    mul-s
-    add-s
-    mul-if1
-    add-if1
-    rem-if1
-    mul-if1-2
-    add-result
-    returns
-    returns-2)
+nearest106-spec = tie.close (tie.spec
+    (λ c. search needs) (λ c. search needs) (λ c. search needs) (λ c. search needs) (λ c. let z = steps (c .before .before .before) in omega arith)
+    (λ c. let z = steps (c .before .before .before) in omega arith) (λ c. let z = steps (c .before .before .before) in omega arith)
+    (λ c. search needs) (λ c. let z = steps (c .before .before .before) in omega arith) add-result returns returns-2)

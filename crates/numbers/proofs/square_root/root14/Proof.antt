@@ -23,51 +23,11 @@ less c =
     let e = rule (c .before) in
     lower (c .before .before .before .before .args .n) t (t - 1) (omega arith) e (c .if1 .left) (omega arith)
 
-sub-i : tie.Need-sub-i
-sub-i c = search needs
-
-element-copy-out-wide : tie.Need-element-copy-out-wide
-element-copy-out-wide c = search needs
-
-wide-requires : tie.Need-wide-requires
-wide-requires c κs = search needs
-
-mul-if1 : tie.Need-mul-if1
-mul-if1 c = let e = rule c in omega (arith, squared (c .wide .result) (e .hi))
-
-mul-t14 : tie.Need-mul-t14
-mul-t14 c = search needs
-
-sub-t15 : tie.Need-sub-t15
-sub-t15 c = search needs
-
-sub-s : tie.Need-sub-s
-sub-s c = let e = rule (c .before) in omega arith
-
-mul-t16 : tie.Need-mul-t16
-mul-t16 c = omega (arith, less c .0)
-
-sub-t17 : tie.Need-sub-t17
-sub-t17 c = less c .0
-
 returns : tie.Need-returns
 returns c = exact (c .before .before .before .before .args .n) (c .before .wide .result) (omega arith) (rule (c .before)) (c .if1 .taken)
 
-returns-2 : tie.Need-returns-2
-returns-2 c = less c .1
-
 pub root14-spec : {M : Type 1} → statement M
-root14-spec =
-    tie.close
-    (tie.spec
-    sub-i
-    element-copy-out-wide
-    wide-requires
-    mul-if1
-    mul-t14
-    sub-t15
-    sub-s
-    mul-t16
-    sub-t17
-    returns
-    returns-2)
+root14-spec = tie.close (tie.spec
+    (λ c. search needs) (λ c. search needs) (λ c κs. search needs) (λ c. let e = rule c in omega (arith, squared (c .wide .result) (e .hi)))
+    (λ c. search needs) (λ c. search needs) (λ c. let e = rule (c .before) in omega arith) (λ c. omega (arith, less c .0)) (λ c. less c .0) returns
+    (λ c. less c .1))

@@ -7,20 +7,8 @@ use Rattle.numbers.proofs.square_root.Roots.{between}
 use Rattle.numbers.proofs.square_root.root54.Statement.{statement}
 use Rattle.numbers.proofs.square_root.root54.Tie as tie
 
-guess-requires : tie.Need-guess-requires
-guess-requires c κs = search needs
-
 mul-p : tie.Need-mul-p
 mul-p c = omega (arith, mul-le-mul (le-of-lt (c .guess .ensures)) (le-of-lt (c .guess .ensures)))
-
-mul-if2 : tie.Need-mul-if2
-mul-if2 c = search needs
-
-returns : tie.Need-returns
-returns c = search needs
-
-root28-requires : tie.Need-root28-requires
-root28-requires c κs = search needs
 
 extend-requires : tie.Need-extend-requires
 extend-requires c κs =
@@ -28,10 +16,5 @@ extend-requires c κs =
     let b = between (c .before .before .before .args .n / 67108864) (c .root28 .result .s) (c .root28 .result .r) 8192 16384 h (omega arith) (omega arith) in
     record { left = h .1; first = omega arith; second = omega arith; base = omega arith; root-in = omega arith; base-in = omega arith }
 
-returns-2 : tie.Need-returns-2
-returns-2 c = search needs
-
 pub root54-spec : {M : Type 1} → statement M
-root54-spec =
-    tie.close
-    (tie.spec guess-requires mul-p mul-if2 returns root28-requires extend-requires returns-2)
+root54-spec = tie.close (tie.spec (λ c κs. search needs) mul-p (λ c. search needs) (λ c. search needs) (λ c κs. search needs) extend-requires (λ c. search needs))

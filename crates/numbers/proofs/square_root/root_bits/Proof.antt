@@ -14,32 +14,11 @@ m-of c = (4503599627370496 + c .args .b % 4503599627370496) * (2 - c .args .b / 
 m-in : (c : tie.Start) → (4503599627370496 ≤ m-of c) × (m-of c < 18014398509481984)
 m-in c = doubled (4503599627370496 + c .args .b % 4503599627370496) (2 - c .args .b / 4503599627370496 % 2) (omega arith) (omega arith) (omega arith) (omega arith)
 
-add-n : tie.Need-add-n
-add-n c = search needs
-
-sub-n : tie.Need-sub-n
-sub-n c = search needs
-
-mul-n : tie.Need-mul-n
-mul-n c = let h = m-in c in omega arith
-
-add-result : tie.Need-add-result
-add-result c = search needs
-
-mul-result : tie.Need-mul-result
-mul-result c = search needs
-
-root54-requires : tie.Need-root54-requires
-root54-requires c κs = m-in c
-
 nearest106-requires : tie.Need-nearest106-requires
 nearest106-requires c κs =
     let h = m-in (c .before) in
     let b = between (m-of (c .before)) (c .root54 .result .s) (c .root54 .result .r) 67108864 134217728 (c .root54 .ensures) (omega arith) (omega arith) in
     (b .0, b .1, c .root54 .ensures .1)
-
-add-result-2 : tie.Need-add-result-2
-add-result-2 c = omega (arith, c .nearest106 .ensures .1)
 
 returns : tie.Need-returns
 unfolding rootBits
@@ -49,15 +28,6 @@ returns c =
     (c .nearest106 .ensures .0 ∙ ap (λ (n : ℕ). nearestRoot (n * 4503599627370496)) (c .before .root54 .ensures .0))
 
 pub root-bits-spec : {M : Type 1} → statement M
-root-bits-spec =
-    tie.close
-    (tie.spec
-    add-n
-    sub-n
-    mul-n
-    add-result
-    mul-result
-    root54-requires
-    nearest106-requires
-    add-result-2
-    returns)
+root-bits-spec = tie.close (tie.spec
+    (λ c. search needs) (λ c. search needs) (λ c. let h = m-in c in omega arith) (λ c. search needs) (λ c. search needs) (λ c κs. m-in c)
+    nearest106-requires (λ c. omega (arith, c .nearest106 .ensures .1)) returns)

@@ -25,12 +25,6 @@ float-to-bits-b : tie.Need-float-to-bits-b
 unfolding ofBits
 float-to-bits-b c = above-bits (c .before .args .x) (held (c .before)) (c .if1 .taken) .0
 
-float-to-bits-root-bits : tie.Need-float-to-bits-root-bits
-float-to-bits-root-bits c = tiny c .some
-
-root-bits-requires : tie.Need-root-bits-requires
-root-bits-requires c κs = (tiny c .lo, tiny c .hi)
-
 sub-result : tie.Need-sub-result
 sub-result c = subst (λ (n : ℕ). 121597189939003392 ≤ n) (sym (c .root-bits .ensures)) (tiny (c .before) .room)
 
@@ -39,9 +33,6 @@ float-from-bits-result c = subst (λ (n : ℕ). T (not (nanBits binary64 (n - 12
 
 returns : tie.Need-returns
 returns c = ap (λ (n : ℕ). ofBits binary64 (n - 121597189939003392)) (c .root-bits .ensures) ∙ tiny (c .before) .right .0
-
-root-bits-requires-2 : tie.Need-root-bits-requires-2
-root-bits-requires-2 c κs = search needs
 
 float-from-bits-result-2 : tie.Need-float-from-bits-result-2
 float-from-bits-result-2 c = subst (λ (n : ℕ). T (not (nanBits binary64 n))) (sym (c .root-bits2 .ensures)) (usual (c .before) .1)
@@ -62,18 +53,6 @@ unfolding ofBits div
 returns-5 c = sym (at-rest (c .before .before .args .x) (c .before .if1 .left) (c .if4 .left))
 
 pub sqrt-spec : {M : Type 1} → statement M
-sqrt-spec =
-    tie.close
-    (tie.spec
-    float-to-bits-b
-    float-to-bits-root-bits
-    root-bits-requires
-    sub-result
-    float-from-bits-result
-    returns
-    root-bits-requires-2
-    float-from-bits-result-2
-    returns-2
-    returns-3
-    returns-4
-    returns-5)
+sqrt-spec = tie.close (tie.spec
+    float-to-bits-b (λ c. tiny c .some) (λ c κs. (tiny c .lo, tiny c .hi)) sub-result float-from-bits-result returns (λ c κs. search needs)
+    float-from-bits-result-2 returns-2 returns-3 returns-4 returns-5)

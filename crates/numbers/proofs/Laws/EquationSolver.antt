@@ -1,4 +1,13 @@
 -- The roots of a quadratic by cases, and what a count and two values say of a list of at most two. Assumes nothing.
+--     linear-at-zero, linear-dominated, not-linear  with a = 0, or where b dominates a, the equation is linear, and elsewhere not
+--     roots-linear, roots-square                so its roots are those of the linear rule, or of the rule with the discriminant
+--     linear-none, linear-one                   the linear rule gives no root where b = 0, and elsewhere −c/b
+--     square-two, square-one, square-none       the other gives both roots where D > 0, one where D = 0, and none elsewhere
+--     square-nan                                nor where D is a NaN
+--     at-most-two                               there are at most two roots
+--     none-one-two                              a list of at most two values has none, one or two
+--     listed-is, listed-count, listed-same      what a count and two values say of such a list
+--     listed-none, listed-one, listed-two       how none, one and two values are listed
 use mathlib.Core.Path.{_≡_, refl, sym, ap, _∙_, subst}
 use mathlib.Core.Logic.{_⊎_, inl, inr}
 use mathlib.Core.Bool.{Bool, true, false, _||_, cond}
@@ -16,44 +25,36 @@ use Rattle.numbers.specs.EquationSolver.{isLinear, linearRoots, discrimi
 use Rattle.numbers.proofs.Laws.Order.{lt-not-le, le-of-eq}
 
 -- ---- which of the two rules
--- With a = 0 the equation is linear.
 pub linear-at-zero : (a b : Float) → eq a (zeroOf binary64) ≡ true → isLinear a b ≡ true
 unfolding isLinear
 linear-at-zero a b h = ap (λ (t : Bool). t || lt (mul binary64 dominance (absOf a)) (absOf b)) h
 
--- Where b dominates a it is linear.
 pub linear-dominated : (a b : Float) → eq a (zeroOf binary64) ≡ false → lt (mul binary64 dominance (absOf a)) (absOf b) ≡ true → isLinear a b ≡ true
 unfolding isLinear
 linear-dominated a b h k = λ i. h i || k i
 
--- Where neither holds it is not linear.
 pub not-linear : (a b : Float) → eq a (zeroOf binary64) ≡ false → lt (mul binary64 dominance (absOf a)) (absOf b) ≡ false → isLinear a b ≡ false
 unfolding isLinear
 not-linear a b h k = λ i. h i || k i
 
--- Where it is linear the roots are those of the linear rule.
 pub roots-linear : (a b c : Float) → isLinear a b ≡ true → rootsOf a b c ≡ linearRoots b c
 unfolding rootsOf
 roots-linear a b c h = ap (λ (t : Bool). cond t (linearRoots b c) (squareRoots a b (discriminant a b c))) h
 
--- Where it is not linear they are those of the rule with the discriminant.
 pub roots-square : (a b c : Float) → isLinear a b ≡ false → rootsOf a b c ≡ squareRoots a b (discriminant a b c)
 unfolding rootsOf
 roots-square a b c h = ap (λ (t : Bool). cond t (linearRoots b c) (squareRoots a b (discriminant a b c))) h
 
 -- ---- the linear rule
--- The linear rule gives no root where b = 0.
 pub linear-none : (b c : Float) → eq b (zeroOf binary64) ≡ true → linearRoots b c ≡ []
 unfolding linearRoots
 linear-none b c h = ap (λ (t : Bool). cond t [] (div binary64 (neg c) b ∷ [])) h
 
--- It gives the root −c/b where b is not 0.
 pub linear-one : (b c : Float) → eq b (zeroOf binary64) ≡ false → linearRoots b c ≡ div binary64 (neg c) b ∷ []
 unfolding linearRoots
 linear-one b c h = ap (λ (t : Bool). cond t [] (div binary64 (neg c) b ∷ [])) h
 
 -- ---- the rule with the discriminant
--- The rule with the discriminant D gives both roots where D > 0.
 pub square-two : (a b d : Float) → lt (zeroOf binary64) d ≡ true → squareRoots a b d ≡ upperRoot a b (sqrtOf d) ∷ lowerRoot a b (sqrtOf d) ∷ []
 unfolding squareRoots
 square-two a b d h =
@@ -65,23 +66,19 @@ zero-not-above d h =
     let z = zeroOf binary64 in
     is-false (lt z d) (not-T (lt z d) (λ l. lt-not-le z d l (le-of-eq d z (subst T (sym h) tt))))
 
--- It gives one root where D = 0.
 pub square-one : (a b d : Float) → eq d (zeroOf binary64) ≡ true → squareRoots a b d ≡ div binary64 (neg b) (mul binary64 two a) ∷ []
 unfolding squareRoots
 square-one a b d h = λ i. cond (zero-not-above d h i) (upperRoot a b (sqrtOf d) ∷ lowerRoot a b (sqrtOf d) ∷ []) (cond (h i) (div binary64 (neg b) (mul binary64 two a) ∷ []) [])
 
--- It gives no root where D is neither above 0 nor 0.
 pub square-none : (a b d : Float) → lt (zeroOf binary64) d ≡ false → eq d (zeroOf binary64) ≡ false → squareRoots a b d ≡ []
 unfolding squareRoots
 square-none a b d h k = λ i. cond (h i) (upperRoot a b (sqrtOf d) ∷ lowerRoot a b (sqrtOf d) ∷ []) (cond (k i) (div binary64 (neg b) (mul binary64 two a) ∷ []) [])
 
--- It gives no root where D is a NaN.
 pub square-nan : (a b : Float) → squareRoots a b nan ≡ []
 unfolding lt eq ofBits
 square-nan a b = square-none a b nan refl refl
 
 -- ---- how many
--- There are at most two roots.
 pub at-most-two : (a b c : Float) → length (rootsOf a b c) ≤ 2
 unfolding rootsOf linearRoots squareRoots
 at-most-two a b c =
@@ -95,14 +92,12 @@ at-most-two a b c =
     go false q false true x y z w = lit≤ tt
     go false q false false x y z w = lit≤ tt
 
--- A list of at most two values has none, one or two.
 pub none-one-two : (xs : List Float) → length xs ≤ 2 → (xs ≡ []) ⊎ ((x : Float) × (xs ≡ x ∷ [])) ⊎ ((x : Float) × (y : Float) × (xs ≡ x ∷ y ∷ []))
 none-one-two [] h = inl refl
 none-one-two (x ∷ []) h = inr (inl (x, refl))
 none-one-two (x ∷ y ∷ []) h = inr (inr (x, y, refl))
 none-one-two (x ∷ y ∷ z ∷ xs) h = absurd (not-suc-le-zero (le-of-suc-le-suc (le-of-suc-le-suc h)))
 
--- A list of at most two values is the first n of the two that it is listed as.
 pub listed-is : (xs : List Float) (n : ℕ) (x y : Float) → length xs ≤ 2 → Listed xs n x y → xs ≡ take n (x ∷ y ∷ [])
 listed-is xs n x y h l = own xs h ∙ sym (λ i. take (l .counted i) (l .one i ∷ l .two i ∷ []))
   where
@@ -112,22 +107,17 @@ listed-is xs n x y h l = own xs h ∙ sym (λ i. take (l .counted i) (l .one i �
     own (x ∷ y ∷ []) h = refl
     own (x ∷ y ∷ z ∷ xs) h = absurd (not-suc-le-zero (le-of-suc-le-suc (le-of-suc-le-suc h)))
 
--- The count of a list of at most two values is at most two.
 pub listed-count : (xs : List Float) (n : ℕ) (x y : Float) → length xs ≤ 2 → Listed xs n x y → n ≤ 2
 listed-count xs n x y h l = subst (λ (k : ℕ). k ≤ 2) (sym (l .counted)) h
 
--- One list is listed in one way.
 pub listed-same : (xs : List Float) (n m : ℕ) (x y u v : Float) → Listed xs n x y → Listed xs m u v → (n ≡ m) × (x ≡ u) × (y ≡ v)
 listed-same xs n m x y u v h k = (h .counted ∙ sym (k .counted), h .one ∙ sym (k .one), h .two ∙ sym (k .two))
 
--- No value, as it is listed.
 pub listed-none : Listed [] 0 (zeroOf binary64) (zeroOf binary64)
 listed-none = record { counted = refl; one = refl; two = refl }
 
--- One value, as it is listed.
 pub listed-one : (x : Float) → Listed (x ∷ []) 1 x (zeroOf binary64)
 listed-one x = record { counted = refl; one = refl; two = refl }
 
--- Two values, as they are listed.
 pub listed-two : (x y : Float) → Listed (x ∷ y ∷ []) 2 x y
 listed-two x y = record { counted = refl; one = refl; two = refl }

@@ -1,23 +1,29 @@
 -- The square root's definition is the right one: it is the one value that is nearest to the root. Assumes nothing.
+--     root-nearest  the square root of a positive value that binary64 holds is a value nearest to its root
+--     root-only     two values that are nearest to the root of one fraction are the same
+--     root-is       so whatever value is nearest to the root of x is the square root of x
 use mathlib.Core.Path.{_≡_, refl, sym, ap, _∙_, subst}
 use mathlib.Core.Logic.{_⊎_, inl, inr}
 use Prim.Native.Nat.{ℕ, zero, suc, _+_, _-_, _*_, _/_, _%_, _^_, _≤_, _<_}
-use native.Mathlib.Nat.{le-trans, le-of-eq, le-of-lt, lt-of-lt-of-le, lt-of-le-of-lt, not-le-of-lt, lt-irrefl, zero-lt-suc, eq-or-lt-of-le, mul-assoc, one-mul, mul-comm, mul-mul-mul-comm, mul-pos, mul-le-mul, mul-le-mul-right, mul-lt-mul-of-pos-right, lt-of-mul-lt-mul-right, pow-succ'}
+use native.Mathlib.Nat.{le-trans, le-of-eq, le-of-lt, lt-of-lt-of-le, lt-of-le-of-lt, lt-of-not-le, not-le-of-lt, lt-irrefl, zero-lt-suc, eq-or-lt-of-le, mul-assoc, one-mul, mul-comm, mul-mul-mul-comm, mul-pos, mul-le-mul, mul-le-mul-right, mul-lt-mul-of-pos-right, lt-of-mul-lt-mul-right, pow-succ'}
 use native.Mathlib.Omega.{arith}
-use mathlib.Core.Bool.{true, false, true≢false}
+use mathlib.Core.Bool.{false}
 use lib.IntN.{ℤ}
-use lib.Dec.{T, lit<}
+use lib.Dec.{T, lit<, lit≤}
 use lib.Pow.{pow-add, pow-pos, pow-mono, shl-lt}
-use lib.Ieee.{Float, nan, inf, fin, Format, binary64, up, down, size, units, fits}
+use lib.Ieee.{Float, fin, Format, binary64, up, down, size, units, fits}
 use lib.Ieee.Digits.{size-lt, size-le, size-reaches}
 use lib.Ieee.Fits.{up-pos, down-pos}
-use lib.Ieee.Exact.{HasValue, units-val}
+use lib.Ieee.Exact.{units-val}
 use lib.Ieee.Bits.{ofBits-fits}
 use Rattle.numbers.specs.SquareRoot.{sqrtOf, NearestRoot, MidpointAbove, MidpointBelow}
+use Rattle.numbers.proofs.floats.Values.{with-value}
 use Rattle.numbers.proofs.floats.Held.{held, count, value-unique}
 use Rattle.numbers.specs.Inner.{nearestRoot}
 use Rattle.numbers.proofs.floats.Patterns.{pattern, pow-lt-back, size-gt, shifted}
 use Rattle.numbers.proofs.floats.Compared.{le-or-lt}
+use Rattle.numbers.proofs.floats.Distances.{units-order}
+use Rattle.numbers.proofs.floats.Multiples.{fewer}
 use Rattle.numbers.proofs.square_root.Roots.{bracket, four-pow}
 use Rattle.numbers.proofs.square_root.Rooting.{Wide, sqrt-units, nearest-wide, four-two}
 
@@ -31,65 +37,32 @@ record Square (N : ℕ) : Type 0 where
   few : k ≤ 2000
 
 square : (n j : ℕ) → 0 < n → n < 2 ^ 53 → j < 2098 → Square (n * 2 ^ j)
-square n j P F J = record {
-  M = n * 2 ^ c;
-  k = k;
-  is = mul-assoc n (2 ^ j) (2 ^ 1074)
-      ∙ ap (λ (x : ℕ). n * x) (sym (pow-add 2 j 1074) ∙ ap (λ (x : ℕ). 2 ^ x) (split z j zp zl) ∙ pow-add 2 c (k + k) ∙ ap (λ (x : ℕ). 2 ^ c * x) (sym (four-two k)))
-      ∙ sym (mul-assoc n (2 ^ c) (4 ^ k));
-  wide = (
-    le-trans (pow-mono (low-end z j zp zl)) (le-trans (le-of-eq (pow-add 2 (z - 1) c)) (mul-le-mul-right (2 ^ c) (size-reaches n (z - 1) (pred z zp)))),
-    lt-of-lt-of-le (shl-lt z c (size-lt n)) (pow-mono (high-end z j zp zl)),
-  );
-  some = at-least z j zp zl;
-  few = at-most z j zp zl J;
-}
-  where
-    z : ℕ
-    z = size n
-
-    c : ℕ
-    c = 105 - size n + (size n + 1 + j) % 2
-
-    k : ℕ
-    k = (j + 1074 - (105 - size n + (size n + 1 + j) % 2)) / 2
-
-    zp : 0 < size n
-    zp = size-gt n 0 P
-
-    zl : size n ≤ 53
-    zl = size-le n 53 F
-
-    pred : (z : ℕ) → 0 < z → z - 1 < z
-    pred z h = omega arith
-
-    split : (z j : ℕ) → 0 < z → z ≤ 53 → j + 1074 ≡ 105 - z + (z + 1 + j) % 2 + ((j + 1074 - (105 - z + (z + 1 + j) % 2)) / 2 + (j + 1074 - (105 - z + (z + 1 + j) % 2)) / 2)
-    split z j a b = omega arith
-
-    low-end : (z j : ℕ) → 0 < z → z ≤ 53 → 104 ≤ z - 1 + (105 - z + (z + 1 + j) % 2)
-    low-end z j a b = omega arith
-
-    high-end : (z j : ℕ) → 0 < z → z ≤ 53 → z + (105 - z + (z + 1 + j) % 2) ≤ 106
-    high-end z j a b = omega arith
-
-    at-least : (z j : ℕ) → 0 < z → z ≤ 53 → 1 ≤ (j + 1074 - (105 - z + (z + 1 + j) % 2)) / 2
-    at-least z j a b = omega arith
-
-    at-most : (z j : ℕ) → 0 < z → z ≤ 53 → j < 2098 → (j + 1074 - (105 - z + (z + 1 + j) % 2)) / 2 ≤ 2000
-    at-most z j a b h = omega arith
+square n j P F J =
+    let z = size n in
+    let c = 105 - z + (z + 1 + j) % 2 in
+    let k = (j + 1074 - c) / 2 in
+    let zp : 0 < z = size-gt n 0 P in
+    let zl : z ≤ 53 = size-le n 53 F in
+    let split : j + 1074 ≡ c + (k + k) = omega arith in
+    record {
+      M = n * 2 ^ c;
+      k = k;
+      is = mul-assoc n (2 ^ j) (2 ^ 1074)
+          ∙ ap (λ (x : ℕ). n * x) (sym (pow-add 2 j 1074) ∙ ap (λ (x : ℕ). 2 ^ x) split ∙ pow-add 2 c (k + k) ∙ ap (λ (x : ℕ). 2 ^ c * x) (sym (four-two k)))
+          ∙ sym (mul-assoc n (2 ^ c) (4 ^ k));
+      wide = (
+        le-trans (pow-mono {i = 104} (omega arith)) (le-trans (le-of-eq (pow-add 2 (z - 1) c)) (mul-le-mul-right (2 ^ c) (size-reaches n (z - 1) (omega arith)))),
+        lt-of-lt-of-le (shl-lt z c (size-lt n)) (pow-mono {j = 106} (omega arith)),
+      );
+      some = omega arith;
+      few = omega arith;
+    }
 
 -- ---- the steps from q * 2 ^ k, a number of 53 digits and k zeros, to the next values on its two sides
--- a value with fewer zeros is smaller
-fewer : (n k j : ℕ) → n < 2 ^ 53 → j < k → n * 2 ^ j < 4503599627370496 * 2 ^ k
-fewer n k j F h = lt-of-lt-of-le (shl-lt 53 j F) (le-trans (pow-mono (more k j h)) (le-of-eq (pow-add 2 52 k)))
-  where
-    more : (k j : ℕ) → j < k → 53 + j ≤ 52 + k
-    more k j h = omega arith
-
 gap-above : (q k n j : ℕ) → 4503599627370496 ≤ q → n < 2 ^ 53 → q * 2 ^ k < n * 2 ^ j → suc q * 2 ^ k ≤ n * 2 ^ j
 gap-above q k n j Q F h = elim (le-or-lt k j) [
   | inl g ↦ le-trans (mul-le-mul-right (2 ^ k) (lt-of-mul-lt-mul-right (2 ^ k) (lt-of-lt-of-le h (le-of-eq (shifted n k j g))))) (le-of-eq (sym (shifted n k j g)))
-  | inr g ↦ absurd (not-le-of-lt h (le-trans (le-of-lt (fewer n k j F g)) (mul-le-mul-right (2 ^ k) Q)))
+  | inr g ↦ absurd (not-le-of-lt h (le-of-lt (fewer 53 n j k q (lit< tt) F g Q)))
 ]
 
 gap-below : (q k n j : ℕ) → 4503599627370496 < q → n < 2 ^ 53 → n * 2 ^ j < q * 2 ^ k → n * 2 ^ j + 2 ^ k ≤ q * 2 ^ k
@@ -97,79 +70,42 @@ gap-below q k n j Q F h = elim (le-or-lt k j) [
   | inl g ↦
       let a = n * 2 ^ (j - k) in
       let l : suc a * 2 ^ k ≤ q * 2 ^ k = mul-le-mul-right (2 ^ k) (lt-of-mul-lt-mul-right (2 ^ k) (lt-of-le-of-lt (le-of-eq (sym (shifted n k j g))) h)) in
-      le-trans (le-of-eq (ap (λ (x : ℕ). x + 2 ^ k) (shifted n k j g))) (one-more a (2 ^ k) (q * 2 ^ k) l)
-  | inr g ↦ under (n * 2 ^ j) (2 ^ k) (q * 2 ^ k) (fewer n k j F g) (mul-le-mul-right (2 ^ k) Q)
+      le-trans (le-of-eq (ap (λ (x : ℕ). x + 2 ^ k) (shifted n k j g))) (omega arith)
+  | inr g ↦ omega (arith, fewer 53 n j k 4503599627370496 (lit< tt) F g (lit≤ tt), mul-le-mul-right (2 ^ k) Q)
 ]
-  where
-    one-more : (a p x : ℕ) → suc a * p ≤ x → a * p + p ≤ x
-    one-more a p x h = omega arith
-
-    under : (b p x : ℕ) → b < 4503599627370496 * p → 4503599627370497 * p ≤ x → b + p ≤ x
-    under b p x h g = omega arith
 
 -- ---- the squares of the midpoints, in units
 above-units : (q p B M : ℕ) → 0 < p → suc q * p ≤ B → M * 4 < (2 * q + 1) * (2 * q + 1) → 4 * (M * (p * p)) < (q * p + B) * (q * p + B)
 above-units q p B M P g h =
     let l : (2 * q + 1) * p ≤ q * p + B = omega arith in
-    lt-of-le-of-lt (le-of-eq (regroup M (p * p)))
+    lt-of-le-of-lt (le-of-eq (omega arith))
     (lt-of-lt-of-le (mul-lt-mul-of-pos-right h (mul-pos P P)) (le-trans (le-of-eq (sym (mul-mul-mul-comm (2 * q + 1) p (2 * q + 1) p))) (mul-le-mul l l)))
-  where
-    regroup : (M x : ℕ) → 4 * (M * x) ≡ M * 4 * x
-    regroup M x = omega arith
 
 below-units : (r p B M : ℕ) → 0 < p → B + p ≤ suc r * p → (2 * suc r - 1) * (2 * suc r - 1) < M * 4 + 1 → (suc r * p + B) * (suc r * p + B) < 4 * (M * (p * p))
 below-units r p B M P g h =
     let l : suc r * p + B ≤ (2 * r + 1) * p = omega arith in
-    lt-of-le-of-lt (le-trans (mul-le-mul l l) (le-of-eq (mul-mul-mul-comm (2 * r + 1) p (2 * r + 1) p)))
-    (lt-of-lt-of-le (mul-lt-mul-of-pos-right (odd r M (subst (λ (x : ℕ). x * x < M * 4 + 1) (less r) h)) (mul-pos P P)) (le-of-eq (regroup M (p * p))))
-  where
-    less : (r : ℕ) → 2 * suc r - 1 ≡ 2 * r + 1
-    less r = omega arith
-
-    odd : (r M : ℕ) → (2 * r + 1) * (2 * r + 1) < M * 4 + 1 → (2 * r + 1) * (2 * r + 1) < M * 4
-    odd r M h = omega arith
-
-    regroup : (M x : ℕ) → M * 4 * x ≡ 4 * (M * x)
-    regroup M x = omega arith
+    let e : 2 * suc r - 1 ≡ 2 * r + 1 = omega arith in
+    let o : (2 * r + 1) * (2 * r + 1) < M * 4 = omega (arith, subst (λ (x : ℕ). x * x < M * 4 + 1) e h) in
+    lt-of-le-of-lt (le-trans (mul-le-mul l l) (le-of-eq (mul-mul-mul-comm (2 * r + 1) p (2 * r + 1) p))) (lt-of-lt-of-le (mul-lt-mul-of-pos-right o (mul-pos P P)) (le-of-eq (omega arith)))
 
 -- the step below a power of two is half as large
 below-half : (r p B M : ℕ) → 0 < p → 2 * B + p ≤ 2 * (suc r * p) → suc r * suc r ≤ M → (suc r * p + B) * (suc r * p + B) < 4 * (M * (p * p))
 below-half r p B M P g h =
     let l : 2 * (suc r * p + B) ≤ (4 * r + 3) * p = omega arith in
-    quarter ((suc r * p + B) * (suc r * p + B)) (M * (p * p))
-    (lt-of-le-of-lt (le-trans (le-of-eq (twice (suc r * p + B))) (le-trans (mul-le-mul l l) (le-of-eq (mul-mul-mul-comm (4 * r + 3) p (4 * r + 3) p))))
-    (lt-of-lt-of-le (mul-lt-mul-of-pos-right (less r M h) (mul-pos P P)) (le-of-eq (mul-assoc 16 M (p * p)))))
-  where
-    less : (r M : ℕ) → suc r * suc r ≤ M → (4 * r + 3) * (4 * r + 3) < 16 * M
-    less r M h = omega arith
-
-    twice : (x : ℕ) → 4 * (x * x) ≡ 2 * x * (2 * x)
-    twice x = omega arith
-
-    quarter : (x y : ℕ) → 4 * x < 16 * y → x < 4 * y
-    quarter x y h = omega arith
+    let t : 4 * ((suc r * p + B) * (suc r * p + B)) < 16 * (M * (p * p)) =
+    lt-of-le-of-lt (le-trans (le-of-eq (omega arith)) (le-trans (mul-le-mul l l) (le-of-eq (mul-mul-mul-comm (4 * r + 3) p (4 * r + 3) p))))
+    (lt-of-lt-of-le (mul-lt-mul-of-pos-right (omega arith) (mul-pos P P)) (le-of-eq (mul-assoc 16 M (p * p)))) in
+    omega arith
 
 -- ---- from units to fractions: a / c is Q / L, b / d is B / L and num / den is N / L
 sum-units : (a c b d L Q B : ℕ) → a * L ≡ Q * c → b * L ≡ B * d → (a * d + b * c) * L ≡ (Q + B) * (c * d)
 sum-units a c b d L Q B e g = omega (arith, ap (λ (x : ℕ). x * d) e, ap (λ (x : ℕ). x * c) g)
 
 squared : (S L X w den : ℕ) → S * L ≡ X * w → S * S * den * (L * L) ≡ X * X * (w * w * den)
-squared S L X w den e = one S L den ∙ ap (λ (z : ℕ). z * z * den) e ∙ two X w den
-  where
-    one : (S L den : ℕ) → S * S * den * (L * L) ≡ S * L * (S * L) * den
-    one S L den = omega arith
-
-    two : (X w den : ℕ) → X * w * (X * w) * den ≡ X * X * (w * w * den)
-    two X w den = omega arith
+squared S L X w den e = omega arith ∙ ap (λ (z : ℕ). z * z * den) e ∙ omega arith
 
 scaled : (num den L N w : ℕ) → num * L ≡ N * den → 4 * num * (w * w) * (L * L) ≡ 4 * (N * L) * (w * w * den)
-scaled num den L N w e = one num L w ∙ ap (λ (z : ℕ). 4 * z * L * (w * w)) e ∙ two N den L w
-  where
-    one : (num L w : ℕ) → 4 * num * (w * w) * (L * L) ≡ 4 * (num * L) * L * (w * w)
-    one num L w = omega arith
-
-    two : (N den L w : ℕ) → 4 * (N * den) * L * (w * w) ≡ 4 * (N * L) * (w * w * den)
-    two N den L w = omega arith
+scaled num den L N w e = omega arith ∙ ap (λ (z : ℕ). 4 * z * L * (w * w)) e ∙ omega arith
 
 module _ (a c b d num den L N Q B : ℕ) (C : 0 < c) (D : 0 < d) (E : 0 < den) (e : a * L ≡ Q * c) (g : b * L ≡ B * d) (h : num * L ≡ N * den) where
   abbrev S : ℕ
@@ -192,14 +128,7 @@ module _ (a c b d num den L N Q B : ℕ) (C : 0 < c) (D : 0 < d) (E : 0 < den) (
 
 -- of two fractions the smaller counts less
 less-units : (a c b d L Q B : ℕ) → 0 < L → a * L ≡ Q * c → b * L ≡ B * d → a * d < b * c → Q < B
-less-units a c b d L Q B P e g h =
-    lt-of-mul-lt-mul-right (c * d) (lt-of-le-of-lt (le-of-eq (one a c d L Q e)) (lt-of-lt-of-le (mul-lt-mul-of-pos-right h P) (le-of-eq (two b c d L B g))))
-  where
-    one : (a c d L Q : ℕ) → a * L ≡ Q * c → Q * (c * d) ≡ a * d * L
-    one a c d L Q e = omega (arith, ap (λ (x : ℕ). x * d) e)
-
-    two : (b c d L B : ℕ) → b * L ≡ B * d → b * c * L ≡ B * (c * d)
-    two b c d L B e = omega (arith, ap (λ (x : ℕ). x * c) e)
+less-units a c b d L Q B P e g h = lt-of-not-le (λ (k : B ≤ Q). not-le-of-lt h (units-order L b d B a c Q P g e k))
 
 -- ---- the value q * 2 ^ k is the nearest to the root of M * 4 ^ k
 four-square : (M k : ℕ) → M * 4 ^ k ≡ M * (2 ^ k * 2 ^ k)
@@ -212,10 +141,7 @@ over M k q n j lo F br h =
 
 under : (M k q n j : ℕ) → 1 ≤ k → 2 ^ 104 ≤ M → 4503599627370496 ≤ q → n < 2 ^ 53 → (2 * q - 1) * (2 * q - 1) < M * 4 + 1 → n * 2 ^ j < q * 2 ^ k
     → (q * 2 ^ k + n * 2 ^ j) * (q * 2 ^ k + n * 2 ^ j) < 4 * (M * 4 ^ k)
-under M k zero n j K big lo F br h = absurd (none lo)
-  where
-    none : 4503599627370496 ≤ 0 → ⊥
-    none h = omega arith
+under M k zero n j K big lo F br h = absurd (omega arith)
 under M zero (suc r) n j K big lo F br h = absurd (lt-irrefl 0 K)
 under M (suc i) (suc r) n j K big lo F br h =
     let q = suc r in
@@ -255,7 +181,6 @@ near num den N M k n d E is sq w K fit v = record {
     q : ℕ
     q = nearestRoot M
 
--- The square root of a positive value that binary64 holds is a value nearest to its root.
 pub root-nearest : (m : ℕ) (e : ℤ) → T (fits binary64 (fin false (suc m) e))
     → (n : ℕ) × (d : ℤ) × (sqrtOf (fin false (suc m) e) ≡ fin false n d) × NearestRoot binary64 (suc m * up e) (down e) n d
 root-nearest m e fit =
@@ -267,36 +192,19 @@ root-nearest m e fit =
     let r = units binary64 false (nearestRoot (s .M)) (s .k) in
     let is : sqrtOf (fin false (suc m) e) ≡ r = sqrt-units (fin false (suc m) e) N (s .M) (s .k) (refl, h .value) (mul-pos P (pow-pos (h .zeros))) (s .is) (s .wide) in
     let v = units-val binary64 false (nearestRoot (s .M)) (s .k) (lt-of-le-of-lt (mul-le-mul (w .1) (pow-mono (s .few))) (lit< tt)) in
-    let f = subst (λ (y : Float). T (fits binary64 y)) (pattern binary64 false (nearestRoot (s .M)) (s .k) (w .1) (inr (w .0)) (room (s .k) (nearestRoot (s .M)) (s .few) (w .1))) (ofBits-fits binary64 _) in
-    finish r (nearestRoot (s .M) * 2 ^ s .k) (2 ^ 1074) is v f (λ n d fit' v'. near (suc m * up e) (down e) N (s .M) (s .k) n d (down-pos e) (h .value) (s .is) (s .wide) (s .some) fit' v')
+    let f = subst (λ (y : Float). T (fits binary64 y)) (pattern binary64 false (nearestRoot (s .M)) (s .k) (w .1) (inr (w .0)) (omega (arith, s .few, w .1))) (ofBits-fits binary64 _) in
+    with-value (λ y. sqrtOf (fin false (suc m) e) ≡ y → T (fits binary64 y) → (n : ℕ) × (d : ℤ) × (sqrtOf (fin false (suc m) e) ≡ fin false n d) × NearestRoot binary64 (suc m * up e) (down e) n d)
+    r false (nearestRoot (s .M) * 2 ^ s .k) (2 ^ 1074) v (λ n d q is f. (n, d, is, near (suc m * up e) (down e) N (s .M) (s .k) n d (down-pos e) (h .value) (s .is) (s .wide) (s .some) f q)) is f
   where
     some : (n p d x : ℕ) → 0 < x → x ≡ n * p * d → 0 < n
-    some zero p d x h e = absurd (no p d x h e)
-      where
-        no : (p d x : ℕ) → 0 < x → x ≡ 0 * p * d → ⊥
-        no p d x h e = omega arith
+    some zero p d x h e = absurd (omega arith)
     some (suc n) p d x h e = zero-lt-suc n
 
-    room : (k q : ℕ) → k ≤ 2000 → q ≤ 9007199254740992 → k * 4503599627370496 + q ≤ 2047 * 4503599627370496
-    room k q h g = omega arith
-
-    finish : (y : Float) (A c : ℕ) → sqrtOf (fin false (suc m) e) ≡ y → HasValue y false A c → T (fits binary64 y)
-        → ((n : ℕ) (d : ℤ) → T (fits binary64 (fin false n d)) → n * up d * c ≡ A * down d → NearestRoot binary64 (suc m * up e) (down e) n d)
-        → (n : ℕ) × (d : ℤ) × (sqrtOf (fin false (suc m) e) ≡ fin false n d) × NearestRoot binary64 (suc m * up e) (down e) n d
-    finish nan A c is v f k = absurd v
-    finish (inf t) A c is v f k = absurd v
-    finish (fin true n d) A c is v f k = absurd (true≢false (v .0))
-    finish (fin false n d) A c is v f k = (n, d, is, k n d f (v .1))
-
--- Of two values that are nearest to the root of one fraction neither is the larger: they are the same value.
 pub root-only : (f : Format) (num den m : ℕ) (e : ℤ) (n : ℕ) (d : ℤ) → NearestRoot f num den m e → NearestRoot f num den n d → fin false m e ≡ fin false n d
 root-only f num den m e n d x y = go (le-or-lt (m * up e * down d) (n * up d * down e))
   where
     clash : (a c b d num den : ℕ) → MidpointAbove a c b d num den → MidpointBelow b d a c num den → ⊥
-    clash a c b d num den h k = lt-irrefl (4 * num * (c * d * (c * d))) (lt-of-lt-of-le h (le-trans (le-of-eq (ap (λ (z : ℕ). z * z * den) (swap a c b d))) (le-trans (le-of-lt k) (le-of-eq (ap (λ (z : ℕ). 4 * num * (z * z)) (mul-comm d c))))))
-      where
-        swap : (a c b d : ℕ) → a * d + b * c ≡ b * c + a * d
-        swap a c b d = omega arith
+    clash a c b d num den h k = lt-irrefl (4 * num * (c * d * (c * d))) (lt-of-lt-of-le h (le-trans (le-of-eq (ap (λ (z : ℕ). z * z * den) (omega arith))) (le-trans (le-of-lt k) (le-of-eq (ap (λ (z : ℕ). 4 * num * (z * z)) (mul-comm d c))))))
 
     go : (m * up e * down d ≤ n * up d * down e) ⊎ (n * up d * down e < m * up e * down d) → fin false m e ≡ fin false n d
     go (inl l) = elim (eq-or-lt-of-le l) [
@@ -305,7 +213,6 @@ root-only f num den m e n d x y = go (le-or-lt (m * up e * down d) (n * up d * d
     ]
     go (inr g) = absurd (clash (n * up d) (down d) (m * up e) (down e) num den (y .above m e (x .held) g) (x .below n d (y .held) g))
 
--- So whatever value is nearest to the root of x is the square root of x.
 pub root-is : (m : ℕ) (e : ℤ) (n : ℕ) (d : ℤ) → T (fits binary64 (fin false (suc m) e)) → NearestRoot binary64 (suc m * up e) (down e) n d → sqrtOf (fin false (suc m) e) ≡ fin false n d
 root-is m e n d fit x =
     let r = root-nearest m e fit in

@@ -1,4 +1,17 @@
 -- The smaller and the larger of two floats and the middle one of three, by the order: nothing here says which of two zeros is taken. Assumes nothing.
+--     min-either, max-either                    the smaller and the larger of two are one of them
+--     min-first, min-second                     the smaller is at most each
+--     max-first, max-second                     the larger is at least each
+--     min-keeps, max-keeps, median-keeps        what holds of all holds of the one that is chosen
+--     min-mono, max-mono, median-mono           each grows with what it is chosen from
+--     min-fits, max-fits, median-fits, median-no-nan  of values of a format it is one, and of such as are no NaN none
+--     median-either                             the median is one of the three
+--     median-above, median-below                what is at most, or at least, all three is so of the median
+--     TwoOf                                     two of a, b and c have the property P
+--     median-two-below, median-two-above        two of the three are at most the median, and two at least
+--     median-least, median-greatest, median-only  what two are at most is at least the median, what two are at least at most, and what is both equals it
+--     median-swap, median-turn                  the first two may be swapped, and the three turned about, which gives every order
+--     median-twice                              the median of a value twice and another is that value
 use mathlib.Core.Path.{_≡_, refl, sym, subst}
 use mathlib.Core.Logic.{_⊎_, inl, inr}
 use mathlib.Core.Bool.{Bool, true, false, not, _||_, cond}
@@ -15,12 +28,10 @@ either : (b : Bool) (x y : Float) → (cond b y x ≡ x) ⊎ (cond b y x ≡ y)
 either true x y = inr refl
 either false x y = inl refl
 
--- The smaller of two is one of them.
 pub min-either : (x y : Float) → (minOf x y ≡ x) ⊎ (minOf x y ≡ y)
 unfolding minOf
 min-either x y = either (isNan x || lt y x) x y
 
--- The larger of two is one of them.
 pub max-either : (x y : Float) → (maxOf x y ≡ x) ⊎ (maxOf x y ≡ y)
 unfolding maxOf
 max-either x y = either (isNan x || lt x y) x y
@@ -37,49 +48,39 @@ taken-second x y P true c l r = l
 taken-second x y P false true l r = l
 taken-second x y P false false l r = r tt tt
 
--- The smaller of two is at most the first.
 pub min-first : (x y : Float) → T (not (isNan x)) → T (le (minOf x y) x)
 unfolding minOf
 min-first x y n = taken x y (λ (v : Float). T (le v x)) (isNan x) (lt y x) n (λ h. le-of-lt y x h) (λ h. le-refl x n)
 
--- The smaller of two is at most the second.
 pub min-second : (x y : Float) → T (not (isNan y)) → T (le (minOf x y) y)
 unfolding minOf
 min-second x y n = taken-second x y (λ (v : Float). T (le v y)) (isNan x) (lt y x) (le-refl y n) (λ m h. le-of-not-lt y x n m h)
 
--- The larger of two is at least the first.
 pub max-first : (x y : Float) → T (not (isNan x)) → T (le x (maxOf x y))
 unfolding maxOf
 max-first x y n = taken x y (λ (v : Float). T (le x v)) (isNan x) (lt x y) n (λ h. le-of-lt x y h) (λ h. le-refl x n)
 
--- The larger of two is at least the second.
 pub max-second : (x y : Float) → T (not (isNan y)) → T (le y (maxOf x y))
 unfolding maxOf
 max-second x y n = taken-second x y (λ (v : Float). T (le y v)) (isNan x) (lt x y) (le-refl y n) (λ m h. le-of-not-lt x y m n h)
 
--- What holds of both holds of the smaller.
 pub min-keeps : (P : Float → Type 0) (x y : Float) → P x → P y → P (minOf x y)
 min-keeps P x y p q = elim (min-either x y) [ inl e ↦ subst P (sym e) p | inr e ↦ subst P (sym e) q ]
 
--- What holds of both holds of the larger.
 pub max-keeps : (P : Float → Type 0) (x y : Float) → P x → P y → P (maxOf x y)
 max-keeps P x y p q = elim (max-either x y) [ inl e ↦ subst P (sym e) p | inr e ↦ subst P (sym e) q ]
 
--- The smaller of two grows with each.
 pub min-mono : (x x' y y' : Float) → T (le x x') → T (le y y') → T (le (minOf x y) (minOf x' y'))
 min-mono x x' y y' h k =
     min-keeps (λ (v : Float). T (le (minOf x y) v)) x' y' (le-trans (minOf x y) x x' (min-first x y (number-left x x' h)) h) (le-trans (minOf x y) y y' (min-second x y (number-left y y' k)) k)
 
--- The larger of two grows with each.
 pub max-mono : (x x' y y' : Float) → T (le x x') → T (le y y') → T (le (maxOf x y) (maxOf x' y'))
 max-mono x x' y y' h k =
     max-keeps (λ (v : Float). T (le v (maxOf x' y'))) x y (le-trans x x' (maxOf x' y') h (max-first x' y' (number-right x x' h))) (le-trans y y' (maxOf x' y') k (max-second x' y' (number-right y y' k)))
 
--- The smaller of two values of a format is one of the format.
 pub min-fits : (f : Format) (x y : Float) → T (fits f x) → T (fits f y) → T (fits f (minOf x y))
 min-fits f x y p q = min-keeps (λ (v : Float). T (fits f v)) x y p q
 
--- The larger of two values of a format is one of the format.
 pub max-fits : (f : Format) (x y : Float) → T (fits f x) → T (fits f y) → T (fits f (maxOf x y))
 max-fits f x y p q = max-keeps (λ (v : Float). T (fits f v)) x y p q
 
@@ -88,35 +89,27 @@ is : (a b c : Float) → medianOf a b c ≡ maxOf (minOf a b) (minOf (maxOf a b)
 unfolding medianOf
 is a b c = refl
 
--- What holds of all three holds of the median.
 pub median-keeps : (P : Float → Type 0) (a b c : Float) → P a → P b → P c → P (medianOf a b c)
 median-keeps P a b c p q r = subst P (sym (is a b c)) (max-keeps P (minOf a b) (minOf (maxOf a b) c) (min-keeps P a b p q) (min-keeps P (maxOf a b) c (max-keeps P a b p q) r))
 
--- The median is one of the three.
 pub median-either : (a b c : Float) → (medianOf a b c ≡ a) ⊎ ((medianOf a b c ≡ b) ⊎ (medianOf a b c ≡ c))
 median-either a b c = median-keeps (λ (v : Float). (v ≡ a) ⊎ ((v ≡ b) ⊎ (v ≡ c))) a b c (inl refl) (inr (inl refl)) (inr (inr refl))
 
--- The median of three that are no NaN is no NaN.
 pub median-no-nan : (a b c : Float) → T (not (isNan a)) → T (not (isNan b)) → T (not (isNan c)) → T (not (isNan (medianOf a b c)))
 median-no-nan a b c = median-keeps (λ (v : Float). T (not (isNan v))) a b c
 
--- The median of three values of a format is one of the format.
 pub median-fits : (f : Format) (a b c : Float) → T (fits f a) → T (fits f b) → T (fits f c) → T (fits f (medianOf a b c))
 median-fits f a b c = median-keeps (λ (v : Float). T (fits f v)) a b c
 
--- What is at most all three is at most the median.
 pub median-above : (lo a b c : Float) → T (le lo a) → T (le lo b) → T (le lo c) → T (le lo (medianOf a b c))
 median-above lo a b c = median-keeps (λ (v : Float). T (le lo v)) a b c
 
--- What is at least all three is at least the median.
 pub median-below : (a b c hi : Float) → T (le a hi) → T (le b hi) → T (le c hi) → T (le (medianOf a b c) hi)
 median-below a b c hi = median-keeps (λ (v : Float). T (le v hi)) a b c
 
--- two of a, b and c have the property P
 abbrev pub TwoOf : (Float → Type 0) → Float → Float → Float → Type 0
 TwoOf P a b c = (P a × P b) ⊎ ((P a × P c) ⊎ (P b × P c))
 
--- Two of the three are at most the median.
 pub median-two-below : (a b c : Float) → T (not (isNan a)) → T (not (isNan b)) → T (not (isNan c)) → TwoOf (λ (v : Float). T (le v (medianOf a b c))) a b c
 median-two-below a b c l m n =
     let p = minOf a b in
@@ -132,7 +125,6 @@ median-two-below a b c l m n =
           elim (min-either a b) [ inl h ↦ inr (inl (subst (λ (v : Float). T (le v r)) h pr, cr)) | inr h ↦ inr (inr (subst (λ (v : Float). T (le v r)) h pr, cr)) ]
     ])
 
--- Two of the three are at least the median.
 pub median-two-above : (a b c : Float) → T (not (isNan a)) → T (not (isNan b)) → T (not (isNan c)) → TwoOf (λ (v : Float). T (le (medianOf a b c) v)) a b c
 median-two-above a b c l m n =
     let p = minOf a b in
@@ -160,17 +152,14 @@ common P Q R a b c (inr (inr x)) (inl y) k = k b (x .0) (y .1)
 common P Q R a b c (inr (inr x)) (inr (inl y)) k = k c (x .1) (y .1)
 common P Q R a b c (inr (inr x)) (inr (inr y)) k = k b (x .0) (y .0)
 
--- What two of the three are at most is at least the median.
 pub median-least : (a b c v : Float) → T (not (isNan a)) → T (not (isNan b)) → T (not (isNan c)) → TwoOf (λ (u : Float). T (le u v)) a b c → T (le (medianOf a b c) v)
 median-least a b c v l m n h =
     common (λ (u : Float). T (le (medianOf a b c) u)) (λ (u : Float). T (le u v)) (T (le (medianOf a b c) v)) a b c (median-two-above a b c l m n) h (λ u x y. le-trans (medianOf a b c) u v x y)
 
--- What two of the three are at least is at most the median.
 pub median-greatest : (v a b c : Float) → T (not (isNan a)) → T (not (isNan b)) → T (not (isNan c)) → TwoOf (λ (u : Float). T (le v u)) a b c → T (le v (medianOf a b c))
 median-greatest v a b c l m n h =
     common (λ (u : Float). T (le v u)) (λ (u : Float). T (le u (medianOf a b c))) (T (le v (medianOf a b c))) a b c h (median-two-below a b c l m n) (λ u x y. le-trans v u (medianOf a b c) x y)
 
--- So a value with two of the three on either side of it equals the median.
 pub median-only : (a b c v : Float) → T (not (isNan a)) → T (not (isNan b)) → T (not (isNan c)) → TwoOf (λ (u : Float). T (le u v)) a b c → TwoOf (λ (u : Float). T (le v u)) a b c
     → T (eq (medianOf a b c) v)
 median-only a b c v l m n h k = eq-of-le-le (medianOf a b c) v (median-least a b c v l m n h) (median-greatest v a b c l m n k)
@@ -185,23 +174,19 @@ turn-two P a b c (inl x) = inr (inl (x .1, x .0))
 turn-two P a b c (inr (inl x)) = inr (inr (x .1, x .0))
 turn-two P a b c (inr (inr x)) = inl x
 
--- The first two may be swapped.
 pub median-swap : (a b c : Float) → T (not (isNan a)) → T (not (isNan b)) → T (not (isNan c)) → T (eq (medianOf a b c) (medianOf b a c))
 median-swap a b c l m n =
     let v = medianOf b a c in
     median-only a b c v l m n (swap-two (λ (u : Float). T (le u v)) b a c (median-two-below b a c m l n)) (swap-two (λ (u : Float). T (le v u)) b a c (median-two-above b a c m l n))
 
--- The three may be turned about. With the swap that gives every other order.
 pub median-turn : (a b c : Float) → T (not (isNan a)) → T (not (isNan b)) → T (not (isNan c)) → T (eq (medianOf a b c) (medianOf c a b))
 median-turn a b c l m n =
     let v = medianOf c a b in
     median-only a b c v l m n (turn-two (λ (u : Float). T (le u v)) c a b (median-two-below c a b n l m)) (turn-two (λ (u : Float). T (le v u)) c a b (median-two-above c a b n l m))
 
--- The median of a value twice and another is that value.
 pub median-twice : (a b : Float) → T (not (isNan a)) → T (not (isNan b)) → T (eq (medianOf a a b) a)
 median-twice a b l m = median-only a a b a l l m (inl (le-refl a l, le-refl a l)) (inl (le-refl a l, le-refl a l))
 
--- The median grows with each of the three.
 pub median-mono : (a a' b b' c c' : Float) → T (le a a') → T (le b b') → T (le c c') → T (le (medianOf a b c) (medianOf a' b' c'))
 median-mono a a' b b' c c' h k g =
     let v = medianOf a b c in
