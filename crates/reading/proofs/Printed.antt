@@ -9,7 +9,8 @@ use lib.Dec.{eqb}
 use lib.ListN.{length}
 use borrow.Author.Tests.{eq-eqb, ne-eqb, eqb-true}
 use Rattle.ground.proofs.Laws.Join.{joined-length}
-use Rattle.correction.specs.Checks.{Input, accepted, refusalNumber, refusalPlace, placeOf, outlinePlace, sizeRefusal, badChannels}
+use Rattle.ground.specs.Refuse.{firstFailing}
+use Rattle.correction.specs.Checks.{Input, accepted, refusalNumber, refusalPlace, placeOf, outlinePlace, badChannels}
 use Rattle.correction.specs.Collapse.{cellMedian}
 use Rattle.correction.specs.Pass.{answer, passStencil, protectedCount, errorCount, countsOf}
 use Rattle.correction.specs.declared.pass.Answer.the-variants.{Accepted, Refused}
@@ -35,7 +36,7 @@ printed-case s e = simp (eq-eqb (breach s) 65537 e)
 
 -- no channels are refused by check 1
 channelless : (i : Input) (ch : ℕ) → i .channels ≡ ch → ch ≡ 0 → Refused 1 0 ≡ answer i
-unfolding answer accepted refusalNumber refusalPlace placeOf outlinePlace sizeRefusal badChannels
+unfolding answer accepted refusalNumber refusalPlace placeOf outlinePlace firstFailing badChannels
 channelless i ch d e = rw (d, e)
 
 -- no channels are refused

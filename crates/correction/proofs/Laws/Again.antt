@@ -16,7 +16,7 @@ use denote.Ref.{now}
 use contract.Lifetimes.{Lfts}
 use borrow.Fn.Kinds.{Dens}
 use borrow.Author.Tests.{le-ltb, eq-eqb}
-use Rattle.numbers.proofs.Laws.Median.{median-keeps}
+use Rattle.numbers.proofs.Laws.Scalar.{median-keeps}
 use Rattle.correction.specs.Checks.{Input, oversize, samplesPlace, badSamples, refusalNumber, accepted}
 use Rattle.correction.specs.Collapse.{cellMedian, collapsedSample, collapsed}
 use Rattle.correction.specs.Pass.{flags, passSamples, stencilAfter, samplesAfter, fedBack, numberOf}

@@ -9,8 +9,8 @@ use lib.Ieee.Fits.{sub-fits}
 use Rattle.detectors.specs.Constants.{halfOf}
 use Rattle.numbers.specs.Scalar.{absOf}
 use Rattle.numbers.proofs.Laws.Order as Order
-use Rattle.numbers.proofs.Laws.Order.{nought}
-use Rattle.numbers.proofs.Laws.Monotone.{add-comm, add-mono-right}
+use Rattle.numbers.proofs.Laws.Order.{nought, abs-fits}
+use Rattle.numbers.proofs.Laws.Monotone.{add-comm, number-first, number-second, add-mono-right}
 use Rattle.numbers.proofs.Laws.Exact.{add-zero-eq}
 use Rattle.detectors.specs.Texel.{texelMedian}
 use Rattle.detectors.specs.Edge.{near, pairProtects, protectsLower, protectsUpper}
@@ -23,21 +23,6 @@ abbrev pub distance : Float → Float
 distance m = absOf (sub binary32 m (halfOf binary32))
 
 -- ---- sums of sizes
-number-first : (f : Format) (x y : Float) → T (not (isNan (add f x y))) → T (not (isNan x))
-unfolding add isNan
-number-first f nan y n = n
-number-first f (inf s) y n = tt
-number-first f (fin s m e) y n = tt
-
-number-second : (f : Format) (x y : Float) → T (not (isNan (add f x y))) → T (not (isNan y))
-number-second f x y n = number-first f y x (subst (λ (v : Float). T (not (isNan v))) (add-comm f x y) n)
-
-abs-fits : (f : Format) (x : Float) → T (fits f x) → T (fits f (absOf x))
-unfolding absOf fits
-abs-fits f nan h = h
-abs-fits f (inf s) h = h
-abs-fits f (fin s m e) h = h
-
 -- a value is at most its sum with a size, rounded
 le-add : (x y : Float) → T (fits binary32 x) → T (not (isNan (add binary32 x (absOf y)))) → T (le x (add binary32 x (absOf y)))
 le-add x y i n =

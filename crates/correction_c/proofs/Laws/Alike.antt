@@ -2,7 +2,7 @@
 -- `Post κs a z e` is the promise as it is read from the source: of the arguments a, the result z and the arguments at exit e. Assumes nothing.
 use mathlib.Core.Path.{_≡_}
 use denote.Ref.{now, ptr}
-use Rattle.numbers.proofs.Laws.Alike.{alike}
+use Rattle.ground.proofs.Laws.Alike.{alike}
 use Rattle.correction_c.proofs.rungtwine_error_correction.Reads as pass
 use Rattle.correction_c.proofs.rungtwine_texel_view.Reads as view
 

@@ -1,16 +1,10 @@
 -- Each public function's promise determines its answer: any two answers that it permits for the same arguments are the same. Assumes nothing.
 -- `Post` is a function's promise as the checker makes it of the `ensures` in the source. No argument is lent, so the answer is all that a call leaves behind.
---     Alike        any two answers r and s that a promise permits for the arguments a are the same
---     alike        two answers that equal one value are the same
 --     roots-alike  two records of the roots of one equation are the same
 --     NAME-alike   so it is with the promise of the function NAME
-use mathlib.Core.Path.{_≡_, sym, _∙_}
-use mathlib.Core.List.{List}
-use Prim.Native.Nat.{ℕ}
-use contract.Lifetimes.{Lfts}
-use denote.Triple.Clauses.{AtExit}
-use borrow.Fn.Kinds.{PK, RK, Dens, Out, resT, endedOf}
+use mathlib.Core.Path.{_≡_}
 use lib.Ieee.{Float}
+use Rattle.ground.proofs.Laws.Alike.{Alike, alike}
 use Rattle.numbers.specs.EquationSolver.{rootsOf, Listed}
 use Rattle.numbers.specs.declared.equation_solver.Roots.{Roots}
 use Rattle.numbers.proofs.Laws.EquationSolver.{listed-same}
@@ -34,12 +28,6 @@ use Rattle.numbers.proofs.square_root.sqrt.Kinds as sqrt-kinds
 use Rattle.numbers.proofs.square_root.sqrt.Reads as sqrt
 use Rattle.numbers.proofs.equation_solver.solve_quadratic.Kinds as solve-quadratic-kinds
 use Rattle.numbers.proofs.equation_solver.solve_quadratic.Reads as solve-quadratic
-
-abbrev pub Alike : (n : ℕ) (ps : List (PK n)) (k : RK n) → Out n ps k → Type 0
-Alike n ps k Post = (κs : Lfts n) (a : Dens κs ps) (r s : resT k κs .Denot) (e f : AtExit (endedOf n ps k) κs) → Post κs a r e → Post κs a s f → r ≡ s
-
-pub alike : {A : Type 0} {v r s : A} → r ≡ v → s ≡ v → r ≡ s
-alike p q = p ∙ sym q
 
 pub roots-alike : (a b c : Float) (r s : Roots) → Listed (rootsOf a b c) (r .count) (r .first) (r .second) → Listed (rootsOf a b c) (s .count) (s .first) (s .second) → r ≡ s
 roots-alike a b c r s p q =

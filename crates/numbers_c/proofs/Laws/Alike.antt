@@ -1,6 +1,6 @@
 -- Each export's promise determines its answer, as `numbers` shows it of its own functions. Assumes nothing.
 --     NAME-alike  so it is with the promise of the export rungtwine_NAME
-use Rattle.numbers.proofs.Laws.Alike.{Alike, alike}
+use Rattle.ground.proofs.Laws.Alike.{Alike, alike}
 use Rattle.numbers_c.proofs.rungtwine_min.Kinds as min-kinds
 use Rattle.numbers_c.proofs.rungtwine_min.Reads as min
 use Rattle.numbers_c.proofs.rungtwine_max.Kinds as max-kinds

@@ -12,8 +12,9 @@ use borrow.Author.Tests.{eqb-true, ltb-true, ltb-false, leb-false}
 use Rattle.ground.specs.Lists.{joined}
 use Rattle.ground.proofs.Laws.Count.{count-small}
 use Rattle.ground.proofs.Laws.Fill.{tab-length}
+use Rattle.ground.proofs.Laws.Refuse.{answer-is}
 use Rattle.ground.proofs.Laws.Search.{first-le}
-use Rattle.correction.specs.Checks.{Input, badLength, badSide, badChannels, badOutlines, badEnds, sizeRefusal, settingsPlace, samplesPlace, endsPlace, segmentsPlace, outlineRefusal, outlinePlace, placeOf, refusalNumber, refusalPlace}
+use Rattle.correction.specs.Checks.{Input, badLength, settingsPlace, samplesPlace, endsPlace, segmentsPlace, outlinePlace, placeOf, checks, refusalNumber, refusalPlace}
 use Rattle.detectors.specs.declared.config.Settings.{Settings}
 use Rattle.correction.specs.Pass.{protectedCount, errorCount}
 use Rattle.reading.specs.Case.{segments, contourColours, coloursOf, endsOf}
@@ -92,25 +93,11 @@ breach-short s e = ltb-false 65536 (length s) (test-fine (ltb 65536 (length s)) 
 
 -- ---- a refusal and its place
 
-size-refusal-le : (w h ch n m : ℕ) → sizeRefusal w h ch n m ≤ 9
-unfolding sizeRefusal
-size-refusal-le w h ch n m =
-    cond-le 9 (badChannels ch) _ _ (λ a. omega arith)
-    (λ a. cond-le 9 (badSide w) _ _ (λ b. omega arith) (λ b. cond-le 9 (badSide h) _ _ (λ c. omega arith) (λ c. cond-le 9 (not (eqb n (w * h * ch))) _ _ (λ d. omega arith) (λ d. cond-le 9 (not (eqb m (w * h))) _ _ (λ e. omega arith) (λ e. omega arith)))))
-
-outline-refusal-le : (colours : List ℕ) (coords : List Float) (ends : List ℕ) → outlineRefusal colours coords ends ≤ 9
-unfolding outlineRefusal
-outline-refusal-le colours coords ends =
-    cond-le 9 (badOutlines (length colours) (length coords)) _ _ (λ a. omega arith)
-    (λ a. cond-le 9 (badEnds ends (length colours)) _ _ (λ b. omega arith) (λ b. cond-le 9 (ltb (segmentsPlace colours coords) (length colours)) _ _ (λ c. omega arith) (λ c. omega arith)))
-
 -- a refusal is by one of nine checks
 pub refusal-number-le : (i : Input) → refusalNumber i ≤ 9
 unfolding refusalNumber
 refusal-number-le i =
-    let n : ℕ = sizeRefusal (i .width) (i .height) (i .channels) (length (i .samples)) (length (i .stencil)) in
-    cond-le 9 (not (eqb n 0)) n _ (λ a. size-refusal-le (i .width) (i .height) (i .channels) (length (i .samples)) (length (i .stencil)))
-    (λ a. cond-le 9 (ltb (settingsPlace (i .mode) (i .settings)) 5) _ _ (λ b. omega arith) (λ b. cond-le 9 (ltb (samplesPlace (i .samples)) (length (i .samples))) _ _ (λ c. omega arith) (λ c. outline-refusal-le (i .colours) (i .coords) (i .ends))))
+    answer-is (λ (n : ℕ). n ≤ 9) (checks i) (omega arith) (omega arith, (omega arith, (omega arith, (omega arith, (omega arith, (omega arith, (omega arith, (omega arith, (omega arith, tt)))))))))
 
 settings-place-le : (mode : ℕ) (s : Settings) → settingsPlace mode s ≤ 5
 unfolding settingsPlace

@@ -11,11 +11,11 @@ use lib.Dec.{eqb, leb}
 use lib.Ieee.{Float, nan, binary32, toBits}
 use lib.ListN.{length, getD}
 use borrow.Author.Tests.{eqb-true, leb-true, not-false}
-use Rattle.ground.proofs.Laws.Bools.{both-hold, cond-zero}
 use Rattle.ground.proofs.Laws.Fill.{tab-length, tab-at}
 use Rattle.ground.proofs.Laws.Join.{joined-same}
 use Rattle.correction.specs.Stencil.{stencilByte, isError}
-use Rattle.correction.specs.Checks.{Input, badChannels, badSide, sizeRefusal, refusalNumber, accepted}
+use Rattle.correction.specs.Checks.{Input, refusalNumber, accepted}
+use Rattle.correction.proofs.Laws.Checks.{sizes, passed}
 use Rattle.correction.specs.Collapse.{cellMedian, collapsedSample, collapsed}
 use Rattle.correction.specs.Pass.{protects, flags, byteAt, passStencil, passSamples, answer, stencilAfter, samplesAfter}
 use Rattle.correction.specs.declared.pass.Answer.the-variants.{Accepted, Refused}
@@ -25,15 +25,6 @@ use Rattle.reading.specs.Text.{texelText, flaggedText, acceptedText, siz
 use Rattle.reading.proofs.fields.Sizes.{next-row}
 
 -- ---- what acceptance says of the sizes
-
-first-zero-go : (n y : ℕ) (t : Bool) → eqb n 0 ≡ t → cond (not t) n y ≡ 0 → n ≡ 0
-first-zero-go n y true h e = eqb-true n 0 h
-first-zero-go n y false h e = e
-
-either : (a b : Bool) (c : ℕ) → eqb c 3 ≡ a → eqb c 4 ≡ b → (a || b) ≡ true → (3 ≤ c) × (c ≤ 4)
-either true b c p q e = (omega (arith, eqb-true c 3 p), omega (arith, eqb-true c 3 p))
-either false true c p q e = (omega (arith, eqb-true c 4 q), omega (arith, eqb-true c 4 q))
-either false false c p q e = absurd (let z : _≡_ {A = ℕ} 0 1 = cc in omega arith)
 
 pub record Sized (i : Input) : Type 0 where
   pub wide : 1 ≤ i .width
@@ -46,25 +37,10 @@ pub record Sized (i : Input) : Type 0 where
 
 -- acceptance says the sizes
 pub sized : (i : Input) → accepted i ≡ true → Sized i
-unfolding accepted refusalNumber sizeRefusal badChannels badSide
+unfolding accepted
 sized i a =
-    let z = first-zero-go _ _ _ refl (eqb-true (refusalNumber i) 0 a) in
-    let c = cond-zero (badChannels (i .channels)) 0 _ z in
-    let w = cond-zero (badSide (i .width)) 1 _ (c .1) in
-    let h = cond-zero (badSide (i .height)) 1 _ (w .1) in
-    let n = cond-zero (not (eqb (length (i .samples)) (i .width * i .height * i .channels))) 2 _ (h .1) in
-    let m = cond-zero (not (eqb (length (i .stencil)) (i .width * i .height))) 3 0 (n .1) in
-    let d = either (eqb (i .channels) 3) (eqb (i .channels) 4) (i .channels) refl refl (not-false _ (c .0)) in
-    let b = both-hold (leb 1 (i .width)) (leb (i .width) 4096) (not-false _ (w .0)) in
-    record {
-      wide = leb-true 1 (i .width) (b .0);
-      narrow = leb-true (i .width) 4096 (b .1);
-      high = leb-true (i .height) 4096 (both-hold (leb 1 (i .height)) (leb (i .height) 4096) (not-false _ (h .0)) .1);
-      deep = d .0;
-      shallow = d .1;
-      samples = eqb-true _ _ (not-false _ (n .0));
-      cells = eqb-true _ _ (not-false _ (m .0));
-    }
+    let z = sizes _ _ _ _ _ (passed i (eqb-true (refusalNumber i) 0 a) .sizes) in
+    record { wide = z .wide .0; narrow = z .wide .1; high = z .high .1; deep = z .channels .0; shallow = z .channels .1; samples = z .samples; cells = z .cells }
 
 -- ---- the answer
 

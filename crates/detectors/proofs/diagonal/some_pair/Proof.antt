@@ -8,7 +8,7 @@ use lib.ListN.{length}
 use lib.Ieee.{Float}
 use borrow.Author.Needs.{needs}
 use Rattle.numbers.specs.EquationSolver.{Listed}
-use Rattle.numbers.proofs.Laws.Quadratic.{at-most-two}
+use Rattle.numbers.proofs.Laws.EquationSolver.{at-most-two}
 use Rattle.ground.specs.Lists.{any}
 use Rattle.ground.proofs.Laws.Search.{none-zero, none-more, any-at}
 use Rattle.detectors.specs.Inner.{rootAt}
