@@ -65,7 +65,7 @@ def good_fields():
 
 
 def figures():
-    """Document 01's figures with what it says of each: the whole text or its rows."""
+    """The figures of docs/RULES.md with what it says of each: the whole text or its rows."""
     def pair(mode, length, samples):
         return bitmap(2, 1, 3, settings(mode, 1.0, length), [], samples)
 

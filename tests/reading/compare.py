@@ -36,12 +36,12 @@ def by_program(words, data, slow=False):
 
 
 def check_figures(answers):
-    """The judge's answers to document 01's figures, held to what that document says of them."""
+    """The judge's answers to the figures of docs/RULES.md, held to what that page says of them."""
     for name, data, says in cases.figures():
         text = answers[data].decode()
         rows = "\n".join(text.split("\n")[2:2 + struct.unpack_from(">H", data, 5)[0]])
         if says not in (text, rows):
-            sys.exit(f"tests/reading: the judge and document 01 differ at {name}: {text!r}")
+            sys.exit(f"tests/reading: the judge and docs/RULES.md differ at {name}: {text!r}")
 
 
 def check_reach(answers):

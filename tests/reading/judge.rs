@@ -1,4 +1,4 @@
-//! The second judge of the reading program: a plain, slow reading of document 01's grammar and printed text in Rust, from input bytes to printed bytes.
+//! The second judge of the reading program: a plain, slow reading of the grammar and the printed text of docs/RULES.md in Rust, from input bytes to printed bytes.
 //! It is written from that document and from the readings of its open points, not from the proved library; the pass itself is the second judge's.
 //! `judge IN OUT`: IN has each input, OUT each answer, after its length in four big-endian bytes.
 

@@ -1,4 +1,4 @@
-//! Runs the texel view over all its cases and holds each answer, the pointer too, to a plain reading of document 01.
+//! Runs the texel view over all its cases and holds each answer, the pointer too, to a plain reading of docs/RULES.md.
 
 #[path = "../../include/rungtwine.rs"]
 mod rungtwine;
@@ -21,7 +21,7 @@ struct Case<'a> {
     at: (usize, usize),
 }
 
-/// Which bitmap, the first sample there and how many: what document 01 says.
+/// Which bitmap, the first sample there and how many: what docs/RULES.md says.
 fn expected(c: &Case) -> (Bitmap, usize, usize) {
     let ((w, h, ch), (x, y)) = (c.size, c.at);
     let cells = w as u128 * h as u128;

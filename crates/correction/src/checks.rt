@@ -1,4 +1,4 @@
-// The checks, each as document 01 has it, with its place.
+// The checks, each as docs/RULES.md has it, with its place.
 ghost use mathlib.Core.Path.{_≡_};
 ghost use Prim.Native.Nat.{_*_, _≤_};
 ghost use mathlib.Core.Bool.{_||_};

@@ -1,4 +1,4 @@
-// Document 01's figures and small bitmaps beside them, through the public pass.
+// The figures of docs/RULES.md and small bitmaps beside them, through the public pass.
 mod refusals;
 mod run;
 mod show;

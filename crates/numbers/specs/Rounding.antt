@@ -5,7 +5,7 @@ use lib.IntN.{ℤ, pos, negℤ}
 use lib.Ieee.{Float, nan, inf, fin, binary32, up, down, round}
 
 -- The binary32 value nearest to x, a tie going to the one whose last digit is even. `m * up e` over `down e` is m * 2 ^ e.
--- A NaN stays one. There is one `nan`, which `toBits` writes as 7FC00000, and in binary64 as 7FF8000000000000; a program's NaN may have other bits.
+-- A NaN stays one: docs/PROMISES.md says what that means for bits.
 unfoldable pub narrowOf : Float → Float
 narrowOf nan = nan
 narrowOf (inf s) = inf s
