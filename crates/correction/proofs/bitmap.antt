@@ -1,5 +1,4 @@
 -- Where texels and cells lie, and the sweeps over them.
 pub mod Centres
-pub mod Painted
 pub mod Places
 pub mod Sweep

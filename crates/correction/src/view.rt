@@ -2,7 +2,10 @@
 ghost use mathlib.Core.Path.{_≡_};
 ghost use denote.Ref.{ptr};
 ghost use Rattle.correction.specs.View as View;
+use crate::bitmap;
+use crate::bitmap::Bitmap;
 use crate::checks;
+use crate::stencil;
 
 pub fn texel_view<'a>(
     original: &'a [f32],
@@ -30,10 +33,15 @@ pub fn texel_view<'a>(
     if y >= height {
         return none;
     }
-    let k = y * width + x;
-    let at = k * channels;
+    let b = Bitmap {
+        width: width,
+        height: height,
+        channels: channels,
+    };
+    let k = bitmap::cell(b, x, y);
+    let at = bitmap::place(b, x, y);
     let end = at + channels;
-    if stencil[k] % 2 == 1 {
+    if stencil::is_error(stencil[k]) {
         return &corrected[at..end];
     }
     &original[at..end]

@@ -24,7 +24,7 @@ use Rattle.correction.specs.Collapse.{collapsed}
 use Rattle.correction.specs.Inner.{Sized, Outlined, painted, found}
 use Rattle.correction.specs.Pass.{texels, edgePriorityProtects, protects, flags, byteAt, passStencil, passSamples, countsOf, Answers, answer, stencilAfter, samplesAfter}
 use Rattle.ground.proofs.Laws.Fill.{tab-length, tab-at, tab-same}
-use Rattle.correction.proofs.bitmap.Painted.{painted-then}
+use Rattle.correction.proofs.stencil.Painted.{painted-then}
 use Rattle.correction.proofs.pass.Staged.{found-staged, error-staged, collapsed-same, collapsed-none}
 use Rattle.correction.proofs.checks.Measures.{sizes, sized, cells}
 use Rattle.correction.proofs.checks.Passed.{passed}
