@@ -7,8 +7,7 @@ use Rattle.numbers.specs.Constants.{zeroOf, oneOf}
 use Rattle.ground.specs.Lists.{any}
 use Rattle.detectors.specs.Texel.{texelMedian}
 use Rattle.detectors.specs.Classifier.{rangeTest}
--- The crates above find the pairs' definitions here too.
-unfoldable pub use Rattle.detectors.specs.Pairs.{guard, inside, mixedChannel, mixedMedian, next, difference}
+use Rattle.detectors.specs.Pairs.{guard, inside, mixedMedian, difference}
 
 -- t = dA/(dA−dB), f32 differences, f64 quotient
 unfoldable pub crossing : Float → Float → Float

@@ -1,6 +1,6 @@
 -- Lists by what stands at each index or piece, and tests over the numbers below one. Definitions only.
 use Prim.Native.Nat.{ℕ, zero, suc, _+_}
-use mathlib.Core.Bool.{Bool, true, false, _||_, cond}
+use mathlib.Core.Bool.{Bool, false, _||_, cond}
 use mathlib.Core.List.{List, [], _∷_, _++_}
 
 -- the list of f 0 .. f (n - 1)

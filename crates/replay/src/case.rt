@@ -3,7 +3,7 @@ ghost use Prim.Native.Nat.{_≤_};
 ghost use lib.ListN.{length};
 ghost use mathlib.Core.Path.{_≡_};
 ghost use mathlib.Core.Bool.{true};
-ghost use Rattle.replay.specs.Sizes.{Sized};
+ghost use Rattle.replay.specs.Inner.{Sized};
 use crate::answer;
 use crate::number;
 use correction::pass;

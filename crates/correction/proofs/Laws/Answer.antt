@@ -5,11 +5,9 @@
 use mathlib.Core.Path.{_≡_, refl, sym, _∙_, ap, subst}
 use mathlib.Core.Bool.{Bool, true, false, cond, true≢false}
 use Prim.Native.Nat.{ℕ}
-use lib.Dec.{eqb}
-use borrow.Author.Tests.{eqb-true, eqb-false, eq-eqb}
+use borrow.Author.Tests.{eqb-true, eq-eqb}
 use Rattle.correction.specs.declared.pass.Answer.{Answer}
 use Rattle.correction.specs.declared.pass.Answer.the-variants.{Accepted, Refused}
-use Rattle.correction.specs.declared.pass.Counts.{Counts}
 use Rattle.correction.specs.Checks.{Input, accepted, refusalNumber, placeOf, outlinePlace, refusalPlace}
 use Rattle.correction.specs.Pass.{passStencil, protectedCount, errorCount, countsOf, isAccepted, numberOf, placeIn, protectedIn, errorsIn, protectedCells, errorCells, Answers, answer}
 

@@ -14,7 +14,8 @@ use Rattle.detectors.specs.Texel.{texelMedian}
 use Rattle.detectors.specs.Config.{sideSpan, diagonalSpan, radius}
 use Rattle.correction.specs.Checks.{badChannels, badSide, badSize, badSampleCount, badCellCount, badLength, settingsPlace, badSettings, oversize, samplesPlace, badSamples, badOutlines, endBefore, badEnd, endsPlace, badEnds, badSegment, segmentsPlace, badSegments, refusalNumber, accepted}
 use Rattle.detectors.specs.Classifier.{fallsBelow, risesAbove, liesOutside, candidate, within, inRange, rangeTest}
-use Rattle.detectors.specs.Linear.{guard, inside, mixedChannel, mixedMedian, next, difference, crossing, linearAt, linearPair, linearPairs, hasLinearArtifact}
+use Rattle.detectors.specs.Pairs.{guard, inside, mixedChannel, mixedMedian, next, difference}
+use Rattle.detectors.specs.Linear.{crossing, linearAt, linearPair, linearPairs, hasLinearArtifact}
 use Rattle.detectors.specs.Diagonal.{abc, linearTerm, squareTerm, turningPoint, curve, curveChannel, curveMedian, middleDifference, quadraticRoots, pairRoots, movedEnd, turningTest, rootTests, diagonalAt, diagonalPair, diagonalPairs, hasDiagonalArtifact}
 use Rattle.correction.specs.Corners.{split, contours, before, shared, isCorner, cornersProtect}
 use Rattle.detectors.specs.Edge.{near, edgePoint, edgeAt, masked, extreme, pairProtects, protectsLower, protectsUpper}

@@ -21,7 +21,7 @@ use Rattle.detectors.specs.declared.config.Settings.{Settings}
 use Rattle.detectors.specs.Config.{sideSpan, diagonalSpan}
 use Rattle.detectors.specs.Texel.{texelMedian}
 use Rattle.detectors.specs.Classifier.{compared}
-use Rattle.detectors.specs.Linear.{inside, mixedMedian}
+use Rattle.detectors.specs.Pairs.{inside, mixedMedian}
 use Rattle.detectors.specs.Diagonal.{curveMedian}
 use Rattle.detectors.proofs.Laws.Finite.{SmallTexel, Span, SmallFour, AllFinite, linear-finite, diagonal-finite, upper-finite, lower-finite}
 use Rattle.correction.specs.Bitmap.{texel, inBounds}

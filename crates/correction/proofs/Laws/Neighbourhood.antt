@@ -4,7 +4,7 @@
 --     errors-alike             of what an accepted pass leaves in the stencil
 --     promise-neighbourhood    of two runs of the public function, by its promise
 use mathlib.Core.Path.{_≡_, refl, sym, _∙_, ap}
-use mathlib.Core.Bool.{Bool, true, false}
+use mathlib.Core.Bool.{Bool, true}
 use mathlib.Core.List.{List, [], _∷_}
 use Prim.Native.Nat.{ℕ, _+_, _-_, _*_, _<_, _≤_}
 use native.Mathlib.Nat.{mul-comm}
@@ -21,10 +21,9 @@ use Rattle.ground.proofs.Laws.Bools.{guarded}
 use Rattle.detectors.specs.declared.config.Settings.{Settings}
 use Rattle.correction.specs.Bitmap.{cell, inBounds}
 use Rattle.correction.specs.Stencil.{isProtected, isError}
-use Rattle.detectors.specs.Config.{disabled, sideSpan, diagonalSpan}
+use Rattle.detectors.specs.Config.{disabled}
 use Rattle.correction.specs.Checks.{Input, accepted}
 use Rattle.detectors.specs.Linear.{hasLinearArtifact}
-use Rattle.detectors.specs.Diagonal.{hasDiagonalArtifact}
 use Rattle.correction.specs.Errors.{sideArtifact, someSide, diagonalArtifact, someDiagonal, someArtifact, hasArtifact}
 use Rattle.correction.specs.Neighbourhood.{SameAround, SameSpans}
 use Rattle.correction.specs.Pass.{texels, protects, flags, numberOf, stencilAfter}

@@ -4,7 +4,7 @@ use mathlib.Core.Bool.{Bool, true, false, not, _||_, and-false}
 use mathlib.Core.List.{List}
 use Prim.Native.Nat.{ℕ, _+_, _-_}
 use lib.Dec.{T}
-use lib.Ieee.{Float, nan, inf, fin, Format, binary32, lt, le, add, sub, isNan, fits}
+use lib.Ieee.{Float, binary32, lt, le, add, sub, isNan, fits}
 use lib.Ieee.Fits.{sub-fits}
 use Rattle.detectors.specs.Constants.{halfOf}
 use Rattle.numbers.specs.Scalar.{absOf}

@@ -13,7 +13,7 @@ use lib.Dec.{T, leb, eqb, eqb-refl}
 use lib.Ieee.Compare.{differs-from-itself}
 use lib.Ieee.Bits.{is-true}
 use lib.Ieee.{Float, Format, nan, inf, fin, binary32, binary64, hid, ones, top, ofFields, ofBits, nanBits, div, up, down, ne, isNan}
-use borrow.Author.Tests.{ne-eqb, eqb-true, eqb-false, not-true}
+use borrow.Author.Tests.{ne-eqb, eqb-true, eqb-false}
 
 pub ne-self : (x : Float) → ne x x ≡ isNan x
 unfolding ne isNan

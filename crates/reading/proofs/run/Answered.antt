@@ -1,5 +1,5 @@
 -- What an accepted case leaves in the stencil and in the samples is what is printed of it. Assumes nothing.
-use mathlib.Core.Bool.{Bool, true, false, cond, not, _||_}
+use mathlib.Core.Bool.{Bool, true, false, cond, _||_}
 use mathlib.Core.List.{List, [], _++_}
 use mathlib.Core.Path.{_≡_, refl, sym, ap, _∙_}
 use Prim.Native.Nat.{ℕ, _+_, _*_, _/_, _%_, _≤_, _<_}
@@ -7,10 +7,9 @@ use native.Mathlib.Nat.{add-zero, mul-le-mul-right, mul-le-mul-left}
 use native.Mathlib.Numerals.{add-one-le}
 use native.Mathlib.Omega.{arith}
 use lib.Arith.{digits-div, digits-mod}
-use lib.Dec.{eqb, leb}
 use lib.Ieee.{Float, nan, binary32, toBits}
 use lib.ListN.{length, getD}
-use borrow.Author.Tests.{eqb-true, leb-true, not-false}
+use borrow.Author.Tests.{eqb-true}
 use Rattle.ground.proofs.Laws.Fill.{tab-length, tab-at}
 use Rattle.ground.proofs.Laws.Join.{joined-same}
 use Rattle.correction.specs.Stencil.{stencilByte, isError}

@@ -1,4 +1,4 @@
--- The bounds that keep a case of the list within the program's arrays and numbers. Assumes nothing.
+-- What the inner functions ask of each other: the bounds that keep a case of the list within the program's arrays and numbers. Definitions only.
 use Prim.Native.Nat.{ℕ, _≤_}
 use Rattle.replay.specs.declared.case.Case.{Case}
 
