@@ -11,33 +11,12 @@ use Rattle.correction_c.proofs.rungtwine_error_correction.Tie as tie
 parts : (i : Input) (r r' : Answer) → r ≡ r' → Answers i r → (numberOf r' ≡ refusalNumber i) × ((placeIn r' ≡ refusalPlace i) × ((protectedIn r' ≡ protectedCells i) × (errorsIn r' ≡ errorCells i)))
 parts i r r' e a = (ap numberOf (sym e) ∙ a .number, (ap placeIn (sym e) ∙ a .place, (ap protectedIn (sym e) ∙ a .protected, ap errorsIn (sym e) ∙ a .errors)))
 
-msdf-error-correction-requires : tie.Need-msdf-error-correction-requires
-msdf-error-correction-requires c κs = search needs
-
-enum-known-c : tie.Need-enum-known-c
-enum-known-c c = search needs
-
-enum-known-n : tie.Need-enum-known-n
-enum-known-n c = search needs
-
-same-length : tie.Need-same-length
-same-length c = search needs
-
-same-length-2 : tie.Need-same-length-2
-same-length-2 c = search needs
-
 returns : tie.Need-returns
 unfolding numberOf placeIn protectedIn errorsIn
 returns c =
     let p = c .before .before .before .before .before .before .before .msdf-error-correction .ensures in
     let e = parts _ _ _ (c .before .c .given .1) (p .0) in
     (e .0, (e .1 .0, (e .1 .1 .0, (e .1 .1 .1, p .1))))
-
-same-length-3 : tie.Need-same-length-3
-same-length-3 c = search needs
-
-same-length-4 : tie.Need-same-length-4
-same-length-4 c = search needs
 
 returns-2 : tie.Need-returns-2
 unfolding numberOf placeIn protectedIn errorsIn
@@ -48,14 +27,4 @@ returns-2 c =
 
 pub rungtwine-error-correction-spec : {M : Type 1} → statement M
 rungtwine-error-correction-spec =
-    tie.close
-    (tie.spec
-    msdf-error-correction-requires
-    enum-known-c
-    enum-known-n
-    same-length
-    same-length-2
-    returns
-    same-length-3
-    same-length-4
-    returns-2)
+    tie.close (tie.spec (λ c κs. search needs) (λ c. search needs) (λ c. search needs) (λ c. search needs) (λ c. search needs) returns (λ c. search needs) (λ c. search needs) returns-2)

@@ -14,55 +14,14 @@ use Rattle.rungtwine.proofs.main.Tie as tie
 in-front : (n : ℕ) (s d l : List ℕ) (m : ℕ) → m ≡ length (written n s) → l ≡ written n s ++ d → m ≤ length l
 in-front n s d l m e f = omega (arith, ap length f, length-append (written n s) d)
 
-input-buffer-requires : tie.Need-input-buffer-requires
-input-buffer-requires c κs = search needs
-
-output-buffer-requires : tie.Need-output-buffer-requires
-output-buffer-requires c κs = search needs
-
-slice-aggregate-read-full : tie.Need-slice-aggregate-read-full
-slice-aggregate-read-full c = search needs
-
-read-full-requires : tie.Need-read-full-requires
-read-full-requires c κs = search needs
-
-array-share-prefix-input : tie.Need-array-share-prefix-input
-array-share-prefix-input c = search needs
-
-slice-aggregate-answer : tie.Need-slice-aggregate-answer
-slice-aggregate-answer c = search needs
-
-slice-aggregate-answer-2 : tie.Need-slice-aggregate-answer-2
-slice-aggregate-answer-2 c = search needs
-
-answer-requires : tie.Need-answer-requires
-answer-requires c κs = search needs
-
 array-share-prefix-output : tie.Need-array-share-prefix-output
 array-share-prefix-output c = in-front _ _ _ _ _ (c .before .answer .ensures .0) (c .before .answer .ensures .1)
 
 slice-aggregate-write-all : tie.Need-slice-aggregate-write-all
 slice-aggregate-write-all c = sym (length-take-le _ _ (in-front _ _ _ _ _ (c .before .before .answer .ensures .0) (c .before .before .answer .ensures .1)))
 
-write-all-requires : tie.Need-write-all-requires
-write-all-requires c κs = search needs
-
-returns : tie.Need-returns
-returns c = search needs
-
 pub main-spec : {M : Type 1} → statement M
 main-spec =
     tie.close
-    (tie.spec
-    input-buffer-requires
-    output-buffer-requires
-    slice-aggregate-read-full
-    read-full-requires
-    array-share-prefix-input
-    slice-aggregate-answer
-    slice-aggregate-answer-2
-    answer-requires
-    array-share-prefix-output
-    slice-aggregate-write-all
-    write-all-requires
-    returns)
+    (tie.spec (λ c κs. search needs) (λ c κs. search needs) (λ c. search needs) (λ c κs. search needs) (λ c. search needs) (λ c. search needs) (λ c. search needs) (λ c κs. search needs)
+    array-share-prefix-output slice-aggregate-write-all (λ c κs. search needs) (λ c. search needs))

@@ -4,15 +4,9 @@ use Rattle.ground.specs.Bytes.{f32At}
 use Rattle.ground.proofs.bytes.f32_at.Statement.{statement}
 use Rattle.ground.proofs.bytes.f32_at.Tie as tie
 
-be32-requires : tie.Need-be32-requires
-be32-requires c κs = search needs
-
-float-of-bits32-requires : tie.Need-float-of-bits32-requires
-float-of-bits32-requires c κs = search needs
-
 returns : tie.Need-returns
 unfolding f32At
 returns c = rw (c .float-of-bits32 .ensures, c .before .be32 .ensures)
 
 pub f32-at-spec : {M : Type 1} → statement M
-f32-at-spec = tie.close (tie.spec be32-requires float-of-bits32-requires returns)
+f32-at-spec = tie.close (tie.spec (λ c κs. search needs) (λ c κs. search needs) returns)

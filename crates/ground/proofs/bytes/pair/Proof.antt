@@ -11,5 +11,4 @@ unfolding be16
 returns c = (rw (c .byte-from2 .ensures, c .before .byte-from .ensures, ← add-assoc), omega arith)
 
 pub pair-spec : {M : Type 1} → statement M
-pair-spec =
-    tie.close (tie.spec (λ c κs. search needs) (λ c. search needs) (λ c. search needs) (λ c. search needs) (λ c κs. search needs) (λ c. search needs) (λ c. search needs) returns)
+pair-spec = tie.close (tie.spec (λ c κs. search needs) (λ c. search needs) (λ c. search needs) (λ c. search needs) (λ c κs. search needs) (λ c. search needs) (λ c. search needs) returns)
