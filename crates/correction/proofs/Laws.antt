@@ -1,5 +1,4 @@
 -- What follows from the definitions, for any bitmap.
-pub mod Checks
 pub mod Answer
 pub mod Leaves
 pub mod Neighbourhood

@@ -2,3 +2,4 @@
 pub mod Centres
 pub mod Places
 pub mod Sweep
+pub mod Sizes

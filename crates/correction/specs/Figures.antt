@@ -9,7 +9,7 @@ use Rattle.numbers.specs.SquareRoot.{sqrtOf}
 use Rattle.numbers.specs.EquationSolver.{rootsOf}
 use Rattle.correction.specs.declared.pass.Answer.the-variants.{Accepted}
 use Rattle.detectors.specs.Config.{indiscriminate, edgePriority, edgeOnly}
-use Rattle.correction.specs.Checks.{Input}
+use Rattle.inputs.specs.Checks.{Input}
 use Rattle.detectors.specs.Linear.{crossing}
 use Rattle.detectors.specs.Pairs.{inside}
 use Rattle.correction.specs.Corners.{Segment, isCorner}

@@ -15,7 +15,7 @@ use Rattle.correction.specs.declared.bitmap.Visit.{Visit}
 use Rattle.correction.specs.declared.bitmap.Centre.{Centre}
 use Rattle.ground.specs.Lists.{tab, any}
 use Rattle.correction.specs.Bitmap.{cell, texel, inBounds}
-use Rattle.correction.specs.Stencil.{isProtected, setProtected, setError}
+use Rattle.inputs.specs.Stencil.{isProtected, setProtected, setError}
 use Rattle.correction.specs.Corners.{shared, lower, beside}
 use Rattle.correction.specs.Errors.{hasArtifact}
 
@@ -27,13 +27,6 @@ pub record Sized (w h ch : ℕ) (xs : List Float) : Type 0 where
   pub some : 3 ≤ ch
   pub few : ch ≤ 4
   pub long : length xs ≡ h * w * ch
-
--- the outlines that checks 7 and 8 let through
-pub record Outlined (colours : List ℕ) (coords : List Float) (ends : List ℕ) : Type 0 where
-  pub twice : length coords ≡ 2 * length colours
-  pub few : length colours ≤ 65536
-  pub rising : (i : ℕ) → suc i < length ends → getD ends i 0 ≤ getD ends (suc i) 0
-  pub within : (i : ℕ) → i < length ends → getD ends i 0 ≤ length colours
 
 -- A sweep over the cells of a bitmap, row by row, has come to this one, or past the last row.
 pub record Reached (w h : ℕ) (at : Visit) : Type 0 where

@@ -1,6 +1,4 @@
 pub mod Bitmap
-pub mod Stencil
-pub mod Checks
 pub mod Corners
 pub mod Edges
 pub mod Errors

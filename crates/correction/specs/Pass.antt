@@ -8,12 +8,11 @@ use lib.Dec.{eqb}
 use lib.Ieee.{Float}
 use Rattle.correction.specs.declared.pass.Answer.{Answer}
 use Rattle.correction.specs.declared.pass.Answer.the-variants.{Accepted, Refused}
-use Rattle.correction.specs.declared.pass.Counts.{Counts}
-use Rattle.ground.specs.Lists.{tab, count}
+use Rattle.ground.specs.Lists.{tab}
 use Rattle.correction.specs.Bitmap.{texel}
-use Rattle.correction.specs.Stencil.{stencilByte, isProtected, isError}
+use Rattle.inputs.specs.Stencil.{stencilByte, protectedCount, errorCount, countsOf}
 use Rattle.detectors.specs.Config.{disabled, edgePriority, edgeOnly}
-use Rattle.correction.specs.Checks.{Input, input, accepted, refusalNumber, refusalPlace}
+use Rattle.inputs.specs.Checks.{Input, input, accepted, refusalNumber, refusalPlace}
 use Rattle.correction.specs.Corners.{contours, cornersProtect}
 use Rattle.correction.specs.Edges.{edgesProtect}
 use Rattle.correction.specs.Errors.{hasArtifact}
@@ -46,16 +45,6 @@ passStencil i = tab (i .width * i .height) (byteAt i)
 -- the samples of an accepted pass
 unfoldable pub passSamples : Input → List Float
 passSamples i = collapsed (i .samples) (i .channels) (λ k. flags i (k % i .width) (k / i .width))
-
--- the number of stencil cells with bit 2, and with bit 1
-unfoldable pub protectedCount : List ℕ → ℕ
-protectedCount st = count (length st) (λ k. isProtected (getD st k 0))
-
-unfoldable pub errorCount : List ℕ → ℕ
-errorCount st = count (length st) (λ k. isError (getD st k 0))
-
-abbrev pub countsOf : List ℕ → Counts
-countsOf st = record { protected = protectedCount st; error = errorCount st }
 
 -- ---- an answer's case, and its number, place and counts
 

@@ -6,7 +6,7 @@ use lib.Dec.{T}
 use lib.Ieee.{Float, le}
 use Rattle.detectors.specs.declared.config.Settings.{Settings}
 use Rattle.detectors.specs.Config.{disabled}
-use Rattle.correction.specs.Checks.{Input}
+use Rattle.inputs.specs.Checks.{Input}
 use Rattle.correction.specs.Corners.{Segment, contours}
 
 -- The second list has every contour of the first in its order, with or without added ones. Empty contours count for nothing.

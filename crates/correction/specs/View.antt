@@ -7,8 +7,8 @@ use lib.Dec.{eqb, ltb}
 use lib.Ieee.{Float}
 use denote.Ref.{RefT, ptr, now}
 use Rattle.correction.specs.Bitmap.{cell}
-use Rattle.correction.specs.Stencil.{isError}
-use Rattle.correction.specs.Checks.{sizeRefusal}
+use Rattle.inputs.specs.Stencil.{isError}
+use Rattle.inputs.specs.Checks.{sizeRefusal}
 
 -- checks 1 to 4 pass for both bitmaps, and x, y is inside
 unfoldable pub viewable : ℕ → ℕ → ℕ → ℕ → ℕ → ℕ → ℕ → ℕ → Bool

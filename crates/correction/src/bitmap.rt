@@ -5,13 +5,7 @@ ghost use mathlib.Core.Bool.{true};
 ghost use Rattle.correction.specs.Bitmap as Rules;
 ghost use Rattle.correction.specs.Inner.{Sized, Reached, centreOf};
 use detectors::texel;
-
-// The sizes.
-pub struct Bitmap {
-    pub width: usize,
-    pub height: usize,
-    pub channels: usize,
-}
+use inputs::sizes::Bitmap;
 
 // A cell as a sweep comes to it: its column, its row and its number, which is its place in the stencil.
 pub struct Visit {

@@ -6,10 +6,10 @@ ghost use lib.ListN.{length, getD};
 ghost use Rattle.correction.specs.Bitmap.{place};
 ghost use Rattle.correction.specs.Collapse as Collapse;
 ghost use Rattle.correction.specs.Inner.{Sized, collapsedAt};
-ghost use Rattle.correction.specs.Stencil.{isError};
+ghost use Rattle.inputs.specs.Stencil.{isError};
 use crate::bitmap;
-use crate::bitmap::Bitmap;
-use crate::stencil;
+use inputs::sizes::Bitmap;
+use inputs::stencil;
 use numbers::scalar;
 
 // The three samples from a place on become their median.

@@ -5,11 +5,12 @@ ghost use mathlib.Core.Bool.{cond, _&&_};
 ghost use lib.Dec.{eqb, ltb};
 ghost use lib.ListN.{length};
 ghost use Rattle.correction.specs.Corners as Corners;
-ghost use Rattle.correction.specs.Inner.{Outlined, painted, spot, clip, cornerHits, contourHits};
+ghost use Rattle.correction.specs.Inner.{painted, spot, clip, cornerHits, contourHits};
+ghost use Rattle.inputs.specs.Inner.{Outlined};
 use crate::bitmap;
-use crate::bitmap::Bitmap;
-use crate::stencil;
 use detectors::constants;
+use inputs::sizes::Bitmap;
+use inputs::stencil;
 use numbers::rounding;
 
 // A signed column or row, clipped: counted from 1 where it is from -1 to n - 1, and n + 1 elsewhere.

@@ -8,14 +8,14 @@ ghost use Rattle.detectors.specs.Texel.{texelMedian};
 ghost use Rattle.correction.specs.Bitmap.{texel};
 ghost use Rattle.correction.specs.Edges as Edges;
 ghost use Rattle.correction.specs.Inner.{Sized, Centred, painted, protectsAs, asEither, someOf};
-ghost use Rattle.correction.specs.Stencil.{setProtected};
+ghost use Rattle.inputs.specs.Stencil.{setProtected};
 use crate::bitmap;
-use crate::bitmap::Bitmap;
 use crate::bitmap::Centre;
-use crate::stencil;
 use detectors::config::Settings;
 use detectors::edge;
 use detectors::texel;
+use inputs::sizes::Bitmap;
+use inputs::stencil;
 
 // How far from the outline the medians of a pair may be together: in a row, in a column, across.
 struct Radii {

@@ -8,12 +8,12 @@ ghost use Rattle.correction.specs.Bitmap.{texel};
 ghost use Rattle.correction.specs.Errors as Errors;
 ghost use Rattle.correction.specs.Inner.{Sized, marked, found};
 use crate::bitmap;
-use crate::bitmap::Bitmap;
 use crate::bitmap::Centre;
-use crate::stencil;
 use detectors::config::Settings;
 use detectors::diagonal;
 use detectors::linear;
+use inputs::sizes::Bitmap;
+use inputs::stencil;
 
 // Texel a of t against the side neighbour at column nx and row ny, counted from 1.
 fn side_artifact(

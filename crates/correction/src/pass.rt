@@ -3,25 +3,21 @@ ghost use mathlib.Core.Path.{_≡_};
 ghost use Prim.Native.Nat.{_*_, _/_, _%_};
 ghost use mathlib.Core.Bool.{cond};
 ghost use lib.ListN.{length};
-ghost use Rattle.correction.specs.Checks.{input};
+ghost use Rattle.inputs.specs.Checks.{input};
 ghost use Rattle.ground.specs.Lists.{tab};
 ghost use Rattle.correction.specs.Pass as Pass;
-ghost use Rattle.correction.specs.Inner.{Sized, Outlined};
-use crate::bitmap::Bitmap;
-use crate::checks;
+ghost use Rattle.correction.specs.Inner.{Sized};
+ghost use Rattle.inputs.specs.Inner.{Outlined};
 use crate::collapse;
 use crate::corners;
 use crate::edges;
 use crate::errors;
-use crate::stencil;
 use detectors::config;
 use detectors::config::Settings;
-
-// The stencil cells that are protected, and those with an error.
-pub struct Counts {
-    pub protected: usize,
-    pub error: usize,
-}
+use inputs::checks;
+use inputs::sizes::Bitmap;
+use inputs::stencil;
+use inputs::stencil::Counts;
 
 // What the pass answers: the counts, or the number of the first check that fails and its place.
 pub enum Answer {
@@ -99,26 +95,15 @@ pub fn msdf_error_correction(
     ensures leaves { λ r. ⌜ now (stencil .exit) ≡ Pass.stencilAfter (input width height channels (now (samples .entry)) (now (stencil .entry)) mode settings (now (colours .entry)) (now (coords .entry)) (now (ends .entry))) ⌝ }
     ensures writes { λ r. ⌜ now (samples .exit) ≡ Pass.samplesAfter (input width height channels (now (samples .entry)) (now (stencil .entry)) mode settings (now (colours .entry)) (now (coords .entry)) (now (ends .entry))) ⌝ }
 {
-    let f = checks::check(
-        width,
-        height,
-        channels,
-        samples,
-        stencil,
-        mode,
-        settings,
-        colours,
-        coords,
-        ends,
-    );
-    if f.number != 0 {
-        return Answer::Refused(f.number, f.place);
-    }
     let b = Bitmap {
         width: width,
         height: height,
         channels: channels,
     };
+    let f = checks::check(b, samples, stencil, mode, settings, colours, coords, ends);
+    if f.number != 0 {
+        return Answer::Refused(f.number, f.place);
+    }
     correct(stencil, samples, b, mode, settings, colours, coords, ends);
     Answer::Accepted(stencil::count_cells(stencil))
 }

@@ -3,9 +3,9 @@ ghost use mathlib.Core.Path.{_≡_};
 ghost use denote.Ref.{ptr};
 ghost use Rattle.correction.specs.View as View;
 use crate::bitmap;
-use crate::bitmap::Bitmap;
-use crate::checks;
-use crate::stencil;
+use inputs::checks;
+use inputs::sizes::Bitmap;
+use inputs::stencil;
 
 pub fn texel_view<'a>(
     original: &'a [f32],
@@ -21,10 +21,15 @@ pub fn texel_view<'a>(
     ensures lies { λ r. ⌜ ptr r ≡ View.viewPlace (original .entry) (corrected .entry) (now (stencil .entry)) width height channels x y ⌝ }
 {
     let none = &original[0..0];
-    if checks::size_refusal(width, height, channels, original.len(), stencil.len()) != 0 {
+    let b = Bitmap {
+        width: width,
+        height: height,
+        channels: channels,
+    };
+    if checks::size_refusal(b, original.len(), stencil.len()) != 0 {
         return none;
     }
-    if checks::size_refusal(width, height, channels, corrected.len(), stencil.len()) != 0 {
+    if checks::size_refusal(b, corrected.len(), stencil.len()) != 0 {
         return none;
     }
     if x >= width {
@@ -33,11 +38,6 @@ pub fn texel_view<'a>(
     if y >= height {
         return none;
     }
-    let b = Bitmap {
-        width: width,
-        height: height,
-        channels: channels,
-    };
     let k = bitmap::cell(b, x, y);
     let at = bitmap::place(b, x, y);
     let end = at + channels;

@@ -3,7 +3,7 @@ use Prim.Native.Nat.{ℕ}
 use mathlib.Core.List.{List}
 use lib.Ieee.{Float}
 use Rattle.detectors.specs.declared.config.Settings.{Settings}
-use Rattle.correction.specs.Checks.{Input, input}
+use Rattle.inputs.specs.Checks.{Input, input}
 
 abbrev pub settingsOf : Float → Float → Float → Float → Settings
 settingsOf ratio horizontal vertical diagonal = record { ratio = ratio; horizontal = horizontal; vertical = vertical; diagonal = diagonal }

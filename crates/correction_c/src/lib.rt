@@ -1,7 +1,7 @@
 // The pass and the texel view for C and Rust to call.
 ghost use mathlib.Core.Path.{_≡_};
 ghost use denote.Ref.{ptr};
-ghost use Rattle.correction.specs.Checks as Checks;
+ghost use Rattle.inputs.specs.Checks as Checks;
 ghost use Rattle.correction.specs.Pass as Pass;
 ghost use Rattle.correction.specs.View as View;
 ghost use Rattle.correction_c.specs.Call.{called};

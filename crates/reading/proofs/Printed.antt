@@ -10,9 +10,10 @@ use lib.ListN.{length}
 use borrow.Author.Tests.{eq-eqb, ne-eqb, eqb-true}
 use Rattle.ground.proofs.Laws.Join.{joined-length}
 use Rattle.ground.specs.Refuse.{firstFailing}
-use Rattle.correction.specs.Checks.{Input, accepted, refusalNumber, refusalPlace, placeOf, outlinePlace, badChannels}
+use Rattle.inputs.specs.Checks.{Input, accepted, refusalNumber, refusalPlace, placeOf, outlinePlace, badChannels}
 use Rattle.correction.specs.Collapse.{cellMedian}
-use Rattle.correction.specs.Pass.{answer, passStencil, protectedCount, errorCount, countsOf}
+use Rattle.correction.specs.Pass.{answer, passStencil}
+use Rattle.inputs.specs.Stencil.{protectedCount, errorCount, countsOf}
 use Rattle.correction.specs.declared.pass.Answer.the-variants.{Accepted, Refused}
 use Rattle.reading.specs.Answer.{caseOf, answerText, printed}
 use Rattle.reading.specs.Case.{rowSamples, samplesOf}

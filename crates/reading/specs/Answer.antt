@@ -7,7 +7,7 @@ use Rattle.ground.specs.Lists.{tab}
 use Rattle.detectors.specs.declared.config.Settings.{Settings}
 use Rattle.correction.specs.declared.pass.Answer.{Answer}
 use Rattle.correction.specs.declared.pass.Answer.the-variants.{Accepted, Refused}
-use Rattle.correction.specs.Checks.{Input, input}
+use Rattle.inputs.specs.Checks.{Input, input}
 use Rattle.correction.specs.Collapse.{cellMedian}
 use Rattle.correction.specs.Pass.{answer, passStencil}
 use Rattle.reading.specs.Grammar.{fine, width, height, channels, breach}

@@ -6,7 +6,7 @@ use lib.ListN.{getD}
 use lib.Dec.{ltb}
 use lib.Ieee.{Float, binary32, toBits}
 use Rattle.ground.specs.Lists.{joined, tab}
-use Rattle.correction.specs.Stencil.{isProtected, isError}
+use Rattle.inputs.specs.Stencil.{isProtected, isError}
 use Rattle.reading.specs.Decimal.{decimal}
 
 -- ---- numbers

@@ -4,7 +4,7 @@ ghost use Prim.Native.Nat.{_≤_, _<_};
 ghost use lib.ListN.{length};
 ghost use Rattle.ground.specs.Lists.{tab};
 ghost use Rattle.ground.specs.Write.{Written};
-ghost use Rattle.correction.specs.Checks.{input};
+ghost use Rattle.inputs.specs.Checks.{input};
 ghost use Rattle.correction.specs.Pass as Pass;
 ghost use Rattle.reading.specs.Answer as Answers;
 ghost use Rattle.reading.specs.Grammar.{channels};

@@ -17,13 +17,12 @@ use contract.Lifetimes.{Lfts}
 use borrow.Fn.Kinds.{Dens}
 use borrow.Author.Tests.{le-ltb, eq-eqb}
 use Rattle.numbers.proofs.Laws.Scalar.{median-keeps}
-use Rattle.correction.specs.Checks.{Input, oversize, samplesPlace, badSamples, refusalNumber, accepted}
+use Rattle.inputs.specs.Checks.{Input, oversize, samplesPlace, badSamples, refusalNumber, accepted}
 use Rattle.correction.specs.Collapse.{cellMedian, collapsedSample, collapsed}
 use Rattle.correction.specs.Pass.{flags, passSamples, stencilAfter, samplesAfter, fedBack, numberOf}
 use Rattle.ground.proofs.Laws.Fill.{tab-length, tab-at}
 use Rattle.ground.proofs.Laws.Search.{first-is-end}
-use Rattle.correction.proofs.checks.Measures.{sizes}
-use Rattle.correction.proofs.checks.Passed.{passed, stages, staged}
+use Rattle.inputs.proofs.Laws.Checks.{sizes, passed, stages, staged}
 use Rattle.correction.proofs.pass.msdf_error_correction.Kinds.{ps}
 use Rattle.correction.proofs.pass.msdf_error_correction.Reads as entry
 use Rattle.correction.proofs.Laws.Answer.{zero-accepts}

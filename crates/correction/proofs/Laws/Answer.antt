@@ -8,8 +8,9 @@ use Prim.Native.Nat.{ℕ}
 use borrow.Author.Tests.{eqb-true, eq-eqb}
 use Rattle.correction.specs.declared.pass.Answer.{Answer}
 use Rattle.correction.specs.declared.pass.Answer.the-variants.{Accepted, Refused}
-use Rattle.correction.specs.Checks.{Input, accepted, refusalNumber, placeOf, outlinePlace, refusalPlace}
-use Rattle.correction.specs.Pass.{passStencil, protectedCount, errorCount, countsOf, isAccepted, numberOf, placeIn, protectedIn, errorsIn, protectedCells, errorCells, Answers, answer}
+use Rattle.inputs.specs.Checks.{Input, accepted, refusalNumber, placeOf, outlinePlace, refusalPlace}
+use Rattle.correction.specs.Pass.{passStencil, isAccepted, numberOf, placeIn, protectedIn, errorsIn, protectedCells, errorCells, Answers, answer}
+use Rattle.inputs.specs.Stencil.{protectedCount, errorCount, countsOf}
 
 -- An answer is fixed by whether it accepts, its number, its place and its two counts. Without the first, a refusal with the number 0, which no input gets, would pass for an acceptance.
 pub parts-fix : (r r' : Answer) → isAccepted r ≡ isAccepted r' → numberOf r ≡ numberOf r' → placeIn r ≡ placeIn r' → protectedIn r ≡ protectedIn r' → errorsIn r ≡ errorsIn r' → r ≡ r'

@@ -9,10 +9,10 @@ use Rattle.numbers.specs.EquationSolver.{isLinear, linearRoots, discriminant, u
 use Rattle.ground.specs.Lists.{tab, any, some, count, first}
 use Rattle.ground.specs.Refuse.{firstFailing}
 use Rattle.correction.specs.Bitmap.{texel, inBounds}
-use Rattle.correction.specs.Stencil.{stencilByte, isProtected, isError}
+use Rattle.inputs.specs.Stencil.{stencilByte, isProtected, isError, protectedCount, errorCount}
 use Rattle.detectors.specs.Texel.{texelMedian}
 use Rattle.detectors.specs.Config.{sideSpan, diagonalSpan, radius}
-use Rattle.correction.specs.Checks.{badChannels, badSide, badSize, badSampleCount, badCellCount, badLength, settingsPlace, badSettings, oversize, samplesPlace, badSamples, badOutlines, endBefore, badEnd, endsPlace, badEnds, badSegment, segmentsPlace, badSegments, refusalNumber, accepted}
+use Rattle.inputs.specs.Checks.{badChannels, badSide, badSize, badSampleCount, badCellCount, badLength, settingsPlace, badSettings, oversize, samplesPlace, badSamples, badOutlines, endBefore, badEnd, endsPlace, badEnds, badSegment, segmentsPlace, badSegments, refusalNumber, accepted}
 use Rattle.detectors.specs.Classifier.{fallsBelow, risesAbove, liesOutside, candidate, within, inRange, rangeTest}
 use Rattle.detectors.specs.Pairs.{guard, inside, mixedChannel, mixedMedian, next, difference}
 use Rattle.detectors.specs.Linear.{crossing, linearAt, linearPair, linearPairs, hasLinearArtifact}
@@ -21,7 +21,7 @@ use Rattle.correction.specs.Corners.{split, contours, before, shared, is
 use Rattle.detectors.specs.Edge.{near, edgePoint, edgeAt, masked, extreme, pairProtects, protectsLower, protectsUpper}
 use Rattle.correction.specs.Edges.{asLower, asUpper, someLower, someUpper, someEdge, edgesProtect}
 use Rattle.correction.specs.Errors.{sideArtifact, someSide, diagonalArtifact, someDiagonal, someArtifact, hasArtifact}
-use Rattle.correction.specs.Pass.{texels, edgePriorityProtects, protects, flags, byteAt, passStencil, protectedCount, errorCount, answer, stencilAfter}
+use Rattle.correction.specs.Pass.{texels, edgePriorityProtects, protects, flags, byteAt, passStencil, answer, stencilAfter}
 use Rattle.correction.specs.Figures.{Figures}
 
 -- All figures of the table hold.

@@ -25,10 +25,10 @@ use Rattle.detectors.specs.Pairs.{inside, mixedMedian}
 use Rattle.detectors.specs.Diagonal.{curveMedian}
 use Rattle.detectors.proofs.Laws.Finite.{SmallTexel, Span, SmallFour, AllFinite, linear-finite, diagonal-finite, upper-finite, lower-finite}
 use Rattle.correction.specs.Bitmap.{texel, inBounds}
-use Rattle.correction.specs.Checks.{Input, badLength, oversize, refusalNumber, accepted}
+use Rattle.inputs.specs.Checks.{Input, badLength, oversize, refusalNumber, accepted}
 use Rattle.correction.specs.Pass.{texels}
-use Rattle.correction.proofs.checks.Measures.{sizes, lies}
-use Rattle.correction.proofs.checks.Passed.{Passed, passed, length-bounds, size-bounds}
+use Rattle.correction.proofs.bitmap.Sizes.{lies}
+use Rattle.inputs.proofs.Laws.Checks.{sizes, Passed, passed, length-bounds, size-bounds}
 use Rattle.correction.proofs.bitmap.Places as places
 
 limit-is : (f : Format) → limitOf f ≡ fin false 1 (pos 20)

@@ -15,7 +15,7 @@ use Rattle.detectors.specs.declared.config.Settings.{Settings}
 use Rattle.ground.specs.Lists.{any, some}
 use Rattle.correction.specs.Bitmap.{inBounds}
 use Rattle.detectors.specs.Config.{edgePriority, edgeOnly, sideSpan, diagonalSpan, radius}
-use Rattle.correction.specs.Checks.{Input, badLength}
+use Rattle.inputs.specs.Checks.{Input, badLength}
 use Rattle.correction.specs.Corners.{Segment, contourProtects, cornersProtect}
 use Rattle.detectors.specs.Edge.{near, extreme, pairProtects, protectsLower, protectsUpper}
 use Rattle.correction.specs.Edges.{asLower, asUpper, someLower, someUpper, someEdge, edgesProtect}
@@ -23,7 +23,7 @@ use Rattle.correction.specs.Pass.{texels, edgePriorityProtects, protects
 use Rattle.correction.specs.Stricter.{Outlines, NoSmaller, Stricter}
 use Rattle.correction.specs.Stricter.Outlines.{none, kept, added, skipped}
 use Rattle.ground.proofs.Laws.Bools.{holds, held, and-implies, or-implies, four-imply}
-use Rattle.correction.proofs.checks.Passed.{length-bounds}
+use Rattle.inputs.proofs.Laws.Checks.{length-bounds}
 use Rattle.detectors.proofs.Laws.Falls.{Spans}
 use Rattle.correction.proofs.Laws.Finite.{product-span}
 

@@ -13,8 +13,8 @@ use denote.Ref.{now}
 use contract.Lifetimes.{Lfts}
 use borrow.Fn.Kinds.{Dens}
 use borrow.Author.Tests.{eqb-true}
-use Rattle.correction.specs.Stencil.{isProtected, isError}
-use Rattle.correction.specs.Checks.{Input, input, refusalNumber, accepted}
+use Rattle.inputs.specs.Stencil.{isProtected, isError}
+use Rattle.inputs.specs.Checks.{Input, input, refusalNumber, accepted}
 use Rattle.correction.specs.Pass.{protects, flags, byteAt, passStencil, passSamples, stencilAfter, samplesAfter}
 use Rattle.ground.proofs.Laws.Fill.{tab-length, tab-at}
 use Rattle.correction.proofs.pass.Staged.{protected-staged, error-staged}

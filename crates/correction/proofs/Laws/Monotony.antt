@@ -27,19 +27,18 @@ use Rattle.numbers.proofs.Laws.Order.{nought}
 use Rattle.detectors.specs.declared.config.Settings.{Settings}
 use Rattle.correction.specs.declared.pass.Answer.{Answer}
 use Rattle.ground.specs.Lists.{count}
-use Rattle.correction.specs.Stencil.{isError}
+use Rattle.inputs.specs.Stencil.{isError, errorCount}
 use Rattle.detectors.specs.Config.{disabled}
-use Rattle.correction.specs.Checks.{Input, badLength, accepted}
+use Rattle.inputs.specs.Checks.{Input, badLength, accepted}
 use Rattle.correction.specs.Corners.{Segment, contours}
 use Rattle.correction.specs.Errors.{hasArtifact}
 use Rattle.correction.specs.Collapse.{cellMedian, collapsed, collapsedSample}
-use Rattle.correction.specs.Pass.{texels, protects, flags, passSamples, errorCount, numberOf, Answers, stencilAfter, samplesAfter}
+use Rattle.correction.specs.Pass.{texels, protects, flags, passSamples, numberOf, Answers, stencilAfter, samplesAfter}
 use Rattle.correction.specs.Stricter.{Outlines, Stricter, withRatio}
 use Rattle.correction.specs.Stricter.Outlines.{none, kept}
 use Rattle.ground.proofs.Laws.Bools.{and-implies}
 use Rattle.ground.proofs.Laws.Fill.{tab-at}
-use Rattle.correction.proofs.checks.Passed.{passed}
-use Rattle.correction.proofs.checks.Measures.{sizes}
+use Rattle.inputs.proofs.Laws.Checks.{sizes, passed}
 use Rattle.correction.proofs.pass.msdf_error_correction.Kinds.{ps}
 use Rattle.correction.proofs.pass.msdf_error_correction.Reads as entry
 use Rattle.correction.proofs.Laws.Answer.{zero-accepts}

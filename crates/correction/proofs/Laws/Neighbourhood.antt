@@ -20,9 +20,9 @@ use borrow.Author.Tests.{lt-ltb, le-leb}
 use Rattle.ground.proofs.Laws.Bools.{guarded}
 use Rattle.detectors.specs.declared.config.Settings.{Settings}
 use Rattle.correction.specs.Bitmap.{cell, inBounds}
-use Rattle.correction.specs.Stencil.{isProtected, isError}
+use Rattle.inputs.specs.Stencil.{isProtected, isError}
 use Rattle.detectors.specs.Config.{disabled}
-use Rattle.correction.specs.Checks.{Input, accepted}
+use Rattle.inputs.specs.Checks.{Input, accepted}
 use Rattle.detectors.specs.Linear.{hasLinearArtifact}
 use Rattle.correction.specs.Errors.{sideArtifact, someSide, diagonalArtifact, someDiagonal, someArtifact, hasArtifact}
 use Rattle.correction.specs.Neighbourhood.{SameAround, SameSpans}

@@ -16,7 +16,7 @@ use Rattle.correction.specs.declared.bitmap.Visit.{Visit}
 use Rattle.correction.specs.Bitmap.{place}
 use Rattle.correction.specs.Collapse.{cellMedian, collapsedSample, collapsed}
 use Rattle.correction.specs.Inner.{Sized, Reached, collapsedAt}
-use Rattle.correction.specs.Stencil.{isError}
+use Rattle.inputs.specs.Stencil.{isError}
 use Rattle.correction.proofs.bitmap.Places.{cell-lt, place-lt, next-row}
 
 -- the cells with the error bit

@@ -22,7 +22,7 @@ use Rattle.correction.specs.Bitmap.{inBounds}
 use Rattle.correction.specs.Corners.{beside}
 use Rattle.correction.specs.Inner.{painted, spot, clip}
 use Rattle.correction.proofs.bitmap.Places.{row-lt}
-use Rattle.correction.proofs.stencil.Painted.{painted-four, painted-same-below}
+use Rattle.correction.proofs.loops.Painted.{painted-four, painted-same-below}
 
 -- a row and a column test, four times
 spread : (a b c d : Bool) → ((((a && c) || (b && c)) || (a && d)) || (b && d)) ≡ ((a || b) && (c || d))

@@ -18,10 +18,11 @@ use lib.Ieee.{Float, nan}
 use borrow.Author.Tests.{eq-eqb, ne-eqb}
 use Rattle.ground.specs.Lists.{tab, any, some}
 use Rattle.correction.specs.Corners.{Segment, segmentAt, between, split, contours, before, shared, noSegment, lower, beside, isCorner, around, cornerAt, contourProtects, cornersProtect}
-use Rattle.correction.specs.Inner.{Outlined, painted, cornerHits, contourHits}
+use Rattle.correction.specs.Inner.{painted, cornerHits, contourHits}
+use Rattle.inputs.specs.Inner.{Outlined}
 use Rattle.ground.proofs.Laws.Fill.{tab-length, tab-at}
 use Rattle.ground.proofs.Laws.Search.{any-first, any-same}
-use Rattle.correction.proofs.stencil.Painted.{painted-length, painted-same, painted-none, painted-more}
+use Rattle.correction.proofs.loops.Painted.{painted-length, painted-same, painted-none, painted-more}
 
 -- a loop whose turn i paints where f i holds, and has left st of st₀
 module _ (f : ℕ → ℕ → Bool) (st₀ st : List ℕ) (i : ℕ) (p : st ≡ painted (λ k. any i (λ j. f j k)) st₀) where

@@ -16,7 +16,7 @@ use lib.Ieee.{Float, nan}
 use Rattle.detectors.specs.declared.config.Settings.{Settings}
 use Rattle.ground.specs.Lists.{tab}
 use Rattle.correction.specs.Bitmap.{texel}
-use Rattle.correction.specs.Stencil.{stencilByte, isProtected, isError, setError}
+use Rattle.inputs.specs.Stencil.{stencilByte, isProtected, isError, setError}
 use Rattle.correction.specs.Errors.{hasArtifact}
 use Rattle.correction.specs.Collapse.{cellMedian, collapsedSample, collapsed}
 use Rattle.correction.specs.Inner.{marked, found}

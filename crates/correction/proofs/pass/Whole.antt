@@ -12,22 +12,23 @@ use lib.ListN.{length, getD}
 use lib.Ieee.{Float}
 use borrow.Author.Tests.{eq-eqb, ne-eqb}
 use Rattle.correction.specs.declared.pass.Answer.the-variants.{Accepted, Refused}
-use Rattle.correction.specs.declared.pass.Counts.{Counts}
+use Rattle.inputs.specs.declared.stencil.Counts.{Counts}
 use Rattle.ground.specs.Lists.{tab}
 use Rattle.correction.specs.Bitmap.{texel}
-use Rattle.correction.specs.Stencil.{stencilByte, isProtected, isError, setProtected}
-use Rattle.correction.specs.Checks.{Input, accepted, refusalNumber, refusalPlace}
+use Rattle.inputs.specs.Stencil.{stencilByte, isProtected, isError, setProtected, countsOf}
+use Rattle.inputs.specs.Checks.{Input, accepted, refusalNumber, refusalPlace}
 use Rattle.correction.specs.Corners.{contours, cornersProtect}
 use Rattle.correction.specs.Edges.{edgesProtect}
 use Rattle.correction.specs.Errors.{hasArtifact}
 use Rattle.correction.specs.Collapse.{collapsed}
-use Rattle.correction.specs.Inner.{Sized, Outlined, painted, found}
-use Rattle.correction.specs.Pass.{texels, edgePriorityProtects, protects, flags, byteAt, passStencil, passSamples, countsOf, Answers, answer, stencilAfter, samplesAfter}
+use Rattle.correction.specs.Inner.{Sized, painted, found}
+use Rattle.inputs.specs.Inner.{Outlined}
+use Rattle.correction.specs.Pass.{texels, edgePriorityProtects, protects, flags, byteAt, passStencil, passSamples, Answers, answer, stencilAfter, samplesAfter}
 use Rattle.ground.proofs.Laws.Fill.{tab-length, tab-at, tab-same}
-use Rattle.correction.proofs.stencil.Painted.{painted-then}
+use Rattle.correction.proofs.loops.Painted.{painted-then}
 use Rattle.correction.proofs.pass.Staged.{found-staged, error-staged, collapsed-same, collapsed-none}
-use Rattle.correction.proofs.checks.Measures.{sizes, sized, cells}
-use Rattle.correction.proofs.checks.Passed.{passed}
+use Rattle.correction.proofs.bitmap.Sizes.{sized, cells}
+use Rattle.inputs.proofs.Laws.Checks.{sizes, passed}
 use Rattle.correction.proofs.Laws.Answer.{as-answered}
 
 -- painting zeros

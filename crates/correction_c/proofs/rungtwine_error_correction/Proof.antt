@@ -2,7 +2,7 @@
 use mathlib.Core.Path.{_≡_, sym, _∙_, ap}
 use borrow.Author.Needs.{needs}
 use Rattle.correction.specs.declared.pass.Answer.{Answer}
-use Rattle.correction.specs.Checks.{Input, refusalNumber, refusalPlace}
+use Rattle.inputs.specs.Checks.{Input, refusalNumber, refusalPlace}
 use Rattle.correction.specs.Pass.{numberOf, placeIn, protectedIn, errorsIn, protectedCells, errorCells, Answers}
 use Rattle.correction_c.proofs.rungtwine_error_correction.Statement.{statement}
 use Rattle.correction_c.proofs.rungtwine_error_correction.Tie as tie

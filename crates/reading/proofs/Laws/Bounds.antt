@@ -14,9 +14,9 @@ use Rattle.ground.proofs.Laws.Count.{count-small}
 use Rattle.ground.proofs.Laws.Fill.{tab-length}
 use Rattle.ground.proofs.Laws.Refuse.{answer-is}
 use Rattle.ground.proofs.Laws.Search.{first-le}
-use Rattle.correction.specs.Checks.{Input, badLength, settingsPlace, samplesPlace, endsPlace, segmentsPlace, outlinePlace, placeOf, checks, refusalNumber, refusalPlace}
+use Rattle.inputs.specs.Checks.{Input, badLength, settingsPlace, samplesPlace, endsPlace, segmentsPlace, outlinePlace, placeOf, checks, refusalNumber, refusalPlace}
 use Rattle.detectors.specs.declared.config.Settings.{Settings}
-use Rattle.correction.specs.Pass.{protectedCount, errorCount}
+use Rattle.inputs.specs.Stencil.{protectedCount, errorCount}
 use Rattle.reading.specs.Case.{segments, contourColours, coloursOf, endsOf}
 use Rattle.reading.specs.Grammar.{fine, orElse, lengthAt, headBreach, bodyBreach, fieldBreach, sizeBreach, settingsBreach, contourBreach, start, before, goodContour, contoursFrom, contours, isContour, rowsAt, outlineBreach, rowSize, rowsBreach, endAt, endBreach, breach, width, height, channels}
 use Rattle.reading.proofs.fields.Breaches.{test-fine, both-fine}

@@ -11,7 +11,7 @@ use Rattle.ground.specs.Lists.{joined, tab}
 use Rattle.ground.specs.Write.{Written}
 use Rattle.ground.proofs.Laws.Fill.{tab-length}
 use Rattle.ground.proofs.Laws.Write.{written-as, written-to, written-length, tab-none, tab-next, tab-all, joined-none, joined-next, joined-all}
-use Rattle.correction.specs.Checks.{input}
+use Rattle.inputs.specs.Checks.{input}
 use Rattle.detectors.specs.declared.config.Settings.{Settings}
 use Rattle.reading.specs.Answer.{settingsOf, caseOf}
 use Rattle.reading.specs.Case.{modeOf, segments, rowSamples, contourColours, contourCoords, samplesOf, coloursOf, coordsOf, endsOf}

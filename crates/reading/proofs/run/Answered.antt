@@ -12,13 +12,13 @@ use lib.ListN.{length, getD}
 use borrow.Author.Tests.{eqb-true}
 use Rattle.ground.proofs.Laws.Fill.{tab-length, tab-at}
 use Rattle.ground.proofs.Laws.Join.{joined-same}
-use Rattle.correction.specs.Stencil.{stencilByte, isError}
-use Rattle.correction.specs.Checks.{Input, refusalNumber, accepted}
-use Rattle.correction.proofs.Laws.Checks.{sizes, passed}
+use Rattle.inputs.specs.Stencil.{stencilByte, isError}
+use Rattle.inputs.specs.Checks.{Input, refusalNumber, accepted}
+use Rattle.inputs.proofs.Laws.Checks.{sizes, passed}
 use Rattle.correction.specs.Collapse.{cellMedian, collapsedSample, collapsed}
 use Rattle.correction.specs.Pass.{protects, flags, byteAt, passStencil, passSamples, answer, stencilAfter, samplesAfter}
 use Rattle.correction.specs.declared.pass.Answer.the-variants.{Accepted, Refused}
-use Rattle.correction.specs.declared.pass.Counts.{Counts}
+use Rattle.inputs.specs.declared.stencil.Counts.{Counts}
 use Rattle.reading.specs.Answer.{answerText}
 use Rattle.reading.specs.Text.{texelText, flaggedText, acceptedText, sizeText, countsText, rowsText, refusedText}
 use Rattle.reading.proofs.fields.Sizes.{next-row}

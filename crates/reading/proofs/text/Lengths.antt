@@ -10,7 +10,7 @@ use lib.ListN.{length, getD, length-append}
 use Rattle.ground.specs.Lists.{joined}
 use Rattle.ground.proofs.Laws.Fill.{tab-length}
 use Rattle.ground.proofs.Laws.Join.{joined-length}
-use Rattle.correction.specs.Stencil.{isError}
+use Rattle.inputs.specs.Stencil.{isError}
 use Rattle.reading.specs.Text.{hexPair, hex, numbered, badText, refusedText, sizeText, countsText, marksText, rowText, rowsText, texelText, flaggedText, acceptedText}
 use Rattle.reading.proofs.Laws.Decimal.{decimal-length, decimal-length-u64}
 

@@ -7,7 +7,7 @@ use denote.Ref.{now}
 use borrow.Author.Needs.{needs}
 use Rattle.correction.specs.Inner.{spot}
 use Rattle.correction.proofs.bitmap.Places.{Inside, inside, cell-lt}
-use Rattle.correction.proofs.stencil.Painted.{painted-set, painted-none}
+use Rattle.correction.proofs.loops.Painted.{painted-set, painted-none}
 use Rattle.correction.proofs.corners.mark.Statement.{statement}
 use Rattle.correction.proofs.corners.mark.Tie as tie
 

@@ -9,7 +9,7 @@ use lib.Ieee.{Float}
 use denote.Ref.{now}
 use Rattle.ground.specs.Lists.{any}
 use Rattle.correction.specs.Inner.{painted, cornerHits, contourHits}
-use Rattle.correction.proofs.stencil.Painted.{painted-zero}
+use Rattle.correction.proofs.loops.Painted.{painted-zero}
 use Rattle.correction.proofs.corners.Contours.{painted-long, painted-turn}
 use Rattle.correction.proofs.corners.protect_contour.Statement.{statement}
 use Rattle.correction.proofs.corners.protect_contour.Tie as tie

@@ -9,7 +9,7 @@ use lib.Ieee.{Float}
 use denote.Ref.{now}
 use Rattle.ground.specs.Lists.{any}
 use Rattle.correction.specs.Inner.{painted, contourHits}
-use Rattle.correction.proofs.stencil.Painted.{painted-zero, painted-same}
+use Rattle.correction.proofs.loops.Painted.{painted-zero, painted-same}
 use Rattle.correction.proofs.corners.Contours.{painted-long, painted-turn, startAt, start-next, start-le, corners-at}
 use Rattle.correction.proofs.corners.protect_corners.Statement.{statement}
 use Rattle.correction.proofs.corners.protect_corners.Tie as tie

@@ -1,7 +1,7 @@
 -- `correction::pass::correct` meets its contract: the stages put together. Assumes nothing.
 use denote.Ref.{now}
 use borrow.Author.Needs.{needs}
-use Rattle.correction.specs.Checks.{Input, input}
+use Rattle.inputs.specs.Checks.{Input, input}
 use Rattle.correction.proofs.pass.Whole.{switched-off, done}
 use Rattle.correction.proofs.pass.correct.Statement.{statement}
 use Rattle.correction.proofs.pass.correct.Tie as tie

@@ -2,7 +2,7 @@
 use mathlib.Core.Path.{_∙_}
 use denote.Ref.{now}
 use borrow.Author.Needs.{needs}
-use Rattle.correction.specs.Checks.{Input, input}
+use Rattle.inputs.specs.Checks.{Input, input}
 use Rattle.correction.proofs.pass.Whole.{protects-all, protects-none, protects-some}
 use Rattle.correction.proofs.pass.protect.Statement.{statement}
 use Rattle.correction.proofs.pass.protect.Tie as tie

@@ -8,9 +8,10 @@ use denote.Ref.{now}
 use borrow.Author.Needs.{needs}
 use borrow.Author.Tests.{eq-eqb, ne-eqb, lt-ltb, le-ltb}
 use Rattle.correction.specs.Bitmap.{cell}
-use Rattle.correction.specs.Checks.{sizeRefusal}
+use Rattle.inputs.specs.Checks.{sizeRefusal}
 use Rattle.correction.specs.View.{viewable, viewed, channelsOf}
-use Rattle.correction.proofs.checks.Measures.{lies, sizes}
+use Rattle.inputs.proofs.Laws.Checks.{sizes}
+use Rattle.correction.proofs.bitmap.Sizes.{lies}
 use Rattle.correction.proofs.view.texel_view.Statement.{statement}
 use Rattle.correction.proofs.view.texel_view.Tie as tie
 

@@ -3,7 +3,7 @@ use mathlib.Core.Path.{sym, _∙_}
 use denote.Ref.{now}
 use borrow.Author.Needs.{needs}
 use Rattle.ground.proofs.Laws.Write.{written-as}
-use Rattle.correction.specs.Checks.{input}
+use Rattle.inputs.specs.Checks.{input}
 use Rattle.correction.proofs.Laws.Answer.{answers-fix}
 use Rattle.reading.proofs.run.Answered.{accepted-text, refused-text, roomy}
 use Rattle.reading.proofs.run.run.Statement.{statement}

@@ -1,6 +1,6 @@
 -- `reading::text::mark` meets its contract. Assumes nothing.
 use borrow.Author.Tests.{eq-eqb, ne-eqb}
-use Rattle.correction.specs.Stencil.{isProtected, isError}
+use Rattle.inputs.specs.Stencil.{isProtected, isError}
 use Rattle.reading.specs.Text.{mark as markOf}
 use Rattle.reading.proofs.text.mark.Statement.{statement}
 use Rattle.reading.proofs.text.mark.Tie as tie

@@ -8,7 +8,7 @@ use denote.Ref.{now}
 use borrow.Author.Needs.{needs}
 use borrow.Author.Tests.{eq-eqb, ne-eqb}
 use Rattle.ground.proofs.Laws.Write.{written-as, written-none}
-use Rattle.correction.specs.Stencil.{isError}
+use Rattle.inputs.specs.Stencil.{isError}
 use Rattle.reading.specs.Text.{texelText, flaggedText}
 use Rattle.reading.proofs.text.Lengths.{cell-short}
 use Rattle.reading.proofs.text.put_flagged.Statement.{statement}

@@ -1,8 +1,0 @@
--- `correction::checks::bad_coordinate` meets its contract. Assumes nothing.
-use Rattle.correction.specs.Checks.{oversize}
-use Rattle.correction.proofs.checks.bad_coordinate.Statement.{statement}
-use Rattle.correction.proofs.checks.bad_coordinate.Tie as tie
-
-pub bad-coordinate-spec : {M : Type 1} → statement M
-unfolding oversize
-bad-coordinate-spec = tie.close (tie.spec (λ c. simp (c .if1 .taken)) (λ c. simp (c .if1 .left)))

@@ -1,8 +1,0 @@
--- `correction::checks::bad_length` meets its contract. Assumes nothing.
-use Rattle.correction.specs.Checks.{badLength}
-use Rattle.correction.proofs.checks.bad_length.Statement.{statement}
-use Rattle.correction.proofs.checks.bad_length.Tie as tie
-
-pub bad-length-spec : {M : Type 1} → statement M
-unfolding badLength
-bad-length-spec = tie.close (tie.spec (λ c. simp (c .if1 .taken)) (λ c. simp (c .if1 .left)))

@@ -1,0 +1,4 @@
+-- What the crates above may know of the stencil's bytes and of the checks.
+pub mod Stencil
+pub mod Checks
+pub mod Alike

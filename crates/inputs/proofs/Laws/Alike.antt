@@ -1,0 +1,50 @@
+-- Each public function's promise determines its answer, and the stencil where it writes one: any two that it permits for the same arguments are the same. Assumes nothing.
+-- `Post` is a function's promise as the checker makes it of the `ensures` in the source. No public function has a `requires`.
+use mathlib.Core.Path.{_≡_}
+use denote.Ref.{now}
+use Rattle.ground.proofs.Laws.Alike.{Alike, alike}
+use Rattle.inputs.proofs.stencil.is_error.Kinds as is-error-kinds
+use Rattle.inputs.proofs.stencil.is_error.Reads as is-error
+use Rattle.inputs.proofs.stencil.is_protected.Kinds as is-protected-kinds
+use Rattle.inputs.proofs.stencil.is_protected.Reads as is-protected
+use Rattle.inputs.proofs.stencil.set_error.Kinds as set-error-kinds
+use Rattle.inputs.proofs.stencil.set_error.Reads as set-error
+use Rattle.inputs.proofs.stencil.set_protected.Kinds as set-protected-kinds
+use Rattle.inputs.proofs.stencil.set_protected.Reads as set-protected
+use Rattle.inputs.proofs.stencil.fill.Reads as fill
+use Rattle.inputs.proofs.stencil.count_cells.Kinds as count-cells-kinds
+use Rattle.inputs.proofs.stencil.count_cells.Reads as count-cells
+use Rattle.inputs.proofs.checks.size_refusal.Kinds as size-refusal-kinds
+use Rattle.inputs.proofs.checks.size_refusal.Reads as size-refusal
+use Rattle.inputs.proofs.checks.check.Kinds as check-kinds
+use Rattle.inputs.proofs.checks.check.Reads as check
+
+-- The bits of a byte.
+pub is-error-alike : Alike 0 is-error-kinds.ps is-error-kinds.r is-error.Post
+is-error-alike κs a r s e f = alike
+
+pub is-protected-alike : Alike 0 is-protected-kinds.ps is-protected-kinds.r is-protected.Post
+is-protected-alike κs a r s e f = alike
+
+-- A byte with one of them set.
+pub set-error-alike : Alike 0 set-error-kinds.ps set-error-kinds.r set-error.Post
+set-error-alike κs a r s e f = alike
+
+pub set-protected-alike : Alike 0 set-protected-kinds.ps set-protected-kinds.r set-protected.Post
+set-protected-alike κs a r s e f = alike
+
+-- A stencil with one byte in every cell: it answers nothing.
+pub filled-alike : (κs : _) (a : _) (z z' : _) (e e' : _) → fill.Post κs a z e → fill.Post κs a z' e' → now (e .0) ≡ now (e' .0)
+filled-alike κs a z z' e e' = alike
+
+-- The counts.
+pub count-cells-alike : Alike 1 count-cells-kinds.ps count-cells-kinds.r count-cells.Post
+count-cells-alike κs a r s e f = alike
+
+-- The first of checks 1 to 4 that fails.
+pub size-refusal-alike : Alike 0 size-refusal-kinds.ps size-refusal-kinds.r size-refusal.Post
+size-refusal-alike κs a r s e f = alike
+
+-- The first of all, with its place.
+pub check-alike : Alike 5 check-kinds.ps check-kinds.r check.Post
+check-alike κs a r s e f p q = let n : r .number ≡ s .number = alike (p .0) (q .0) in let o : r .place ≡ s .place = alike (p .1) (q .1) in rw (n, o)

@@ -1,0 +1,36 @@
+-- The stencil: what the byte of a cell says, how one of its bits is set, and how many cells have each. Definitions only.
+use Prim.Native.Nat.{ℕ, _+_, _/_, _%_}
+use mathlib.Core.Bool.{Bool, cond}
+use mathlib.Core.List.{List}
+use lib.ListN.{getD, length}
+use lib.Dec.{eqb}
+use Rattle.ground.specs.Lists.{count}
+use Rattle.inputs.specs.declared.stencil.Counts.{Counts}
+
+-- the byte of a stencil cell: value 2 where it is protected, and value 1 where it has an error
+unfoldable pub stencilByte : Bool → Bool → ℕ
+stencilByte protected error = cond protected 2 0 + cond error 1 0
+
+-- what the byte says
+unfoldable pub isProtected : ℕ → Bool
+isProtected v = eqb (v / 2 % 2) 1
+
+unfoldable pub isError : ℕ → Bool
+isError v = eqb (v % 2) 1
+
+-- the byte with that bit set and all others as they were
+unfoldable pub setProtected : ℕ → ℕ
+setProtected v = cond (isProtected v) v (v + 2)
+
+unfoldable pub setError : ℕ → ℕ
+setError v = cond (isError v) v (v + 1)
+
+-- the number of stencil cells with bit 2, and with bit 1
+unfoldable pub protectedCount : List ℕ → ℕ
+protectedCount st = count (length st) (λ k. isProtected (getD st k 0))
+
+unfoldable pub errorCount : List ℕ → ℕ
+errorCount st = count (length st) (λ k. isError (getD st k 0))
+
+abbrev pub countsOf : List ℕ → Counts
+countsOf st = record { protected = protectedCount st; error = errorCount st }

@@ -1,0 +1,6 @@
+// The sizes of a bitmap.
+pub struct Bitmap {
+    pub width: usize,
+    pub height: usize,
+    pub channels: usize,
+}

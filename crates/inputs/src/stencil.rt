@@ -1,0 +1,71 @@
+// The stencil: what the byte of a cell says, and how one of its bits is set.
+ghost use mathlib.Core.Path.{_≡_};
+ghost use lib.ListN.{length};
+ghost use Rattle.ground.specs.Lists.{tab};
+ghost use Rattle.inputs.specs.Stencil as Stencil;
+
+// The stencil cells that are protected, and those with an error.
+pub struct Counts {
+    pub protected: usize,
+    pub error: usize,
+}
+
+// The bits' values.
+pub const ERROR: u8 = 1;
+
+pub const PROTECTED: u8 = 2;
+
+pub fn is_error(v: u8) -> bool
+    ensures { λ r. ⌜ r ≡ Stencil.isError v ⌝ }
+{
+    v / ERROR % 2 == 1
+}
+
+pub fn is_protected(v: u8) -> bool
+    ensures { λ r. ⌜ r ≡ Stencil.isProtected v ⌝ }
+{
+    v / PROTECTED % 2 == 1
+}
+
+// The byte with its error bit set and all others as they were.
+pub fn set_error(v: u8) -> u8
+    ensures { λ r. ⌜ r ≡ Stencil.setError v ⌝ }
+{
+    if is_error(v) { v } else { v + ERROR }
+}
+
+// The same of its protected bit.
+pub fn set_protected(v: u8) -> u8
+    ensures { λ r. ⌜ r ≡ Stencil.setProtected v ⌝ }
+{
+    if is_protected(v) { v } else { v + PROTECTED }
+}
+
+// The same byte in every cell.
+pub fn fill(stencil: &mut [u8], v: u8)
+    ensures { λ _. ⌜ now (stencil .exit) ≡ tab (length (now (stencil .entry))) (λ k. v) ⌝ }
+{
+    let mut i = 0usize;
+    while i < stencil.len() {
+        stencil[i] = v;
+        i += 1;
+    }
+}
+
+// How many cells have each bit.
+pub fn count_cells(stencil: &[u8]) -> Counts
+    ensures { λ r. ⌜ r ≡ Stencil.countsOf (now (stencil .entry)) ⌝ }
+{
+    let mut p = 0usize;
+    let mut e = 0usize;
+    let mut i = 0usize;
+    while i < stencil.len() {
+        p += (stencil[i] / PROTECTED % 2) as usize;
+        e += (stencil[i] / ERROR % 2) as usize;
+        i += 1;
+    }
+    Counts {
+        protected: p,
+        error: e,
+    }
+}
