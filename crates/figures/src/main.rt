@@ -50,53 +50,36 @@ fn spans_apart() {
     spans(b"C3 by the limits", 1048576.0, 1048576.0, 1048576.0);
 }
 
+// Two rows of two texels.
+fn four(a: [f32; 3], b: [f32; 3], c: [f32; 3], d: [f32; 3]) -> [f32; 12] {
+    [
+        a[0],
+        a[1],
+        a[2],
+        b[0],
+        b[1],
+        b[2],
+        c[0],
+        c[1],
+        c[2],
+        d[0],
+        d[1],
+        d[2],
+    ]
+}
+
 fn squares() {
-    let c7 = [
-        1.0f32,
-        0.0,
-        0.75,
-        0.5,
-        0.5,
-        0.75,
-        0.5,
-        0.5,
-        0.75,
-        0.0,
-        1.0,
-        0.75,
-    ];
+    let red = [1.0f32, 0.0, 0.75];
+    let green = [0.0f32, 1.0, 0.75];
+    let even = [0.5f32, 0.5, 0.75];
+    let c7 = four(red, even, even, green);
     run::square(b"C7", c7, 1, run::all(0.25));
     run::square(b"C7 disabled", c7, 0, run::all(0.25));
     run::square(b"C7 edge only", c7, 3, run::all(0.25));
-    let mirrored = [
-        0.5f32,
-        0.5,
-        0.75,
-        1.0,
-        0.0,
-        0.75,
-        0.0,
-        1.0,
-        0.75,
-        0.5,
-        0.5,
-        0.75,
-    ];
+    let mirrored = four(even, red, green, even);
     run::square(b"C7 mirrored", mirrored, 1, run::all(0.25));
-    let c5 = [
-        0.75f32,
-        0.25,
-        0.625,
-        0.0,
-        0.0,
-        0.0,
-        0.0,
-        0.0,
-        0.0,
-        0.25,
-        0.75,
-        0.375,
-    ];
+    let black = [0.0f32; 3];
+    let c5 = four([0.75, 0.25, 0.625], black, black, [0.25, 0.75, 0.375]);
     let s = Settings {
         ratio: 1.0,
         horizontal: 0.0,
@@ -119,30 +102,17 @@ fn quotients() {
 }
 
 fn four_channels() {
-    let colours = [0u8; 0];
-    let coords = [0.0f64; 0];
-    let ends = [0usize; 0];
     let mut xs = [1.0f32, 0.0, 0.75, 0.125, 0.0, 1.0, 0.75, 0.875];
     let mut stencil = [255u8; 2];
-    run::figure(
-        b"P of four channels",
-        2,
-        1,
-        4,
-        &mut xs,
-        &mut stencil,
-        1,
-        run::all(0.25),
-        &colours,
-        &coords,
-        &ends,
-    );
+    let t = run::with(2, 1, 4, 1, run::all(0.25));
+    run::plain(b"P of four channels", t, &mut xs, &mut stencil);
 }
 
 fn one_texel() {
     let mut xs = [1.0f32, 0.0, 0.75];
     let mut stencil = [255u8; 1];
-    run::plain(b"one texel", 1, 1, &mut xs, &mut stencil, 2, run::all(0.25));
+    let t = run::with(1, 1, 3, 2, run::all(0.25));
+    run::plain(b"one texel", t, &mut xs, &mut stencil);
 }
 
 fn points() {
@@ -178,19 +148,8 @@ fn colours() {
 fn over(name: &[u8], texels: [f32; 6], l: f64, colours: &[u8], coords: &[f64], ends: &[usize]) {
     let mut xs = texels;
     let mut stencil = [255u8; 2];
-    run::figure(
-        name,
-        2,
-        1,
-        3,
-        &mut xs,
-        &mut stencil,
-        2,
-        run::all(l),
-        colours,
-        coords,
-        ends,
-    );
+    let t = run::with(2, 1, 3, 2, run::all(l));
+    run::figure(name, t, &mut xs, &mut stencil, colours, coords, ends);
 }
 
 fn protected_texels() {

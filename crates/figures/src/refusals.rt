@@ -3,22 +3,12 @@ use crate::run;
 use detectors::config::Settings;
 
 fn sized(name: &[u8], w: usize, h: usize, ch: usize, stencil: &mut [u8]) {
-    let colours = [0u8; 0];
-    let coords = [0.0f64; 0];
-    let ends = [0usize; 0];
     let mut xs = [0.0f32; 6];
-    run::figure(
+    run::plain(
         name,
-        w,
-        h,
-        ch,
+        run::with(w, h, ch, 1, run::all(0.25)),
         &mut xs,
         stencil,
-        1,
-        run::all(0.25),
-        &colours,
-        &coords,
-        &ends,
     );
 }
 

@@ -2,6 +2,7 @@
 use crate::show;
 use correction::pass;
 use detectors::config::Settings;
+use inputs::sizes::Bitmap;
 
 // Ratio 1 and three equal lengths.
 pub fn all(l: f64) -> Settings {
@@ -13,89 +14,87 @@ pub fn all(l: f64) -> Settings {
     }
 }
 
+// What a figure is run with, beside its samples and its outlines.
+pub struct Task {
+    pub sizes: Bitmap,
+    pub mode: u8,
+    pub settings: Settings,
+}
+
+// The same of its parts.
+pub fn with(w: usize, h: usize, ch: usize, mode: u8, s: Settings) -> Task {
+    let b = Bitmap {
+        width: w,
+        height: h,
+        channels: ch,
+    };
+    Task {
+        sizes: b,
+        mode: mode,
+        settings: s,
+    }
+}
+
 pub fn figure(
     name: &[u8],
-    w: usize,
-    h: usize,
-    ch: usize,
+    t: Task,
     xs: &mut [f32],
     stencil: &mut [u8],
-    mode: u8,
-    s: Settings,
     colours: &[u8],
     coords: &[f64],
     ends: &[usize],
 ) {
-    let a = pass::msdf_error_correction(w, h, ch, xs, stencil, mode, s, colours, coords, ends);
-    show::line(name, a, stencil, xs, w, ch);
+    let b = t.sizes;
+    let a = pass::msdf_error_correction(
+        b.width,
+        b.height,
+        b.channels,
+        xs,
+        stencil,
+        t.mode,
+        t.settings,
+        colours,
+        coords,
+        ends,
+    );
+    show::line(name, a, stencil, xs, b);
 }
 
 // No outlines.
-pub fn plain(
-    name: &[u8],
-    w: usize,
-    h: usize,
-    xs: &mut [f32],
-    stencil: &mut [u8],
-    mode: u8,
-    s: Settings,
-) {
+pub fn plain(name: &[u8], t: Task, xs: &mut [f32], stencil: &mut [u8]) {
     let colours = [0u8; 0];
     let coords = [0.0f64; 0];
     let ends = [0usize; 0];
-    figure(
-        name,
-        w,
-        h,
-        3,
-        xs,
-        stencil,
-        mode,
-        s,
-        &colours,
-        &coords,
-        &ends,
-    );
+    figure(name, t, xs, stencil, &colours, &coords, &ends);
 }
 
 // Two texels side by side, in any mode.
 pub fn pair(name: &[u8], texels: [f32; 6], mode: u8, s: Settings) {
     let mut xs = texels;
     let mut stencil = [255u8; 2];
-    plain(name, 2, 1, &mut xs, &mut stencil, mode, s);
+    plain(name, with(2, 1, 3, mode, s), &mut xs, &mut stencil);
 }
 
 // The same one above the other.
 pub fn upright(name: &[u8], texels: [f32; 6], mode: u8, s: Settings) {
     let mut xs = texels;
     let mut stencil = [255u8; 2];
-    plain(name, 1, 2, &mut xs, &mut stencil, mode, s);
+    plain(name, with(1, 2, 3, mode, s), &mut xs, &mut stencil);
 }
 
 // Two rows of two texels.
 pub fn square(name: &[u8], texels: [f32; 12], mode: u8, s: Settings) {
     let mut xs = texels;
     let mut stencil = [255u8; 4];
-    plain(name, 2, 2, &mut xs, &mut stencil, mode, s);
+    plain(name, with(2, 2, 3, mode, s), &mut xs, &mut stencil);
 }
 
 // Outlines over two rows of two texels with nothing else to protect or to flag, in EdgePriority.
 pub fn outlines(name: &[u8], colours: &[u8], coords: &[f64], ends: &[usize]) {
     let mut xs = [0.0f32; 12];
     let mut stencil = [255u8; 4];
-    figure(
-        name,
-        2,
-        2,
-        3,
-        &mut xs,
-        &mut stencil,
-        2,
-        all(0.0),
-        colours,
-        coords,
-        ends,
-    );
+    let t = with(2, 2, 3, 2, all(0.0));
+    figure(name, t, &mut xs, &mut stencil, colours, coords, ends);
 }
 
 // One segment, which is its own predecessor and shares one colour bit with itself.

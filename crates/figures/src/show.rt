@@ -1,6 +1,7 @@
 // How a figure is printed: its name, the answer, the rows from the bottom, and the samples of flagged texels as bits.
 use correction::pass::Answer;
 use ground::bytes;
+use inputs::sizes::Bitmap;
 use libc::STDOUT_FILENO;
 
 fn text(s: &[u8]) {
@@ -82,11 +83,11 @@ fn samples(stencil: &[u8], xs: &[f32], ch: usize) {
     }
 }
 
-pub fn line(name: &[u8], a: Answer, stencil: &[u8], xs: &[f32], w: usize, ch: usize) {
+pub fn line(name: &[u8], a: Answer, stencil: &[u8], xs: &[f32], b: Bitmap) {
     text(name);
     text(b":");
     answer(a);
-    cells(stencil, w);
-    samples(stencil, xs, ch);
+    cells(stencil, b.width);
+    samples(stencil, xs, b.channels);
     text(b"\n");
 }
