@@ -28,6 +28,13 @@ pub record Sized (w h ch : ℕ) (xs : List Float) : Type 0 where
   pub few : ch ≤ 4
   pub long : length xs ≡ h * w * ch
 
+-- the cells that checks 2 and 4 let through
+pub record Celled (w h : ℕ) (st : List ℕ) : Type 0 where
+  pub any : 1 ≤ w
+  pub wide : w ≤ 4096
+  pub high : h ≤ 4096
+  pub long : length st ≡ h * w
+
 -- A sweep over the cells of a bitmap, row by row, has come to this one, or past the last row.
 pub record Reached (w h : ℕ) (at : Visit) : Type 0 where
   pub here : at .number ≡ cell w (at .x) (at .y)

@@ -5,13 +5,19 @@ ghost use mathlib.Core.Bool.{cond, _&&_};
 ghost use lib.Dec.{eqb, ltb};
 ghost use lib.ListN.{length};
 ghost use Rattle.correction.specs.Corners as Corners;
-ghost use Rattle.correction.specs.Inner.{painted, spot, clip, cornerHits, contourHits};
+ghost use Rattle.correction.specs.Inner.{Celled, painted, spot, clip, cornerHits, contourHits};
 ghost use Rattle.inputs.specs.Inner.{Outlined};
 use crate::bitmap;
 use detectors::constants;
 use inputs::sizes::Bitmap;
 use inputs::stencil;
 use numbers::rounding;
+
+// A contour: its segments from `from` up to `end`.
+struct Contour {
+    from: usize,
+    end: usize,
+}
 
 // A signed column or row, clipped: counted from 1 where it is from -1 to n - 1, and n + 1 elsewhere.
 fn clipped(l: i64, n: usize) -> usize
@@ -36,16 +42,11 @@ fn lower(x: f64, n: usize) -> usize
     clipped(rounding::floor_to_i64(x - constants::HALF_WIDE), n)
 }
 
-// The cell at column nx and row ny, counted from 1, where they are inside. A stencil is a bitmap of one channel.
-fn mark(stencil: &mut [u8], w: usize, h: usize, nx: usize, ny: usize)
-    requires { ⌜ (w ≤ 4096) × (h ≤ 4096) × (length (now stencil) ≡ h * w) ⌝ }
-    ensures { λ _. ⌜ now (stencil .exit) ≡ painted (spot w h nx ny) (now (stencil .entry)) ⌝ }
+// The cell at column nx and row ny, counted from 1, where they are inside.
+fn mark(stencil: &mut [u8], b: Bitmap, nx: usize, ny: usize)
+    requires { ⌜ Celled (b .width) (b .height) (now stencil) ⌝ }
+    ensures { λ _. ⌜ now (stencil .exit) ≡ painted (spot (b .width) (b .height) nx ny) (now (stencil .entry)) ⌝ }
 {
-    let b = Bitmap {
-        width: w,
-        height: h,
-        channels: 1,
-    };
     if bitmap::in_bounds(b, nx, ny) {
         let k = bitmap::cell(b, nx - 1, ny - 1);
         stencil[k] = stencil::set_protected(stencil[k]);
@@ -53,18 +54,18 @@ fn mark(stencil: &mut [u8], w: usize, h: usize, nx: usize, ny: usize)
 }
 
 // The four cells around a point.
-fn mark_around(stencil: &mut [u8], w: usize, h: usize, px: f64, py: f64)
-    requires { ⌜ (1 ≤ w) × (w ≤ 4096) × (h ≤ 4096) × (length (now stencil) ≡ h * w) ⌝ }
-    ensures { λ _. ⌜ now (stencil .exit) ≡ painted (λ k. Corners.beside (Corners.lower px) (k % w) && Corners.beside (Corners.lower py) (k / w)) (now (stencil .entry)) ⌝ }
+fn mark_around(stencil: &mut [u8], b: Bitmap, px: f64, py: f64)
+    requires { ⌜ Celled (b .width) (b .height) (now stencil) ⌝ }
+    ensures { λ _. ⌜ now (stencil .exit) ≡ painted (λ k. Corners.beside (Corners.lower px) (k % b .width) && Corners.beside (Corners.lower py) (k / b .width)) (now (stencil .entry)) ⌝ }
 {
-    let l = lower(px, w);
-    let b = lower(py, h);
-    let r = l + 1;
-    let t = b + 1;
-    mark(stencil, w, h, l, b);
-    mark(stencil, w, h, r, b);
-    mark(stencil, w, h, l, t);
-    mark(stencil, w, h, r, t);
+    let left = lower(px, b.width);
+    let bottom = lower(py, b.height);
+    let right = left + 1;
+    let top = bottom + 1;
+    mark(stencil, b, left, bottom);
+    mark(stencil, b, right, bottom);
+    mark(stencil, b, left, top);
+    mark(stencil, b, right, top);
 }
 
 // How many of the three colour bits both have.
@@ -81,54 +82,44 @@ fn is_corner(a: u8, b: u8) -> bool
     shared(a, b) < 2
 }
 
-// The segment before i, cyclic in the contour from `from` to `end`.
-fn previous(from: usize, end: usize, i: usize) -> usize
-    requires { ⌜ (from ≤ i) × (i < end) ⌝ }
-    ensures { λ r. ⌜ (r ≡ cond (eqb i from) (end - 1) (i - 1)) × (r < end) ⌝ }
+// The segment before i, cyclic in its contour.
+fn previous(c: Contour, i: usize) -> usize
+    requires { ⌜ (c .from ≤ i) × (i < c .end) ⌝ }
+    ensures { λ r. ⌜ (r ≡ cond (eqb i (c .from)) (c .end - 1) (i - 1)) × (r < c .end) ⌝ }
 {
-    if i == from { end - 1 } else { i - 1 }
+    if i == c.from { c.end - 1 } else { i - 1 }
 }
 
-// Segment i of the contour from `from` to `end`, where it is a corner.
+// Segment i of a contour, where it is a corner.
 fn protect_corner(
     stencil: &mut [u8],
-    w: usize,
-    h: usize,
+    b: Bitmap,
     colours: &[u8],
     coords: &[f64],
-    from: usize,
-    end: usize,
+    c: Contour,
     i: usize,
 )
-    requires { ⌜ (1 ≤ w) × (w ≤ 4096) × (h ≤ 4096) × (length (now stencil) ≡ h * w) ⌝ }
+    requires { ⌜ Celled (b .width) (b .height) (now stencil) ⌝ }
     requires { ⌜ (length (now coords) ≡ 2 * length (now colours)) × (length (now colours) ≤ 65536) ⌝ }
-    requires { ⌜ (from ≤ i) × (i < end) × (end ≤ length (now colours)) ⌝ }
-    ensures { λ _. ⌜ now (stencil .exit) ≡ painted (cornerHits w (now (colours .entry)) (now (coords .entry)) from end i) (now (stencil .entry)) ⌝ }
+    requires { ⌜ (c .from ≤ i) × (i < c .end) × (c .end ≤ length (now colours)) ⌝ }
+    ensures { λ _. ⌜ now (stencil .exit) ≡ painted (cornerHits (b .width) (now (colours .entry)) (now (coords .entry)) (c .from) (c .end) i) (now (stencil .entry)) ⌝ }
 {
-    let j = previous(from, end, i);
+    let j = previous(c, i);
     if is_corner(colours[j], colours[i]) {
-        mark_around(stencil, w, h, coords[2 * i], coords[2 * i + 1]);
+        mark_around(stencil, b, coords[2 * i], coords[2 * i + 1]);
     }
 }
 
 // One contour.
-fn protect_contour(
-    stencil: &mut [u8],
-    w: usize,
-    h: usize,
-    colours: &[u8],
-    coords: &[f64],
-    from: usize,
-    end: usize,
-)
-    requires { ⌜ (1 ≤ w) × (w ≤ 4096) × (h ≤ 4096) × (length (now stencil) ≡ h * w) ⌝ }
+fn protect_contour(stencil: &mut [u8], b: Bitmap, colours: &[u8], coords: &[f64], c: Contour)
+    requires { ⌜ Celled (b .width) (b .height) (now stencil) ⌝ }
     requires { ⌜ (length (now coords) ≡ 2 * length (now colours)) × (length (now colours) ≤ 65536) ⌝ }
-    requires { ⌜ (from ≤ end) × (end ≤ length (now colours)) ⌝ }
-    ensures { λ _. ⌜ now (stencil .exit) ≡ painted (contourHits w (now (colours .entry)) (now (coords .entry)) from end) (now (stencil .entry)) ⌝ }
+    requires { ⌜ (c .from ≤ c .end) × (c .end ≤ length (now colours)) ⌝ }
+    ensures { λ _. ⌜ now (stencil .exit) ≡ painted (contourHits (b .width) (now (colours .entry)) (now (coords .entry)) (c .from) (c .end)) (now (stencil .entry)) ⌝ }
 {
-    let mut i = from;
-    while i < end {
-        protect_corner(stencil, w, h, colours, coords, from, end, i);
+    let mut i = c.from;
+    while i < c.end {
+        protect_corner(stencil, b, colours, coords, c, i);
         i += 1;
     }
 }
@@ -136,21 +127,24 @@ fn protect_contour(
 // All contours; an empty one is skipped.
 pub fn protect_corners(
     stencil: &mut [u8],
-    w: usize,
-    h: usize,
+    b: Bitmap,
     colours: &[u8],
     coords: &[f64],
     ends: &[usize],
 )
-    requires { ⌜ (1 ≤ w) × (w ≤ 4096) × (h ≤ 4096) × (length (now stencil) ≡ h * w) ⌝ }
+    requires { ⌜ Celled (b .width) (b .height) (now stencil) ⌝ }
     requires { ⌜ Outlined (now colours) (now coords) (now ends) ⌝ }
-    ensures { λ _. ⌜ now (stencil .exit) ≡ painted (λ k. Corners.cornersProtect (Corners.contours (now (colours .entry)) (now (coords .entry)) (now (ends .entry))) (k % w) (k / w)) (now (stencil .entry)) ⌝ }
+    ensures { λ _. ⌜ now (stencil .exit) ≡ painted (λ k. Corners.cornersProtect (Corners.contours (now (colours .entry)) (now (coords .entry)) (now (ends .entry))) (k % b .width) (k / b .width)) (now (stencil .entry)) ⌝ }
 {
     let mut from = 0usize;
     let mut c = 0usize;
     while c < ends.len() {
         let end = ends[c];
-        protect_contour(stencil, w, h, colours, coords, from, end);
+        let contour = Contour {
+            from: from,
+            end: end,
+        };
+        protect_contour(stencil, b, colours, coords, contour);
         from = end;
         c += 1;
     }

@@ -47,7 +47,7 @@ fn protect(
     }
     stencil::fill(stencil, 0);
     if mode == config::EDGE_PRIORITY {
-        corners::protect_corners(stencil, b.width, b.height, colours, coords, ends);
+        corners::protect_corners(stencil, b, colours, coords, ends);
         edges::protect_edges(stencil, xs, b, s);
     }
 }

@@ -1,5 +1,5 @@
 -- Contours by the numbers of their segments, and all of them by the numbers of their ends. Assumes nothing.
---     painted-long, painted-turn   a loop that paints turn by turn: how long its stencil is, and one more turn
+--     painted-long, painted-celled, painted-turn   a loop that paints turn by turn: how long its stencil is, what its cells still are, and one more turn
 --     hit          a segment that is a corner, as the code goes: j is the segment before it, and b whether they make a corner
 --     miss         one that isn't
 --     start-next   a contour ends where the next starts
@@ -18,7 +18,7 @@ use lib.Ieee.{Float, nan}
 use borrow.Author.Tests.{eq-eqb, ne-eqb}
 use Rattle.ground.specs.Lists.{tab, any, some}
 use Rattle.correction.specs.Corners.{Segment, segmentAt, between, split, contours, before, shared, noSegment, lower, beside, isCorner, around, cornerAt, contourProtects, cornersProtect}
-use Rattle.correction.specs.Inner.{painted, cornerHits, contourHits}
+use Rattle.correction.specs.Inner.{Celled, painted, cornerHits, contourHits}
 use Rattle.inputs.specs.Inner.{Outlined}
 use Rattle.ground.proofs.Laws.Fill.{tab-length, tab-at}
 use Rattle.ground.proofs.Laws.Search.{any-first, any-same}
@@ -28,6 +28,9 @@ use Rattle.correction.proofs.loops.Painted.{painted-length, painted-sam
 module _ (f : ℕ → ℕ → Bool) (st₀ st : List ℕ) (i : ℕ) (p : st ≡ painted (λ k. any i (λ j. f j k)) st₀) where
   pub painted-long : length st ≡ length st₀
   painted-long = ap length p ∙ painted-length _ st₀
+
+  pub painted-celled : {w h : ℕ} → Celled w h st₀ → Celled w h st
+  painted-celled r = record { any = r .any; wide = r .wide; high = r .high; long = painted-long ∙ r .long }
 
   pub painted-turn : (st' : List ℕ) (g : ℕ → Bool) → ((k : ℕ) → g k ≡ f i k) → st' ≡ painted g st → st' ≡ painted (λ k. any (i + 1) (λ j. f j k)) st₀
   painted-turn st' g h e = e ∙ painted-same g (f i) st h ∙ ap (painted (f i)) p ∙ painted-more f st₀ i

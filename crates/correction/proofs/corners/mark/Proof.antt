@@ -12,14 +12,14 @@ use Rattle.correction.proofs.corners.mark.Statement.{statement}
 use Rattle.correction.proofs.corners.mark.Tie as tie
 
 -- where the cell lies
-at : (c : tie.Then1) → let a = c .before .before .before .args in Inside (a .w) (a .h) (a .nx) (a .ny)
+at : (c : tie.Then1) → let a = c .before .before .before .args in Inside (a .b .width) (a .b .height) (a .nx) (a .ny)
 at c = inside _ _ _ _ (sym (c .before .in-bounds .ensures) ∙ c .if1 .taken)
 
 held : (c : tie.After-cell) → c .cell .result < length (now (c .before .before .before .before .args .stencil))
-held c = let s = c .before .before .before .before in omega (arith, c .cell .ensures, s .pre .2, cell-lt _ _ _ _ (at (c .before) .column) (at (c .before) .row))
+held c = let s = c .before .before .before .before in omega (arith, c .cell .ensures, s .pre .long, cell-lt _ _ _ _ (at (c .before) .column) (at (c .before) .row))
 
 cell-requires : tie.Need-cell-requires
-cell-requires c κs = let s = c .before .before .before in (at c .column, at c .row, s .pre .0, s .pre .1)
+cell-requires c κs = let s = c .before .before .before in (at c .column, at c .row, s .pre .wide, s .pre .high)
 
 returns : tie.Need-returns
 unfolding spot

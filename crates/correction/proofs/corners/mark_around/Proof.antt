@@ -12,7 +12,7 @@ returns c =
     let p1 = p2 .before .before .before .before in
     let b = p1 .before .before in
     let a = b .before .before .before in
-    marked-around _ _ _ _ _ _ _ _ _ _ _ (a .pre .0) (a .pre .3) (b .before .lower .ensures) (b .lower2 .ensures)
+    marked-around _ _ _ _ _ _ _ _ _ _ _ (a .pre .any) (a .pre .long) (b .before .lower .ensures) (b .lower2 .ensures)
     (p1 .mark .ensures) (p2 .mark2 .ensures) (p3 .mark3 .ensures) (p4 .mark4 .ensures)
 
 pub mark-around-spec : {M : Type 1} → statement M
@@ -21,8 +21,8 @@ mark-around-spec =
     (tie.spec
     (λ c κs. search needs)
     (λ c κs. search needs)
-    (λ c. next-fits _ (c .before .lower .ensures) (c .before .before .before .pre .1))
-    (λ c. next-fits _ (c .lower2 .ensures) (c .before .before .before .pre .2))
+    (λ c. next-fits _ (c .before .lower .ensures) (c .before .before .before .pre .wide))
+    (λ c. next-fits _ (c .lower2 .ensures) (c .before .before .before .pre .high))
     (λ c κs. search needs)
     (λ c κs. search needs)
     (λ c κs. search needs)

@@ -11,5 +11,5 @@ previous-spec =
     (tie.spec
     (λ c. search needs)
     (λ c. search needs)
-    (λ c. (simp (eq-eqb _ _ (c .if1 .taken)), omega arith))
+    (λ c. (simp (eq-eqb _ _ (c .before .if1 .taken)), omega arith))
     (λ c. (simp (ne-eqb _ _ (c .if1 .left)), omega arith)))

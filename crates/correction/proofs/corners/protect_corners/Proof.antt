@@ -10,7 +10,7 @@ use denote.Ref.{now}
 use Rattle.ground.specs.Lists.{any}
 use Rattle.correction.specs.Inner.{painted, contourHits}
 use Rattle.correction.proofs.loops.Painted.{painted-zero, painted-same}
-use Rattle.correction.proofs.corners.Contours.{painted-long, painted-turn, startAt, start-next, start-le, corners-at}
+use Rattle.correction.proofs.corners.Contours.{painted-long, painted-celled, painted-turn, startAt, start-next, start-le, corners-at}
 use Rattle.correction.proofs.corners.protect_corners.Statement.{statement}
 use Rattle.correction.proofs.corners.protect_corners.Tie as tie
 
@@ -24,27 +24,24 @@ record Inv (st₀ : List ℕ) (w : ℕ) (colours : List ℕ) (coords : List Floa
   done : st ≡ painted (λ k. any c (λ j. nth w colours coords ends j k)) st₀
 
 abbrev Inv-loop : tie.InvT-loop
-Inv-loop stencil₀ w h colours coords ends from₀ c₀ stencil from c = Inv stencil₀ w colours coords ends stencil from c
+Inv-loop stencil₀ b colours coords ends from₀ c₀ stencil from c = Inv stencil₀ (b .width) colours coords ends stencil from c
 
 abbrev μ-loop : tie.MeasureT-loop
-μ-loop stencil₀ w h colours coords ends from₀ c₀ stencil from c = length ends - c
+μ-loop stencil₀ b colours coords ends from₀ c₀ stencil from c = length ends - c
 
 loop-holds : tie.Need-loop-holds Inv-loop μ-loop
 loop-holds c =
     let a = c .before .before .before .before .args in
-    record { high = omega arith; start = refl; done = painted-zero (nth (a .w) (now (a .colours)) (now (a .coords)) (now (a .ends))) (now (a .stencil)) }
+    record { high = omega arith; start = refl; done = painted-zero (nth (a .b .width) (now (a .colours)) (now (a .coords)) (now (a .ends))) (now (a .stencil)) }
 
 protect-contour-requires : tie.Need-protect-contour-requires Inv-loop μ-loop
 protect-contour-requires c κs =
     let t = c .before .before in
     let l = t .before .loop in
-    let r = t .before .before .before .before .before .before .pre in (
-      (r .0 .0, r .0 .1, r .0 .2, painted-long _ _ _ _ (l .inv .done) ∙ r .0 .3),
-      (
-        (r .1 .twice, r .1 .few),
-        (omega (arith, l .inv .start, start-le (r .1) (l .c) (t .loop-test .taken)), r .1 .within (l .c) (t .loop-test .taken)),
-      ),
-    )
+    let r = t .before .before .before .before .before .before .pre in
+    let o = r .1 in
+    let s = start-le o (l .c) (t .loop-test .taken) in
+    (painted-celled _ _ _ _ (l .inv .done) (r .0), ((o .twice, o .few), (omega (arith, l .inv .start, s), o .within (l .c) (t .loop-test .taken))))
 
 add-c : tie.Need-add-c Inv-loop μ-loop
 add-c c = let t = c .before .before .before .before .before in omega (arith, t .before .before .before .before .before .before .good, t .loop-test .taken)
@@ -53,12 +50,10 @@ loop-again : tie.Need-loop-again Inv-loop μ-loop
 loop-again c =
     let t = c .before .before .before .before .before in
     let l = t .before .loop in
-    let a = t .before .before .before .before .before .before .args in
-    let f : ℕ → ℕ → Bool = nth (a .w) (now (a .colours)) (now (a .coords)) (now (a .ends)) in
     record {
       high = omega (arith, t .loop-test .taken);
-      start = start-next (now (a .ends)) (l .c);
-      done = painted-turn f _ _ (l .c) (l .inv .done) _ _ (λ k. rw (l .inv .start)) (c .before .before .protect-contour .ensures);
+      start = start-next (now (t .before .before .before .before .before .before .args .ends)) (l .c);
+      done = painted-turn _ _ _ _ (l .inv .done) _ _ (λ k. rw (l .inv .start)) (c .before .before .protect-contour .ensures);
     }
 
 returns : tie.Need-returns Inv-loop μ-loop
@@ -67,7 +62,7 @@ returns c =
     let v = c .before .loop .inv in
     let e : c .before .loop .c ≡ length (now (s .args .ends)) = omega (arith, v .high) in
     rw e at (v .done)
-    ∙ painted-same _ _ _ (corners-at (s .args .w) (now (s .args .colours)) (now (s .args .coords)) (now (s .args .ends)) (s .pre .1))
+    ∙ painted-same _ _ _ (corners-at _ _ _ _ (s .pre .1))
 
 pub protect-corners-spec : {M : Type 1} → statement M
 protect-corners-spec =
