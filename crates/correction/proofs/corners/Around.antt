@@ -1,5 +1,4 @@
 -- The four cells around a point. Assumes nothing.
---     inside          what `inBounds` says, in numbers
 --     next-fits       the column or row after a clipped one is no overflow
 --     marked-around   the four cells from the clipped column and row on are those whose column and row lie beside the point's
 use mathlib.Core.Path.{_≡_, refl, sym, _∙_, ap, subst}
@@ -16,12 +15,12 @@ use lib.ListN.{length}
 use lib.IntN.{ℤ, pos, negsuc}
 use mir.Syntax.{w64}
 use mir.Val.{Fits}
-use borrow.Author.Tests.{ltb-true, leb-true, eqb-true, lt-ltb, le-ltb, le-leb, eq-eqb, ne-eqb}
+use borrow.Author.Tests.{eqb-true, lt-ltb, le-ltb, le-leb, eq-eqb, ne-eqb}
 use Rattle.ground.proofs.Laws.Bools.{both-hold, both-ways}
 use Rattle.correction.specs.Bitmap.{inBounds}
 use Rattle.correction.specs.Corners.{beside}
 use Rattle.correction.specs.Inner.{painted, spot, clip}
-use Rattle.correction.proofs.bitmap.Places.{row-lt}
+use Rattle.correction.proofs.bitmap.Places.{inside, row-lt}
 use Rattle.correction.proofs.loops.Painted.{painted-four, painted-same-below}
 
 -- a row and a column test, four times
@@ -35,14 +34,6 @@ spread false true true d = refl
 spread false true false d = refl
 spread false false c d = refl
 
-pub inside : (w h nx ny : ℕ) → inBounds w h nx ny ≡ true → (1 ≤ nx) × (nx ≤ w) × (1 ≤ ny) × (ny ≤ h)
-unfolding inBounds
-inside w h nx ny t =
-    let a = both-hold (ltb 0 nx) (leb nx w && (ltb 0 ny && leb ny h)) t in
-    let b = both-hold (leb nx w) (ltb 0 ny && leb ny h) (a .1) in
-    let c = both-hold (ltb 0 ny) (leb ny h) (b .1) in
-    (ltb-true 0 nx (a .0), leb-true nx w (b .0), ltb-true 0 ny (c .0), leb-true ny h (c .1))
-
 bounded : (w h nx ny : ℕ) → 0 < nx → nx ≤ w → 0 < ny → ny ≤ h → inBounds w h nx ny ≡ true
 unfolding inBounds
 bounded w h nx ny a b c d = simp (lt-ltb 0 nx a, le-leb nx w b, lt-ltb 0 ny c, le-leb ny h d)
@@ -54,11 +45,10 @@ module _ (w h x y nx ny : ℕ) (p : x < w) (q : y < h) where
   to t =
       let e = both-hold (inBounds w h nx ny) (eqb (y * w + x) ((ny - 1) * w + (nx - 1))) t in
       let i = inside w h nx ny (e .0) in
-      let l : nx - 1 < w = omega (arith, i) in
       let f : y * w + x ≡ (ny - 1) * w + (nx - 1) = eqb-true (y * w + x) ((ny - 1) * w + (nx - 1)) (e .1) in
-      let c : x ≡ nx - 1 = sym (digits-mod y p) ∙ ap (λ (m : ℕ). m % w) f ∙ digits-mod (ny - 1) l in
-      let d : y ≡ ny - 1 = sym (digits-div y p) ∙ ap (λ (m : ℕ). m / w) f ∙ digits-div (ny - 1) l in
-      simp (eq-eqb (suc x) nx (omega (arith, c, i)), eq-eqb (suc y) ny (omega (arith, d, i)))
+      let c : x ≡ nx - 1 = sym (digits-mod y p) ∙ ap (λ (m : ℕ). m % w) f ∙ digits-mod (ny - 1) (i .column) in
+      let d : y ≡ ny - 1 = sym (digits-div y p) ∙ ap (λ (m : ℕ). m / w) f ∙ digits-div (ny - 1) (i .column) in
+      simp (eq-eqb (suc x) nx (omega (arith, c, i .from-left)), eq-eqb (suc y) ny (omega (arith, d, i .from-low)))
 
   from : (eqb (suc x) nx && eqb (suc y) ny) ≡ true → spot w h nx ny (y * w + x) ≡ true
   unfolding spot
