@@ -12,7 +12,7 @@ use Rattle.inputs.proofs.checks.outline_refusal.Statement.{statement}
 use Rattle.inputs.proofs.checks.outline_refusal.Tie as tie
 
 -- checks 7 and 8, where they have passed
-ok : (c : tie.Else2) → (badOutlines (length (now (c .before .before .before .before .before .before .before .before .args .colours))) (length (now (c .before .before .before .before .before .before .before .before .args .coords))) ≡ false) × (badEnds (now (c .before .before .before .before .before .before .before .before .args .ends)) (length (now (c .before .before .before .before .before .before .before .before .args .colours))) ≡ false)
+ok : (c : tie.Else2) → let a = c .before .before .before .before .before .before .before .before .args in let n = length (now (a .colours)) in (badOutlines n (length (now (a .coords))) ≡ false) × (badEnds (now (a .ends)) n ≡ false)
 ok c =
     let a = c .before .before .before in
     (sym (a .before .bad-outlines .ensures) ∙ a .if1 .left, sym (c .before .bad-ends .ensures) ∙ c .if2 .left)

@@ -20,7 +20,7 @@ lengths c =
     (few _ _ _ (c .correct .kept .1 .1 .0) (l .kept .1 .1 .0) (p .0), few _ _ _ (c .correct .kept .1 .1 .1 .0) (l .kept .1 .1 .1 .0) (p .1))
 
 is-right-requires : tie.Need-is-right-requires
-is-right-requires c κs = (start (c .before .before .before .before .before .before) .pre .0, lengths (c .before .before .before .before .before .before))
+is-right-requires c κs = let a = c .before .before .before .before .before .before in (start a .pre .0, lengths a)
 
 pub run-spec : {M : Type 1} → statement M
 run-spec =
