@@ -1,7 +1,7 @@
 // Finding the texels with an artifact towards a neighbour. Of four texels a is the one that is judged, b lies in its row, c in its column and d across.
 ghost use mathlib.Core.Path.{_≡_};
-ghost use Prim.Native.Nat.{_*_, _<_};
-ghost use mathlib.Core.Bool.{true, false};
+ghost use Prim.Native.Nat.{_+_, _*_, _<_};
+ghost use lib.Dec.{eqb};
 ghost use lib.ListN.{length};
 ghost use Rattle.detectors.specs.Config.{sideSpan, diagonalSpan};
 ghost use Rattle.correction.specs.Bitmap.{texel};
@@ -15,42 +15,30 @@ use detectors::linear;
 use inputs::sizes::Bitmap;
 use inputs::stencil;
 
-// Texel a of t against the side neighbour at column nx and row ny, counted from 1.
+// Texel a of t against the side neighbour at column nx and row ny, counted from 1: in its column where nx is its own, else in its row.
 fn side_artifact(
     xs: &[f32],
     b: Bitmap,
     s: Settings,
-    upright: bool,
     protected: bool,
     t: Centre,
     nx: usize,
     ny: usize,
 ) -> bool
     requires { ⌜ Sized (b .width) (b .height) (b .channels) (now xs) ⌝ }
-    ensures { λ r. ⌜ r ≡ Errors.sideArtifact (texel (now (xs .entry)) (b .width) (b .channels)) (b .width) (b .height) (sideSpan s upright) protected (t .median) (t .texel) nx ny ⌝ }
+    requires { ⌜ (t .x < b .width) × (t .y < b .height) ⌝ }
+    ensures { λ r. ⌜ r ≡ Errors.sideArtifact (texel (now (xs .entry)) (b .width) (b .channels)) (b .width) (b .height) (sideSpan s (eqb nx (t .x + 1))) protected (t .median) (t .texel) nx ny ⌝ }
 {
     let a = t.texel;
     bitmap::in_bounds(b, nx, ny)
         && linear::has_linear_artifact(
             s,
-            upright,
+            nx == t.x + 1,
             protected,
             t.median,
             a,
             bitmap::neighbour(xs, b, nx, ny),
         )
-}
-
-// Left, below, right, above.
-fn some_side(xs: &[f32], b: Bitmap, s: Settings, protected: bool, t: Centre) -> bool
-    requires { ⌜ Sized (b .width) (b .height) (b .channels) (now xs) ⌝ }
-    requires { ⌜ (t .x < b .width) × (t .y < b .height) ⌝ }
-    ensures { λ r. ⌜ r ≡ Errors.someSide (texel (now (xs .entry)) (b .width) (b .channels)) (b .width) (b .height) (sideSpan s false) (sideSpan s true) protected (t .median) (t .texel) (t .x) (t .y) ⌝ }
-{
-    side_artifact(xs, b, s, false, protected, t, t.x, t.y + 1)
-        || (side_artifact(xs, b, s, true, protected, t, t.x + 1, t.y)
-            || (side_artifact(xs, b, s, false, protected, t, t.x + 2, t.y + 1)
-                || side_artifact(xs, b, s, true, protected, t, t.x + 1, t.y + 2)))
 }
 
 // Texel a of t against the diagonal neighbour at column nx and row ny, counted from 1.
@@ -82,26 +70,26 @@ fn diagonal_artifact(
         )
 }
 
-// Lower left, lower right, upper left, upper right.
-fn some_diagonal(xs: &[f32], b: Bitmap, s: Settings, protected: bool, t: Centre) -> bool
+// Texel a of t has an artifact towards some neighbour: left, below, right, above, lower left, lower right, upper left, upper right.
+fn some_artifact(xs: &[f32], b: Bitmap, s: Settings, protected: bool, t: Centre) -> bool
     requires { ⌜ Sized (b .width) (b .height) (b .channels) (now xs) ⌝ }
     requires { ⌜ (t .x < b .width) × (t .y < b .height) ⌝ }
-    ensures { λ r. ⌜ r ≡ Errors.someDiagonal (texel (now (xs .entry)) (b .width) (b .channels)) (b .width) (b .height) (diagonalSpan s) protected (t .median) (t .texel) (t .x) (t .y) ⌝ }
+    ensures { λ r. ⌜ r ≡ Errors.someArtifact (texel (now (xs .entry)) (b .width) (b .channels)) (b .width) (b .height) s protected (t .median) (t .texel) (t .x) (t .y) ⌝ }
 {
-    diagonal_artifact(xs, b, s, protected, t, t.x, t.y)
-        || (diagonal_artifact(xs, b, s, protected, t, t.x + 2, t.y)
-            || (diagonal_artifact(xs, b, s, protected, t, t.x, t.y + 2)
-                || diagonal_artifact(xs, b, s, protected, t, t.x + 2, t.y + 2)))
-}
-
-// Texel x, y has an artifact towards some neighbour.
-fn has_artifact(xs: &[f32], b: Bitmap, s: Settings, protected: bool, x: usize, y: usize) -> bool
-    requires { ⌜ Sized (b .width) (b .height) (b .channels) (now xs) ⌝ }
-    requires { ⌜ (x < b .width) × (y < b .height) ⌝ }
-    ensures { λ r. ⌜ r ≡ Errors.hasArtifact (texel (now (xs .entry)) (b .width) (b .channels)) (b .width) (b .height) s protected x y ⌝ }
-{
-    let t = bitmap::centre_at(xs, b, x, y);
-    some_side(xs, b, s, protected, t) || some_diagonal(xs, b, s, protected, t)
+    let left = t.x;
+    let low = t.y;
+    let middle = left + 1;
+    let right = left + 2;
+    let level = low + 1;
+    let high = low + 2;
+    side_artifact(xs, b, s, protected, t, left, level)
+        || (side_artifact(xs, b, s, protected, t, middle, low)
+            || (side_artifact(xs, b, s, protected, t, right, level)
+                || (side_artifact(xs, b, s, protected, t, middle, high)
+                    || (diagonal_artifact(xs, b, s, protected, t, left, low)
+                        || (diagonal_artifact(xs, b, s, protected, t, right, low)
+                            || (diagonal_artifact(xs, b, s, protected, t, left, high)
+                                || diagonal_artifact(xs, b, s, protected, t, right, high)))))))
 }
 
 // The byte of a cell, with its error bit set where its texel is flagged.
@@ -110,7 +98,8 @@ fn marked_byte(xs: &[f32], b: Bitmap, s: Settings, v: u8, x: usize, y: usize) ->
     requires { ⌜ (x < b .width) × (y < b .height) ⌝ }
     ensures { λ r. ⌜ r ≡ marked (now (xs .entry)) (b .width) (b .height) (b .channels) s v x y ⌝ }
 {
-    if has_artifact(xs, b, s, stencil::is_protected(v), x, y) {
+    let t = bitmap::centre_at(xs, b, x, y);
+    if some_artifact(xs, b, s, stencil::is_protected(v), t) {
         stencil::set_error(v)
     } else {
         v
