@@ -1,4 +1,6 @@
--- `correction::edges::some_of` meets its contract. Assumes nothing.
+-- `correction::edges::some_of` meets its contract: it answers at the first pair that says so, and as the last does where no other says so. Assumes nothing.
+use mathlib.Core.Path.{sym, _∙_}
+use mathlib.Core.Bool.{or-true}
 use borrow.Author.Needs.{needs}
 use Rattle.ground.proofs.Laws.Bools.{or-taken, or-left}
 use Rattle.correction.specs.Inner.{someOf}
@@ -11,16 +13,11 @@ returns c = or-taken _ (c .before .as-either .ensures) (c .if1 .taken)
 
 returns-2 : tie.Need-returns-2
 unfolding someOf
-returns-2 c =
-    let e = c .before .before .before in
-    or-left (e .before .as-either .ensures) (e .if1 .left) (or-taken _ (c .before .as-either2 .ensures) (c .if2 .taken))
+returns-2 c = simp (or-true, c .if2 .taken, sym (c .before .as-either2 .ensures) ∙ c .if2 .taken)
 
 returns-3 : tie.Need-returns-3
 unfolding someOf
-returns-3 c =
-    let d = c .before .before in
-    let e = d .before .before .before in
-    or-left (e .before .as-either .ensures) (e .if1 .left) (or-left (d .before .as-either2 .ensures) (d .if2 .left) (or-taken _ (c .before .as-either3 .ensures) (c .if3 .taken)))
+returns-3 c = simp (or-true, c .if3 .taken, sym (c .before .as-either3 .ensures) ∙ c .if3 .taken)
 
 returns-4 : tie.Need-returns-4
 unfolding someOf
