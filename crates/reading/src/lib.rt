@@ -30,9 +30,7 @@ fn answer_into(input: &[u8], out: &mut [u8]) -> usize
     let mut ends = [0usize; 64];
     run::answer_case(
         input,
-        l.rows,
-        l.contours,
-        l.segments,
+        l,
         out,
         &mut samples,
         &mut stencil,

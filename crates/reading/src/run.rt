@@ -7,39 +7,17 @@ ghost use Rattle.ground.specs.Write.{Written};
 ghost use Rattle.inputs.specs.Checks.{input};
 ghost use Rattle.correction.specs.Pass as Pass;
 ghost use Rattle.reading.specs.Answer as Answers;
+ghost use Rattle.reading.specs.Case.{modeOf};
 ghost use Rattle.reading.specs.Grammar.{channels};
 ghost use Rattle.reading.specs.Inner.{Whole, Lent};
 use crate::decode;
+use crate::fields::Layout;
 use crate::text;
 use correction::pass;
 use correction::pass::Answer;
 use detectors::config::Settings;
 use ground::bytes;
-
-// The pass on a decoded case.
-fn run(
-    out: &mut [u8],
-    w: usize,
-    h: usize,
-    ch: usize,
-    samples: &mut [f32],
-    stencil: &mut [u8],
-    mode: u8,
-    s: Settings,
-    colours: &[u8],
-    coords: &[f64],
-    ends: &[usize],
-) -> usize
-    requires { ⌜ (98304 ≤ length (now out)) × (length (now samples) ≤ 12288) ⌝ }
-    ensures { λ r. ⌜ Written (now (out .entry)) 0 (Answers.answerText (input w h ch (now (samples .entry)) (now (stencil .entry)) mode s (now (colours .entry)) (now (coords .entry)) (now (ends .entry))) (Pass.answer (input w h ch (now (samples .entry)) (now (stencil .entry)) mode s (now (colours .entry)) (now (coords .entry)) (now (ends .entry))))) r (now (out .exit)) ⌝ }
-{
-    match pass::msdf_error_correction(w, h, ch, samples, stencil, mode, s, colours, coords, ends) {
-        Answer::Accepted(c) => {
-            text::put_accepted(out, w, h, ch, c.protected, c.error, stencil, samples)
-        }
-        Answer::Refused(n, p) => text::put_refused(out, n as usize, p),
-    }
-}
+use inputs::sizes::Bitmap;
 
 // The settings field.
 fn settings(s: &[u8]) -> Settings
@@ -50,6 +28,37 @@ fn settings(s: &[u8]) -> Settings
         horizontal: bytes::f64_at(s, 20),
         vertical: bytes::f64_at(s, 28),
         diagonal: bytes::f64_at(s, 36),
+    }
+}
+
+// The pass on a decoded case, with the mode and the settings of the input s.
+fn run(
+    out: &mut [u8],
+    s: &[u8],
+    b: Bitmap,
+    samples: &mut [f32],
+    stencil: &mut [u8],
+    colours: &[u8],
+    coords: &[f64],
+    ends: &[usize],
+) -> usize
+    requires { ⌜ (98304 ≤ length (now out)) × (length (now samples) ≤ 12288) × (11 < length (now s)) ⌝ }
+    ensures { λ r. ⌜ Written (now (out .entry)) 0 (Answers.answerText (input (b .width) (b .height) (b .channels) (now (samples .entry)) (now (stencil .entry)) (modeOf (now (s .entry))) (Answers.settingsOf (now (s .entry))) (now (colours .entry)) (now (coords .entry)) (now (ends .entry))) (Pass.answer (input (b .width) (b .height) (b .channels) (now (samples .entry)) (now (stencil .entry)) (modeOf (now (s .entry))) (Answers.settingsOf (now (s .entry))) (now (colours .entry)) (now (coords .entry)) (now (ends .entry))))) r (now (out .exit)) ⌝ }
+{
+    match pass::msdf_error_correction(
+        b.width,
+        b.height,
+        b.channels,
+        samples,
+        stencil,
+        s[11],
+        settings(s),
+        colours,
+        coords,
+        ends,
+    ) {
+        Answer::Accepted(c) => text::put_accepted(out, b, c, stencil, samples),
+        Answer::Refused(n, p) => text::put_refused(out, n as usize, p),
     }
 }
 
@@ -66,12 +75,10 @@ fn clear(out: &mut [u8], n: usize) -> usize
     n
 }
 
-// A well formed input, whose rows start at a place and whose k contours have n segments, decoded into what is lent.
+// A well formed input, laid out as l says, decoded into what is lent.
 pub fn answer_case(
     s: &[u8],
-    rows: usize,
-    k: usize,
-    n: usize,
+    l: Layout,
     out: &mut [u8],
     samples: &mut [f32],
     stencil: &mut [u8],
@@ -79,26 +86,27 @@ pub fn answer_case(
     coords: &mut [f64],
     ends: &mut [usize],
 ) -> usize
-    requires { ⌜ Whole (now s) rows k n ⌝ }
+    requires { ⌜ Whole (now s) (l .rows) (l .contours) (l .segments) ⌝ }
     requires { ⌜ (98304 ≤ length (now out)) × (0 < channels (now s)) ⌝ }
     requires { ⌜ Lent (now samples) (now stencil) (now colours) (now coords) (now ends) ⌝ }
     ensures { λ r. ⌜ Written (now (out .entry)) 0 (Answers.answerText (Answers.caseOf (now (s .entry))) (Pass.answer (Answers.caseOf (now (s .entry))))) r (now (out .exit)) ⌝ }
 {
-    let w = bytes::be16(s, 3);
-    let h = bytes::be16(s, 5);
-    let ch = s[7] as usize;
-    let a = decode::decode_samples(s, rows, h, w * ch, samples);
-    let b = clear(stencil, w * h);
-    decode::decode_outline(s, rows, k, n, colours, coords, ends);
+    let b = Bitmap {
+        width: bytes::be16(s, 3),
+        height: bytes::be16(s, 5),
+        channels: s[7] as usize,
+    };
+    let k = l.contours;
+    let n = l.segments;
+    let a = decode::decode_samples(s, l.rows, b.height, b.width * b.channels, samples);
+    let c = clear(stencil, b.width * b.height);
+    decode::decode_outline(s, l.rows, k, n, colours, coords, ends);
     run(
         out,
-        w,
-        h,
-        ch,
+        s,
+        b,
         &mut samples[..a],
-        &mut stencil[..b],
-        s[11],
-        settings(s),
+        &mut stencil[..c],
         &colours[..n],
         &coords[..2 * n],
         &ends[..k],

@@ -1,7 +1,7 @@
 // What is printed, written into a lent slice.
 ghost use mathlib.Core.Path.{_≡_};
 ghost use Prim.Native.Nat.{_+_, _*_, _≤_, _<_};
-ghost use mathlib.Core.List.{[], _∷_};
+ghost use mathlib.Core.List.{[], _∷_, _++_};
 ghost use lib.ListN.{length, getD};
 ghost use lib.Ieee.{nan};
 ghost use Rattle.ground.specs.Lists.{joined};
@@ -9,6 +9,9 @@ ghost use Rattle.ground.specs.Write.{Written};
 ghost use Rattle.reading.specs.Decimal.{decimal};
 ghost use Rattle.reading.specs.Text as Text;
 use ground::bytes;
+use inputs::sizes::Bitmap;
+use inputs::stencil;
+use inputs::stencil::Counts;
 
 fn put(out: &mut [u8], at: usize, b: u8) -> usize
     requires { ⌜ at < length (now out) ⌝ }
@@ -102,16 +105,25 @@ fn put_hex(out: &mut [u8], at: usize, v: u32) -> usize
 fn mark(v: u8) -> u8
     ensures { λ r. ⌜ r ≡ Text.mark v ⌝ }
 {
-    if v / 2 % 2 == 1 {
-        if v % 2 == 1 {
+    if stencil::is_protected(v) {
+        if stencil::is_error(v) {
             return 66;
         }
         return 80;
     }
-    if v % 2 == 1 {
+    if stencil::is_error(v) {
         return 69;
     }
     46
+}
+
+// A text, then a number and the byte after it.
+fn put_named(out: &mut [u8], at: usize, t: &[u8], n: usize, b: u8) -> usize
+    requires { ⌜ at + length (now t) + 21 ≤ length (now out) ⌝ }
+    ensures { λ r. ⌜ Written (now (out .entry)) at (now (t .entry) ++ Text.numbered n b) r (now (out .exit)) ⌝ }
+{
+    let a = put_all(out, at, t);
+    put_number(out, a, n, b)
 }
 
 // `bad input AT`
@@ -119,8 +131,7 @@ pub fn put_bad(out: &mut [u8], place: usize) -> usize
     requires { ⌜ 31 ≤ length (now out) ⌝ }
     ensures { λ r. ⌜ Written (now (out .entry)) 0 (Text.badText place) r (now (out .exit)) ⌝ }
 {
-    let a = put_all(out, 0, b"bad input ");
-    put_number(out, a, place, 10)
+    put_named(out, 0, b"bad input ", place, 10)
 }
 
 // `refused N PLACE`
@@ -128,31 +139,27 @@ pub fn put_refused(out: &mut [u8], n: usize, place: usize) -> usize
     requires { ⌜ 50 ≤ length (now out) ⌝ }
     ensures { λ r. ⌜ Written (now (out .entry)) 0 (Text.refusedText n place) r (now (out .exit)) ⌝ }
 {
-    let a = put_all(out, 0, b"refused ");
-    let b = put_number(out, a, n, 32);
-    put_number(out, b, place, 10)
+    let a = put_named(out, 0, b"refused ", n, 32);
+    put_number(out, a, place, 10)
 }
 
 // `size W H C`
-fn put_size(out: &mut [u8], at: usize, w: usize, h: usize, ch: usize) -> usize
+fn put_size(out: &mut [u8], at: usize, b: Bitmap) -> usize
     requires { ⌜ at + 68 ≤ length (now out) ⌝ }
-    ensures { λ r. ⌜ Written (now (out .entry)) at (Text.sizeText w h ch) r (now (out .exit)) ⌝ }
+    ensures { λ r. ⌜ Written (now (out .entry)) at (Text.sizeText (b .width) (b .height) (b .channels)) r (now (out .exit)) ⌝ }
 {
-    let a = put_all(out, at, b"size ");
-    let b = put_number(out, a, w, 32);
-    let c = put_number(out, b, h, 32);
-    put_number(out, c, ch, 10)
+    let h = put_named(out, at, b"size ", b.width, 32);
+    let c = put_number(out, h, b.height, 32);
+    put_number(out, c, b.channels, 10)
 }
 
 // `protected P error E`
-fn put_counts(out: &mut [u8], at: usize, p: usize, e: usize) -> usize
+fn put_counts(out: &mut [u8], at: usize, c: Counts) -> usize
     requires { ⌜ at + 58 ≤ length (now out) ⌝ }
-    ensures { λ r. ⌜ Written (now (out .entry)) at (Text.countsText p e) r (now (out .exit)) ⌝ }
+    ensures { λ r. ⌜ Written (now (out .entry)) at (Text.countsText (c .protected) (c .error)) r (now (out .exit)) ⌝ }
 {
-    let a = put_all(out, at, b"protected ");
-    let b = put_number(out, a, p, 32);
-    let c = put_all(out, b, b"error ");
-    put_number(out, c, e, 10)
+    let a = put_named(out, at, b"protected ", c.protected, 32);
+    put_named(out, a, b"error ", c.error, 10)
 }
 
 fn put_marks(out: &mut [u8], at: usize, st: &[u8], from: usize, w: usize) -> usize
@@ -177,14 +184,14 @@ fn put_row(out: &mut [u8], at: usize, st: &[u8], w: usize, y: usize) -> usize
 }
 
 // The rows from the bottom.
-fn put_rows(out: &mut [u8], at: usize, st: &[u8], w: usize, h: usize) -> usize
-    requires { ⌜ (at + h * (w + 1) ≤ length (now out)) × (h * w ≤ length (now st)) ⌝ }
-    ensures { λ r. ⌜ Written (now (out .entry)) at (Text.rowsText w h (now (st .entry))) r (now (out .exit)) ⌝ }
+fn put_rows(out: &mut [u8], at: usize, st: &[u8], b: Bitmap) -> usize
+    requires { ⌜ (at + b .height * (b .width + 1) ≤ length (now out)) × (b .height * b .width ≤ length (now st)) ⌝ }
+    ensures { λ r. ⌜ Written (now (out .entry)) at (Text.rowsText (b .width) (b .height) (now (st .entry))) r (now (out .exit)) ⌝ }
 {
     let mut next = at;
     let mut y = 0usize;
-    while y < h {
-        next = put_row(out, next, st, w, y);
+    while y < b.height {
+        next = put_row(out, next, st, b.width, y);
         y += 1;
     }
     next
@@ -202,66 +209,42 @@ fn put_texel(out: &mut [u8], at: usize, x: usize, y: usize, bits: u32) -> usize
 }
 
 // Cell k, where it is flagged; xs has its median first in its texel.
-fn put_flagged(
-    out: &mut [u8],
-    at: usize,
-    st: &[u8],
-    xs: &[f32],
-    w: usize,
-    ch: usize,
-    k: usize,
-) -> usize
+fn put_flagged(out: &mut [u8], at: usize, st: &[u8], xs: &[f32], b: Bitmap, k: usize) -> usize
     requires { ⌜ (at + 21 ≤ length (now out)) × (k < length (now st)) ⌝ }
-    requires { ⌜ (k * ch < length (now xs)) × (0 < w) × (k < 100000) ⌝ }
-    ensures { λ r. ⌜ Written (now (out .entry)) at (Text.flaggedText w (now (st .entry)) (λ i. getD (now (xs .entry)) (i * ch) nan) k) r (now (out .exit)) ⌝ }
+    requires { ⌜ (k * b .channels < length (now xs)) × (0 < b .width) × (k < 100000) ⌝ }
+    ensures { λ r. ⌜ Written (now (out .entry)) at (Text.flaggedText (b .width) (now (st .entry)) (λ i. getD (now (xs .entry)) (i * b .channels) nan) k) r (now (out .exit)) ⌝ }
 {
-    if st[k] % 2 == 1 {
-        let bits = bytes::bits_of_float32(xs[k * ch]);
-        return put_texel(out, at, k % w, k / w, bits);
+    if stencil::is_error(st[k]) {
+        let bits = bytes::bits_of_float32(xs[k * b.channels]);
+        return put_texel(out, at, k % b.width, k / b.width, bits);
     }
     at
 }
 
-// Each flagged texel of n cells, row by row.
-fn put_texels(
-    out: &mut [u8],
-    at: usize,
-    st: &[u8],
-    xs: &[f32],
-    w: usize,
-    ch: usize,
-    n: usize,
-) -> usize
-    requires { ⌜ (at + 21 * n ≤ length (now out)) × (n ≤ length (now st)) ⌝ }
-    requires { ⌜ (n * ch ≤ length (now xs)) × (0 < ch) × (0 < w) × (n ≤ 100000) ⌝ }
-    ensures { λ r. ⌜ Written (now (out .entry)) at (joined n (Text.flaggedText w (now (st .entry)) (λ i. getD (now (xs .entry)) (i * ch) nan))) r (now (out .exit)) ⌝ }
+// Each flagged texel, row by row.
+fn put_texels(out: &mut [u8], at: usize, st: &[u8], xs: &[f32], b: Bitmap) -> usize
+    requires { ⌜ (at + 21 * (b .width * b .height) ≤ length (now out)) × (b .width * b .height ≤ length (now st)) ⌝ }
+    requires { ⌜ (b .width * b .height * b .channels ≤ length (now xs)) × (0 < b .channels) × (0 < b .width) × (b .width * b .height ≤ 100000) ⌝ }
+    ensures { λ r. ⌜ Written (now (out .entry)) at (joined (b .width * b .height) (Text.flaggedText (b .width) (now (st .entry)) (λ i. getD (now (xs .entry)) (i * b .channels) nan))) r (now (out .exit)) ⌝ }
 {
+    let n = b.width * b.height;
     let mut next = at;
     let mut k = 0usize;
     while k < n {
-        next = put_flagged(out, next, st, xs, w, ch, k);
+        next = put_flagged(out, next, st, xs, b, k);
         k += 1;
     }
     next
 }
 
 // The size, the counts, the rows, then each flagged texel.
-pub fn put_accepted(
-    out: &mut [u8],
-    w: usize,
-    h: usize,
-    ch: usize,
-    p: usize,
-    e: usize,
-    st: &[u8],
-    xs: &[f32],
-) -> usize
-    requires { ⌜ (0 < w) × (0 < ch) × (h ≤ 4096) × (w * h ≤ 4096) ⌝ }
-    requires { ⌜ (w * h ≤ length (now st)) × (w * h * ch ≤ length (now xs)) × (98304 ≤ length (now out)) ⌝ }
-    ensures { λ r. ⌜ Written (now (out .entry)) 0 (Text.acceptedText w h ch p e (now (st .entry)) (λ i. getD (now (xs .entry)) (i * ch) nan)) r (now (out .exit)) ⌝ }
+pub fn put_accepted(out: &mut [u8], b: Bitmap, c: Counts, st: &[u8], xs: &[f32]) -> usize
+    requires { ⌜ (0 < b .width) × (0 < b .channels) × (b .height ≤ 4096) × (b .width * b .height ≤ 4096) ⌝ }
+    requires { ⌜ (b .width * b .height ≤ length (now st)) × (b .width * b .height * b .channels ≤ length (now xs)) × (98304 ≤ length (now out)) ⌝ }
+    ensures { λ r. ⌜ Written (now (out .entry)) 0 (Text.acceptedText (b .width) (b .height) (b .channels) (c .protected) (c .error) (now (st .entry)) (λ i. getD (now (xs .entry)) (i * b .channels) nan)) r (now (out .exit)) ⌝ }
 {
-    let a = put_size(out, 0, w, h, ch);
-    let b = put_counts(out, a, p, e);
-    let c = put_rows(out, b, st, w, h);
-    put_texels(out, c, st, xs, w, ch, w * h)
+    let counts = put_size(out, 0, b);
+    let rows = put_counts(out, counts, c);
+    let texels = put_rows(out, rows, st, b);
+    put_texels(out, texels, st, xs, b)
 }

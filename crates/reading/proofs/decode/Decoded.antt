@@ -12,7 +12,6 @@ use Rattle.ground.specs.Write.{Written}
 use Rattle.ground.proofs.Laws.Fill.{tab-length}
 use Rattle.ground.proofs.Laws.Write.{written-as, written-to, written-length, tab-none, tab-next, tab-all, joined-none, joined-next, joined-all}
 use Rattle.inputs.specs.Checks.{input}
-use Rattle.detectors.specs.declared.config.Settings.{Settings}
 use Rattle.reading.specs.Answer.{settingsOf, caseOf}
 use Rattle.reading.specs.Case.{modeOf, segments, rowSamples, contourColours, contourCoords, samplesOf, coloursOf, coordsOf, endsOf}
 use Rattle.reading.specs.Grammar.{lengthAt, start, before, contours, width, height, channels, rowsAt}
@@ -163,6 +162,6 @@ module _ {s : List ℕ} {rows k n w h : ℕ} (a : Whole s rows k n) (ew : w ≡ 
       ap (λ (r : ℕ). f r w h) at-rows ∙ ap (λ (x : ℕ). f (rowsAt s) x h) ew ∙ ap (λ (z : ℕ). f (rowsAt s) (width s) z) eh
 
   -- the decoded case is the one that the input means
-  pub decoded-case : {set : Settings} {xs : List Float} {st cs : List ℕ} {ps : List Float} {es : List ℕ} → xs ≡ samplesOf s → st ≡ tab (w * h) (λ k. 0) → set ≡ settingsOf s → cs ≡ coloursOf s → ps ≡ coordsOf s → es ≡ endsOf s
-      → input w h (channels s) xs st (modeOf s) set cs ps es ≡ caseOf s
-  decoded-case p q r e f g = rw (p, q, r, e, f, g, ew, eh)
+  pub decoded-case : {xs : List Float} {st cs : List ℕ} {ps : List Float} {es : List ℕ} → xs ≡ samplesOf s → st ≡ tab (w * h) (λ k. 0) → cs ≡ coloursOf s → ps ≡ coordsOf s → es ≡ endsOf s
+      → input w h (channels s) xs st (modeOf s) (settingsOf s) cs ps es ≡ caseOf s
+  decoded-case p q e f g = rw (p, q, e, f, g, ew, eh)

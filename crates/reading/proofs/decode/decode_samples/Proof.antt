@@ -44,7 +44,7 @@ decode-row-requires : tie.Need-decode-row-requires Inv-loop μ-loop
 decode-row-requires c κs = let start = c .before .before .before .before .before in fits (c .before .before .loop .inv) (c .before .loop-test .taken) (start .pre .0) (start .pre .1)
 
 -- behind the row its end is still inside
-inside : (c : tie.After-slice-known2 Inv-loop μ-loop) → c .before .before .before .before .before .loop .place + 3 + 4 * c .before .before .before .before .before .before .before .before .args .n ≤ length (now (c .before .before .before .before .before .before .before .before .args .s))
+inside : (c : tie.After-slice-known2 Inv-loop μ-loop) → let l = c .before .before .before .before .before in let d = l .before .before .before .args in l .loop .place + 3 + 4 * d .n ≤ length (now (d .s))
 inside c =
     let at-loop = c .before .before .before .before .before in
     let start = at-loop .before .before .before in
@@ -52,9 +52,10 @@ inside c =
 
 loop-again : tie.Need-loop-again Inv-loop μ-loop
 loop-again c =
-    let l = c .before .before .before .before .before .loop in
+    let at-loop = c .before .before .before .before .before in
+    let l = at-loop .loop in
     let i = l .inv in
-    let d = c .before .before .before .before .before .before .before .before .args in
+    let d = at-loop .before .before .before .args in
     let w = c .before .before .decode-row .ensures in
     record {
       within = omega arith;

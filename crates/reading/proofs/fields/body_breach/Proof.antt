@@ -11,11 +11,11 @@ use Rattle.reading.proofs.fields.body_breach.Tie as tie
 
 returns : tie.Need-returns
 unfolding bodyBreach
-returns c = simp (lt-ltb (length (now (c .before .before .before .args .s))) (c .before .before .before .args .f .at + 3 + c .before .before .before .args .f .len) (omega arith))
+returns c = let d = c .before .before .before .args in simp (lt-ltb (length (now (d .s))) (d .f .at + 3 + d .f .len) (omega arith))
 
 returns-2 : tie.Need-returns-2
 unfolding bodyBreach
-returns-2 c = simp (le-ltb (length (now (c .before .before .before .args .s))) (c .before .before .before .args .f .at + 3 + c .before .before .before .args .f .len) (omega arith))
+returns-2 c = let d = c .before .before .before .args in simp (le-ltb (length (now (d .s))) (d .f .at + 3 + d .f .len) (omega arith))
 
 pub body-breach-spec : {M : Type 1} → statement M
 body-breach-spec = tie.close (tie.spec (λ c. search needs) (λ c. search needs) returns returns-2)

@@ -11,9 +11,10 @@ use Rattle.reading.proofs.fields.contour.Tie as tie
 
 returns : tie.Need-returns
 returns c =
-    let o = c .before .before .before .before .pre .1 in
+    let start = c .before .before .before .before in
+    let o = start .pre .1 in
     let m = o .measured in
-    let here = told-contour _ (m .short) _ (c .before .before .before .before .pre .0) (omega arith) (c .before .before .before .before .pre .2) in
+    let here = told-contour _ (m .short) _ (start .pre .0) (omega arith) (start .pre .2) in
     let e = c .before .before .contour-breach .ensures in
     let b = e ∙ sym (outlined-broken _ (m .short) _ _ _ (o .reached) here (λ z. c .before .if1 .taken (e ∙ z))) in
     stepped-broken _ _ _ (omega arith) (omega arith) (c .broken .ensures) (b ∙ sym (breach-outline _ (m .short) (m .sized) (o .set) (λ z. c .before .if1 .taken (b ∙ z)))) (c .before .if1 .taken)

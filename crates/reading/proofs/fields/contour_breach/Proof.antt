@@ -14,9 +14,10 @@ returns c = rw (← c .before .head-breach .ensures) (sym (found _ _ (c .if1 .ta
 returns-2 : tie.Need-returns-2
 unfolding contourBreach
 returns-2 c =
+    let start = c .before .before .before .before .before in
     let fine = sym (c .before .before .before .head-breach .ensures) ∙ c .before .before .if1 .left in
-    let there = head-fine _ (c .before .before .before .before .before .pre .1) _ _ (c .before .before .before .before .before .pre .2) fine .1 in
-    sym (passed _ _ fine ∙ rw (← c .before .before .before .before .before .pre .0 .sized there) (simp (ne-eqb _ _ (c .if2 .taken))))
+    let there = head-fine _ (start .pre .1) _ _ (start .pre .2) fine .1 in
+    sym (passed _ _ fine ∙ rw (← start .pre .0 .sized there) (simp (ne-eqb _ _ (c .if2 .taken))))
 
 returns-3 : tie.Need-returns-3
 unfolding contourBreach

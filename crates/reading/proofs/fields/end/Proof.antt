@@ -25,11 +25,12 @@ returns-2 c =
 returns-3 : tie.Need-returns-3
 unfolding endBreach
 returns-3 c =
+    let q = c .before .before .before .before .before .pre in
     let fine = sym (c .before .before .before .field-breach .ensures) ∙ c .before .before .if1 .left in
     stepped-end _ _ _ (omega arith) (omega arith) refl
     (record {
-      breached = sym (end-decides _ (c .before .before .before .before .before .pre .1) (c .before .before .before .before .before .pre .2) ∙ passed _ _ fine ∙ simp (le-ltb _ _ (c .if2 .left)));
-      whole = λ _. whole-read _ (c .before .before .before .before .before .pre .1) (c .before .before .before .before .before .pre .2);
+      breached = sym (end-decides _ (q .1) (q .2) ∙ passed _ _ fine ∙ simp (le-ltb _ _ (c .if2 .left)));
+      whole = λ _. whole-read _ (q .1) (q .2);
     })
 
 pub end-spec : {M : Type 1} → statement M

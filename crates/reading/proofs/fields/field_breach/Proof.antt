@@ -14,12 +14,13 @@ returns c = rw (← c .before .head-breach .ensures) (sym (found _ _ (c .if1 .ta
 returns-2 : tie.Need-returns-2
 unfolding fieldBreach
 returns-2 c =
+    let start = c .before .before .before .before .before in
     let fine = sym (c .before .before .before .head-breach .ensures) ∙ c .before .before .if1 .left in
-    let there = head-fine _ (c .before .before .before .before .before .pre .1) _ _ (c .before .before .before .before .before .pre .2) fine .1 in
-    sym (passed _ _ fine ∙ simp (ne-eqb _ _ (λ z. c .if2 .taken (c .before .before .before .before .before .pre .0 .sized there ∙ z))))
+    let there = head-fine _ (start .pre .1) _ _ (start .pre .2) fine .1 in
+    sym (passed _ _ fine ∙ simp (ne-eqb _ _ (λ z. c .if2 .taken (start .pre .0 .sized there ∙ z))))
 
 body-breach-requires : tie.Need-body-breach-requires
-body-breach-requires c κs = head-fine _ (c .before .before .before .before .before .pre .1) _ _ (c .before .before .before .before .before .pre .2) (sym (c .before .before .before .head-breach .ensures) ∙ c .before .before .if1 .left) .1
+body-breach-requires c κs = let start = c .before .before .before .before .before in head-fine _ (start .pre .1) _ _ (start .pre .2) (sym (c .before .before .before .head-breach .ensures) ∙ c .before .before .if1 .left) .1
 
 returns-3 : tie.Need-returns-3
 unfolding fieldBreach

@@ -18,15 +18,15 @@ returns c =
 returns-2 : tie.Need-returns-2
 unfolding Stage
 returns-2 c =
-    let m = c .before .before .before .pre .1 .measured in
-    let p = c .before .before .before .pre .1 .place in
+    let start = c .before .before .before in
+    let m = start .pre .1 .measured in
     let fine = sym (c .before .field-breach .ensures) ∙ c .if1 .left in
-    let n = next-field _ (m .short) _ (c .before .before .before .pre .0) (omega arith) 2 33 fine in
+    let n = next-field _ (m .short) _ (start .pre .0) (omega arith) 2 33 fine in
     stepped-on _ _ _ (omega arith) (omega arith) (omega arith)
     (record {
       measured = m;
-      all = c .before .before .before .pre .1 .all;
-      set = same-field _ 2 33 (sym p) ∙ fine;
+      all = start .pre .1 .all;
+      set = same-field _ 2 33 (sym (start .pre .1 .place)) ∙ fine;
       reached = reached-none _ (omega arith) (omega arith);
       place = refl;
     })

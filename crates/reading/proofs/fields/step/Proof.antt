@@ -13,7 +13,7 @@ returns : tie.Need-returns
 returns c = stepped-as _ _ _ (omega arith) (c .before .before .before .before .pre .2) (c .size .ensures)
 
 settings-requires : tie.Need-settings-requires
-settings-requires c κs = (c .before .before .before .before .before .pre .0, sized-due _ _ _ (c .if2 .taken) (c .before .before .before .before .before .pre .1))
+settings-requires c κs = let start = c .before .before .before .before .before in (start .pre .0, sized-due _ _ _ (c .if2 .taken) (start .pre .1))
 
 returns-2 : tie.Need-returns-2
 returns-2 c = stepped-as _ _ _ (omega arith) (c .before .before .before .before .before .before .pre .2) (c .settings .ensures)

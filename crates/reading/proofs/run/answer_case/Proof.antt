@@ -4,7 +4,6 @@ use Prim.Native.Nat.{_*_, _<_, _≤_}
 use native.Mathlib.Nat.{le-trans}
 use native.Mathlib.Omega.{arith}
 use lib.ListN.{length, getD}
-use lib.Seq.{length-front}
 use denote.Ref.{now}
 use borrow.Author.Needs.{needs}
 use Rattle.ground.proofs.Laws.Write.{written-fits, front, front-length, written-as}
@@ -21,10 +20,10 @@ abbrev start : tie.After-be162 → tie.Start
 start c = c .before .before .before .before .before .before .before .before .before
 
 abbrev sized : tie.After-decode-samples → tie.After-be162
-sized c = c .before .before .before
+sized c = c .before .before .before .before
 
 abbrev sampled : tie.After-clear → tie.After-decode-samples
-sampled c = c .before .before .before .before
+sampled c = c .before .before .before .before .before
 
 abbrev cleared : tie.After-decode-outline → tie.After-clear
 cleared c = c .before .before .before .before .before .before
@@ -46,7 +45,7 @@ cells-few c = le-trans (whole-cells (start c .pre .0) (c .before .be16 .ensures 
 cells-fit : (c : tie.After-clear) → c .clear .result ≤ length (now (start (sized (sampled c)) .args .stencil))
 cells-fit c = omega (arith, c .clear .ensures .1, cells-few (sized (sampled c)))
 
-outline-fits : (c : tie.Start) → (c .args .n ≤ length (now (c .args .colours))) × (2 * c .args .n ≤ length (now (c .args .coords))) × (c .args .k ≤ length (now (c .args .ends)))
+outline-fits : (c : tie.Start) → (c .args .l .segments ≤ length (now (c .args .colours))) × (2 * c .args .l .segments ≤ length (now (c .args .coords))) × (c .args .l .contours ≤ length (now (c .args .ends)))
 outline-fits c =
     let o = c .pre .0 .outlined in
     let l = c .pre .1 .1 in
@@ -59,20 +58,18 @@ begun c = start (sized (sampled (cleared (decoded c))))
 
 mul-decode-samples : tie.Need-mul-decode-samples
 mul-decode-samples c =
-    let k : getD (now (start (c .before) .args .s)) 7 0 < 256 = omega (arith, c .shared-slice-known2 .given 7) in
-    omega (arith, row-fits _ _ (c .before .before .be16 .ensures .1) k)
+    let m = c .before .before in
+    let k : getD (now (start m .args .s)) 7 0 < 256 = omega (arith, c .before .shared-slice-known2 .given 7) in
+    omega (arith, row-fits _ _ (m .before .be16 .ensures .1) k)
 
 decode-samples-requires : tie.Need-decode-samples-requires
 decode-samples-requires c κs =
-    let m = c .before .before in
+    let m = c .before .before .before in
     let w = start m .pre .0 in
     (whole-rows w (m .before .be16 .ensures .0) (m .be162 .ensures .0), le-trans (whole-samples w (m .before .be16 .ensures .0) (m .be162 .ensures .0)) (start m .pre .1 .1 .samples))
 
 mul-clear : tie.Need-mul-clear
-mul-clear c = let m = sized (c .before .before .before) in omega (arith, pair-fits _ _ (m .before .be16 .ensures .1) (m .be162 .ensures .1))
-
-decode-outline-requires : tie.Need-decode-outline-requires
-decode-outline-requires c κs = let s = start (sized (sampled (c .before .before .before .before .before))) in (s .pre .0 .outlined, outline-fits s)
+mul-clear c = let m = sized (c .before .before .before .before) in omega (arith, pair-fits _ _ (m .before .be16 .ensures .1) (m .be162 .ensures .1))
 
 slice-relend-prefix-run : tie.Need-slice-relend-prefix-run
 slice-relend-prefix-run c = let d = sampled (cleared (decoded (c .before))) in written-fits (d .decode-samples .ensures .0) (samples-fit d)
@@ -87,46 +84,35 @@ slice-aggregate-run-2 : tie.Need-slice-aggregate-run-2
 slice-aggregate-run-2 c = let d = cleared (decoded (c .before .before .before)) in front-length (d .clear .ensures .0) (cells-fit d)
 
 slice-reshare-prefix-run : tie.Need-slice-reshare-prefix-run
-slice-reshare-prefix-run c = let d = c .before .before .before .before .before in written-fits (decoded d .decode-outline .ensures .colours) (outline-fits (begun d) .0)
+slice-reshare-prefix-run c = let d = c .before .before .before in written-fits (decoded d .decode-outline .ensures .colours) (outline-fits (begun d) .0)
 
 slice-aggregate-run-3 : tie.Need-slice-aggregate-run-3
-slice-aggregate-run-3 c = let d = c .before .before .before .before .before .before in front-length (decoded d .decode-outline .ensures .colours) (outline-fits (begun d) .0)
+slice-aggregate-run-3 c = let d = c .before .before .before .before in front-length (decoded d .decode-outline .ensures .colours) (outline-fits (begun d) .0)
 
 slice-reshare-prefix-run-2 : tie.Need-slice-reshare-prefix-run-2
-slice-reshare-prefix-run-2 c = let d = c .before .before .before .before .before .before in written-fits (decoded d .decode-outline .ensures .coords) (outline-fits (begun d) .1)
+slice-reshare-prefix-run-2 c = let d = c .before .before .before .before in written-fits (decoded d .decode-outline .ensures .coords) (outline-fits (begun d) .1)
 
 slice-aggregate-run-4 : tie.Need-slice-aggregate-run-4
-slice-aggregate-run-4 c = let d = c .before .before .before .before .before .before .before in front-length (decoded d .decode-outline .ensures .coords) (outline-fits (begun d) .1)
+slice-aggregate-run-4 c = let d = c .before .before .before .before .before in front-length (decoded d .decode-outline .ensures .coords) (outline-fits (begun d) .1)
 
 slice-reshare-prefix-run-3 : tie.Need-slice-reshare-prefix-run-3
-slice-reshare-prefix-run-3 c = let d = c .before .before .before .before .before .before .before in written-fits (decoded d .decode-outline .ensures .ends) (outline-fits (begun d) .2)
+slice-reshare-prefix-run-3 c = let d = c .before .before .before .before .before in written-fits (decoded d .decode-outline .ensures .ends) (outline-fits (begun d) .2)
 
 slice-aggregate-run-5 : tie.Need-slice-aggregate-run-5
-slice-aggregate-run-5 c = let d = c .before .before .before .before .before .before .before .before in front-length (decoded d .decode-outline .ensures .ends) (outline-fits (begun d) .2)
+slice-aggregate-run-5 c = let d = c .before .before .before .before .before .before in front-length (decoded d .decode-outline .ensures .ends) (outline-fits (begun d) .2)
 
 run-requires : tie.Need-run-requires
 run-requires c κs =
-    let d = sampled (cleared (decoded (c .before .before .before .before .before .before .before .before))) in
-    (start (sized d) .pre .1 .0 .0, omega (arith, front-length (d .decode-samples .ensures .0) (samples-fit d), samples-few d))
-
-same-length-2 : tie.Need-same-length-2
-same-length-2 c =
-    let at-run = c .before .before .before .before .before .before in
-    let d = sampled (cleared (decoded (at-run .before .before .before .before .before .before .before .before .before))) .decode-samples in
-    length-front (d .last .1 .1 .1 .1 .0) (at-run .run .last .1 .1 .1 .1 .0) (d .result) (at-run .run .kept .1 .1 .1 .1 .0) ∙ d .kept .1 .1 .1 .1 .0
-
-same-length-3 : tie.Need-same-length-3
-same-length-3 c =
-    let at-run = c .before .before .before .before .before .before in
-    let d = cleared (decoded (at-run .before .before .before .before .before .before .before .before .before)) .clear in
-    length-front (d .last .0) (at-run .run .last .1 .1 .1 .1 .1 .0) (d .result) (at-run .run .kept .1 .1 .1 .1 .1 .0) ∙ d .kept .0
+    let d = sampled (cleared (decoded (c .before .before .before .before .before .before))) in
+    let s = start (sized d) in
+    (s .pre .1 .0 .0, omega (arith, front-length (d .decode-samples .ensures .0) (samples-fit d), samples-few d), omega (arith, s .pre .0 .headed))
 
 returns : tie.Need-returns
 returns c =
-    let at-settings = c .before .before .before .before .before .before .before .before .before .before in
-    let d = at-settings .before .before .before .before .before in
-    let o = decoded d .decode-outline .ensures in
-    let z = cleared (decoded d) in
+    let at-run = c .before .before .before .before .before .before in
+    let d = decoded (at-run .before .before .before .before .before .before .before) in
+    let o = d .decode-outline .ensures in
+    let z = cleared d in
     let x = sampled z in
     let m = sized x in
     let s = start m in
@@ -134,15 +120,14 @@ returns c =
     let h = m .be162 .ensures .0 in
     let f = outline-fits s in
     let e =
-    decoded-case (s .pre .0) w h (front (x .decode-samples .ensures .0) (samples-fit x) ∙ decoded-samples (s .pre .0) w h) (front (z .clear .ensures .0) (cells-fit z)) (at-settings .settings .ensures)
-    (front (o .colours) (f .0)) (front (o .coords) (f .1)) (front (o .ends) (f .2)) in
-    written-as _ (ap (λ i. answerText i (answer i)) e) (c .before .before .before .before .before .before .run .ensures)
+    decoded-case (s .pre .0) w h (front (x .decode-samples .ensures .0) (samples-fit x) ∙ decoded-samples (s .pre .0) w h) (front (z .clear .ensures .0) (cells-fit z)) (front (o .colours) (f .0))
+    (front (o .coords) (f .1)) (front (o .ends) (f .2)) in
+    written-as _ (ap (λ i. answerText i (answer i)) e) (at-run .run .ensures)
 
 pub answer-case-spec : {M : Type 1} → statement M
 answer-case-spec =
     tie.close
     (tie.spec (λ c κs. search needs) (λ c κs. search needs) (λ c. search needs) (λ c. omega (arith, c .shared-slice-known2 .given 7)) mul-decode-samples decode-samples-requires mul-clear
-    (λ c κs. cells-few (sized (c .before .before .before))) decode-outline-requires slice-relend-prefix-run slice-aggregate-run slice-relend-prefix-run-2 slice-aggregate-run-2
-    (λ c. omega (arith, begun (c .before .before .before .before) .pre .0 .headed)) (λ c κs. search needs) slice-reshare-prefix-run slice-aggregate-run-3
-    (λ c. omega (arith, begun (c .before .before .before .before .before .before) .pre .0 .outlined .sparse)) slice-reshare-prefix-run-2 slice-aggregate-run-4 slice-reshare-prefix-run-3 slice-aggregate-run-5
-    run-requires (λ c. search needs) same-length-2 same-length-3 (λ c. search needs) (λ c. search needs) (λ c. search needs) returns)
+    (λ c κs. cells-few (sized (c .before .before .before .before))) (λ c κs. search needs) slice-relend-prefix-run slice-aggregate-run slice-relend-prefix-run-2 slice-aggregate-run-2
+    slice-reshare-prefix-run slice-aggregate-run-3 (λ c. omega (arith, begun (c .before .before .before .before) .pre .0 .outlined .sparse)) slice-reshare-prefix-run-2 slice-aggregate-run-4
+    slice-reshare-prefix-run-3 slice-aggregate-run-5 run-requires (λ c. search needs) (λ c. search needs) (λ c. search needs) (λ c. search needs) (λ c. search needs) (λ c. search needs) returns)

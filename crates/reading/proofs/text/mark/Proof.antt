@@ -1,25 +1,25 @@
 -- `reading::text::mark` meets its contract. Assumes nothing.
-use borrow.Author.Tests.{eq-eqb, ne-eqb}
-use Rattle.inputs.specs.Stencil.{isProtected, isError}
+use mathlib.Core.Path.{sym, _∙_}
+use borrow.Author.Needs.{needs}
 use Rattle.reading.specs.Text.{mark as markOf}
 use Rattle.reading.proofs.text.mark.Statement.{statement}
 use Rattle.reading.proofs.text.mark.Tie as tie
 
 returns : tie.Need-returns
-unfolding markOf isProtected isError
-returns c = simp (eq-eqb _ _ (c .before .if1 .taken), eq-eqb _ _ (c .if2 .taken))
+unfolding markOf
+returns c = let p = c .before .before in simp (sym (p .before .is-protected .ensures) ∙ p .if1 .taken, sym (c .before .is-error .ensures) ∙ c .if2 .taken)
 
 returns-2 : tie.Need-returns-2
-unfolding markOf isProtected isError
-returns-2 c = simp (eq-eqb _ _ (c .before .if1 .taken), ne-eqb _ _ (c .if2 .left))
+unfolding markOf
+returns-2 c = let p = c .before .before in simp (sym (p .before .is-protected .ensures) ∙ p .if1 .taken, sym (c .before .is-error .ensures) ∙ c .if2 .left)
 
 returns-3 : tie.Need-returns-3
-unfolding markOf isProtected isError
-returns-3 c = simp (ne-eqb _ _ (c .before .if1 .left), eq-eqb _ _ (c .if3 .taken))
+unfolding markOf
+returns-3 c = let p = c .before .before in simp (sym (p .before .is-protected .ensures) ∙ p .if1 .left, sym (c .before .is-error2 .ensures) ∙ c .if3 .taken)
 
 returns-4 : tie.Need-returns-4
-unfolding markOf isProtected isError
-returns-4 c = simp (ne-eqb _ _ (c .before .if1 .left), ne-eqb _ _ (c .if3 .left))
+unfolding markOf
+returns-4 c = let p = c .before .before in simp (sym (p .before .is-protected .ensures) ∙ p .if1 .left, sym (c .before .is-error2 .ensures) ∙ c .if3 .left)
 
 pub mark-spec : {M : Type 1} → statement M
-mark-spec = tie.close (tie.spec returns returns-2 returns-3 returns-4)
+mark-spec = tie.close (tie.spec (λ c κs. search needs) (λ c κs. search needs) returns returns-2 (λ c κs. search needs) returns-3 returns-4)

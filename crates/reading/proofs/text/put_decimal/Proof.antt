@@ -46,9 +46,10 @@ same-length c = length-set (c .before .loop .out) (c .before .before .before .be
 
 returns : tie.Need-returns Inv-loop μ-loop
 returns c =
+    let at = c .before .before .before .before .args .at in
     record {
-      holds = ap (sets (c .before .loop .out) (c .before .before .before .before .args .at)) (sym (decimal-one (c .before .loop .m) (c .loop-test .left))) ∙ c .before .loop .inv .3;
-      to = ap (λ k. c .before .before .before .before .args .at + k) (c .before .before .digits .ensures);
+      holds = ap (sets (c .before .loop .out) at) (sym (decimal-one (c .before .loop .m) (c .loop-test .left))) ∙ c .before .loop .inv .3;
+      to = ap (λ k. at + k) (c .before .before .digits .ensures);
     }
 
 pub put-decimal-spec : {M : Type 1} → statement M

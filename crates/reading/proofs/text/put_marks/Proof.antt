@@ -33,7 +33,10 @@ loop-again c =
 
 returns : tie.Need-returns Inv-loop μ-loop
 unfolding marksText
-returns c = let z : c .before .loop .x ≡ c .before .before .before .before .args .w = omega arith in written-to _ (ap (λ x. c .before .before .before .before .args .at + x) z) (tab-all _ (cell (now (c .before .before .before .before .args .st)) (c .before .before .before .before .args .from)) (c .before .loop .inv .2) z)
+returns c =
+    let d = c .before .before .before .before .args in
+    let z : c .before .loop .x ≡ d .w = omega arith in
+    written-to _ (ap (λ x. d .at + x) z) (tab-all _ (cell (now (d .st)) (d .from)) (c .before .loop .inv .2) z)
 
 pub put-marks-spec : {M : Type 1} → statement M
 put-marks-spec =

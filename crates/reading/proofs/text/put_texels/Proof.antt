@@ -15,34 +15,34 @@ use Rattle.reading.proofs.text.put_texels.Statement.{statement}
 use Rattle.reading.proofs.text.put_texels.Tie as tie
 
 abbrev Inv-loop : tie.InvT-loop
-Inv-loop out₀ at st xs w ch n next₀ k₀ out next k = (k ≤ n) × (length out ≡ length out₀) × (next ≤ at + 21 * k) × Written out₀ at (joined k (flaggedText w st (λ i. getD xs (i * ch) nan))) next out
+Inv-loop out₀ at st xs b n next₀ k₀ out next k = (k ≤ n) × (length out ≡ length out₀) × (next ≤ at + 21 * k) × Written out₀ at (joined k (flaggedText (b .width) st (λ i. getD xs (i * b .channels) nan))) next out
 
 abbrev μ-loop : tie.MeasureT-loop
-μ-loop out₀ at st xs w ch n next₀ k₀ out next k = n - k
+μ-loop out₀ at st xs b n next₀ k₀ out next k = n - k
 
 loop-holds : tie.Need-loop-holds Inv-loop μ-loop
 loop-holds c = (omega arith, refl, omega arith, joined-none _ _ _)
 
 put-flagged-requires : tie.Need-put-flagged-requires Inv-loop μ-loop
 put-flagged-requires c κs =
-    let start = c .before .before .before .before .before .before in
-    ((omega arith, omega arith), (omega (arith, row-within (start .args .ch) (c .before .loop-test .taken)), start .pre .1 .2, omega arith))
+    let start = c .before .before .before .before .before .before .before in
+    ((omega arith, omega arith), (omega (arith, row-within (start .args .b .channels) (c .before .loop-test .taken)), start .pre .1 .2, omega arith))
 
 loop-again : tie.Need-loop-again Inv-loop μ-loop
 loop-again c =
-    let i = c .before .before .before .before .before .loop .inv in
-    let d = c .before .before .before .before .before .before .before .before .before .args in
-    let f = flaggedText (d .w) (now (d .st)) (λ i. getD (now (d .xs)) (i * d .ch) nan) in
+    let l = c .before .before .before .before .before in
+    let i = l .loop .inv in
+    let d = l .before .before .before .before .before .args in
     let w = c .before .before .put-flagged .ensures in
-    let k = c .before .before .before .before .before .loop .k in (
+    let k = l .loop .k in (
       omega arith,
       written-length w ∙ i .1,
-      omega (arith, w .to, i .2, flagged-length (d .w) (now (d .st)) (λ i. getD (now (d .xs)) (i * d .ch) nan) k (omega arith)),
-      joined-next k f (i .3) w,
+      omega (arith, w .to, i .2, flagged-length (d .b .width) (now (d .st)) (λ i. getD (now (d .xs)) (i * d .b .channels) nan) k (omega arith)),
+      joined-next k _ (i .3) w,
     )
 
 returns : tie.Need-returns Inv-loop μ-loop
 returns c = joined-all _ _ (c .before .loop .inv .3) (omega arith)
 
 pub put-texels-spec : {M : Type 1} → statement M
-put-texels-spec = tie.close (tie.spec Inv-loop μ-loop loop-holds put-flagged-requires (λ c. omega arith) (λ c. omega arith) loop-again (λ c. c .before .loop .inv .1) returns)
+put-texels-spec = tie.close (tie.spec Inv-loop μ-loop (λ c. omega arith) loop-holds put-flagged-requires (λ c. omega arith) (λ c. omega arith) loop-again (λ c. c .before .loop .inv .1) returns)
