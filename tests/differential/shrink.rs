@@ -4,6 +4,7 @@ use crate::cases::{contours_of, set_contours, Case};
 use crate::judge::Seen;
 use crate::sides::{compare, Totals};
 use std::fmt::Write;
+use std::ops::Range;
 
 pub fn text(case: &Case) -> String {
     let i = &case.input;
@@ -27,30 +28,34 @@ fn differs(case: &Case) -> Option<String> {
     compare(case, &mut Seen::new(), &mut Totals::default()).err()
 }
 
-/// The case without row or column `at`, where its lengths are those of its size.
-fn without(case: &Case, row: bool, at: usize) -> Option<Case> {
+/// The case without these rows or columns, where its lengths are those of its size.
+fn without(case: &Case, row: bool, gone: Range<usize>) -> Option<Case> {
     let (w, h, n) = (case.input.width, case.input.height, case.input.channels);
     if w.checked_mul(h) != Some(case.stencil.len()) || case.stencil.len().checked_mul(n) != Some(case.samples.len()) || w * h == 0 {
         return None;
     }
-    let keep = |k: usize| if row { k / w != at } else { k % w != at };
+    let keep = |k: usize| !gone.contains(&if row { k / w } else { k % w });
     let mut c = case.clone();
     c.samples = (0..w * h).filter(|&k| keep(k)).flat_map(|k| case.samples[k * n..(k + 1) * n].to_vec()).collect();
     c.stencil = (0..w * h).filter(|&k| keep(k)).map(|k| case.stencil[k]).collect();
     if row {
-        c.input.height -= 1;
+        c.input.height -= gone.len();
     } else {
-        c.input.width -= 1;
+        c.input.width -= gone.len();
     }
     Some(c)
 }
 
-/// Every case that is one step simpler.
+/// Every case that is one step simpler, the largest steps first.
 fn simpler(case: &Case) -> Vec<Case> {
     let mut list = Vec::new();
     if case.stencil.len() <= 10_000 {
-        list.extend((0..case.input.height.min(200)).filter_map(|k| without(case, true, k)));
-        list.extend((0..case.input.width.min(200)).filter_map(|k| without(case, false, k)));
+        for (row, n) in [(true, case.input.height.min(200)), (false, case.input.width.min(200))] {
+            list.extend([0..n / 2, n / 2..n].into_iter().filter(|half| half.len() > 1).filter_map(|half| without(case, row, half)));
+        }
+        for (row, n) in [(true, case.input.height.min(200)), (false, case.input.width.min(200))] {
+            list.extend((0..n).filter_map(|k| without(case, row, k..k + 1)));
+        }
     }
     let outlined = case.input.ends.last().copied().unwrap_or(0) == case.input.colours.len()
         && case.input.ends.windows(2).all(|e| e[0] <= e[1])
