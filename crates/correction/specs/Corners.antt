@@ -6,7 +6,7 @@ use lib.ListN.{getD, length, take, drop}
 use lib.Dec.{eqb, ltb}
 use lib.IntN.{ℤ, pos, negsuc}
 use lib.Ieee.{Float, nan, binary64, sub}
-use Rattle.detectors.specs.Constants.{halfOf}
+use Rattle.ranges.specs.Constants.{halfOf}
 use Rattle.numbers.specs.Rounding.{floorOf}
 use Rattle.ground.specs.Lists.{tab, any, some}
 

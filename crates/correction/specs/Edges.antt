@@ -3,8 +3,8 @@ use Prim.Native.Nat.{ℕ, _+_, _-_}
 use mathlib.Core.Bool.{Bool, _&&_, _||_}
 use mathlib.Core.List.{List}
 use lib.Ieee.{Float}
-use Rattle.detectors.specs.declared.config.Settings.{Settings}
-use Rattle.detectors.specs.Config.{radius}
+use Rattle.ranges.specs.declared.config.Settings.{Settings}
+use Rattle.ranges.specs.Config.{radius}
 use Rattle.detectors.specs.Edge.{protectsLower, protectsUpper}
 use Rattle.correction.specs.Bitmap.{inBounds}
 

@@ -3,10 +3,10 @@ use Prim.Native.Nat.{ℕ, _+_, _-_}
 use mathlib.Core.Bool.{Bool, true, false, _&&_, _||_}
 use mathlib.Core.List.{List, [], _∷_}
 use lib.Ieee.{Float}
-use Rattle.detectors.specs.declared.config.Settings.{Settings}
+use Rattle.ranges.specs.declared.config.Settings.{Settings}
 use Rattle.detectors.specs.Texel.{texelMedian}
 use Rattle.correction.specs.Bitmap.{inBounds}
-use Rattle.detectors.specs.Config.{sideSpan, diagonalSpan}
+use Rattle.ranges.specs.Config.{sideSpan, diagonalSpan}
 use Rattle.detectors.specs.Linear.{hasLinearArtifact}
 use Rattle.detectors.specs.Diagonal.{hasDiagonalArtifact}
 

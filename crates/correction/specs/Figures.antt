@@ -4,11 +4,11 @@ use mathlib.Core.Bool.{true, false}
 use mathlib.Core.List.{List, [], _∷_}
 use Prim.Native.Nat.{ℕ}
 use lib.Ieee.{Float, nan, binary32, binary64, ofBits}
-use Rattle.detectors.specs.Constants.{epsilon, oneLessEpsilon}
+use Rattle.ranges.specs.Constants.{epsilon, oneLessEpsilon}
 use Rattle.numbers.specs.SquareRoot.{sqrtOf}
 use Rattle.numbers.specs.EquationSolver.{rootsOf}
 use Rattle.correction.specs.declared.pass.Answer.the-variants.{Accepted}
-use Rattle.detectors.specs.Config.{indiscriminate, edgePriority, edgeOnly}
+use Rattle.ranges.specs.Config.{indiscriminate, edgePriority, edgeOnly}
 use Rattle.inputs.specs.Checks.{Input}
 use Rattle.detectors.specs.Linear.{crossing}
 use Rattle.detectors.specs.Pairs.{inside}

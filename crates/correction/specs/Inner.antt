@@ -8,7 +8,7 @@ use lib.Dec.{eqb, ltb}
 use lib.IntN.{ℤ, pos, negsuc}
 use lib.Ieee.{Float, nan}
 use Rattle.numbers.specs.Scalar.{medianOf}
-use Rattle.detectors.specs.declared.config.Settings.{Settings}
+use Rattle.ranges.specs.declared.config.Settings.{Settings}
 use Rattle.detectors.specs.Texel.{texelMedian}
 use Rattle.detectors.specs.Edge.{protectsLower, protectsUpper}
 use Rattle.correction.specs.declared.bitmap.Visit.{Visit}

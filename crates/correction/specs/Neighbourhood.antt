@@ -5,9 +5,9 @@ use Prim.Native.Nat.{ℕ, _+_, _-_, _≤_}
 use mathlib.Core.Bool.{true, false}
 use mathlib.Core.List.{List}
 use lib.Ieee.{Float}
-use Rattle.detectors.specs.declared.config.Settings.{Settings}
+use Rattle.ranges.specs.declared.config.Settings.{Settings}
 use Rattle.correction.specs.Bitmap.{inBounds}
-use Rattle.detectors.specs.Config.{sideSpan, diagonalSpan}
+use Rattle.ranges.specs.Config.{sideSpan, diagonalSpan}
 
 -- The same of the nine are inside, and those have the same texels.
 pub record SameAround (tex : ℕ → ℕ → List Float) (w h x y : ℕ) (tex' : ℕ → ℕ → List Float) (w' h' x' y' : ℕ) : Type 0 where

@@ -3,7 +3,6 @@ use mathlib.Core.Path.{_≡_}
 use Prim.Native.Nat.{ℕ, _*_, _/_, _%_}
 use mathlib.Core.Bool.{Bool, true, false, cond, not, _&&_, _||_}
 use mathlib.Core.List.{List}
-use lib.ListN.{getD, length}
 use lib.Dec.{eqb}
 use lib.Ieee.{Float}
 use Rattle.correction.specs.declared.pass.Answer.{Answer}
@@ -11,7 +10,7 @@ use Rattle.correction.specs.declared.pass.Answer.the-variants.{Accepted,
 use Rattle.ground.specs.Lists.{tab}
 use Rattle.correction.specs.Bitmap.{texel}
 use Rattle.inputs.specs.Stencil.{stencilByte, protectedCount, errorCount, countsOf}
-use Rattle.detectors.specs.Config.{disabled, edgePriority, edgeOnly}
+use Rattle.ranges.specs.Config.{disabled, edgePriority, edgeOnly}
 use Rattle.inputs.specs.Checks.{Input, input, accepted, refusalNumber, refusalPlace}
 use Rattle.correction.specs.Corners.{contours, cornersProtect}
 use Rattle.correction.specs.Edges.{edgesProtect}

@@ -4,8 +4,8 @@ use Prim.Native.Nat.{_≤_}
 use mathlib.Core.List.{List, [], _∷_}
 use lib.Dec.{T}
 use lib.Ieee.{Float, le}
-use Rattle.detectors.specs.declared.config.Settings.{Settings}
-use Rattle.detectors.specs.Config.{disabled}
+use Rattle.ranges.specs.declared.config.Settings.{Settings}
+use Rattle.ranges.specs.Config.{disabled}
 use Rattle.inputs.specs.Checks.{Input}
 use Rattle.correction.specs.Corners.{Segment, contours}
 

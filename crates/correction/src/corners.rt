@@ -8,10 +8,10 @@ ghost use Rattle.correction.specs.Corners as Corners;
 ghost use Rattle.correction.specs.Inner.{Celled, painted, spot, clip, cornerHits, contourHits};
 ghost use Rattle.inputs.specs.Inner.{Outlined};
 use crate::bitmap;
-use detectors::constants;
 use inputs::sizes::Bitmap;
 use inputs::stencil;
 use numbers::rounding;
+use ranges::constants;
 
 // A contour: its segments from `from` up to `end`.
 struct Contour {

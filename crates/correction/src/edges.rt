@@ -11,11 +11,11 @@ ghost use Rattle.correction.specs.Inner.{Sized, Centred, painted, protec
 ghost use Rattle.inputs.specs.Stencil.{setProtected};
 use crate::bitmap;
 use crate::bitmap::Centre;
-use detectors::config::Settings;
 use detectors::edge;
 use detectors::texel;
 use inputs::sizes::Bitmap;
 use inputs::stencil;
+use ranges::config::Settings;
 
 // How far from the outline the medians of a pair may be together: in a row, in a column, across.
 struct Radii {

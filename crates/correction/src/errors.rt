@@ -3,17 +3,17 @@ ghost use mathlib.Core.Path.{_≡_};
 ghost use Prim.Native.Nat.{_+_, _*_, _<_};
 ghost use lib.Dec.{eqb};
 ghost use lib.ListN.{length};
-ghost use Rattle.detectors.specs.Config.{sideSpan, diagonalSpan};
+ghost use Rattle.ranges.specs.Config.{sideSpan, diagonalSpan};
 ghost use Rattle.correction.specs.Bitmap.{texel};
 ghost use Rattle.correction.specs.Errors as Errors;
 ghost use Rattle.correction.specs.Inner.{Sized, marked, found};
 use crate::bitmap;
 use crate::bitmap::Centre;
-use detectors::config::Settings;
 use detectors::diagonal;
 use detectors::linear;
 use inputs::sizes::Bitmap;
 use inputs::stencil;
+use ranges::config::Settings;
 
 // Texel a of t against the side neighbour at column nx and row ny, counted from 1: in its column where nx is its own, else in its row.
 fn side_artifact(

@@ -12,12 +12,12 @@ use crate::collapse;
 use crate::corners;
 use crate::edges;
 use crate::errors;
-use detectors::config;
-use detectors::config::Settings;
 use inputs::checks;
 use inputs::sizes::Bitmap;
 use inputs::stencil;
 use inputs::stencil::Counts;
+use ranges::config;
+use ranges::config::Settings;
 
 // What the pass answers: the counts, or the number of the first check that fails and its place.
 pub enum Answer {

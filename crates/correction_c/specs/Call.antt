@@ -2,7 +2,7 @@
 use Prim.Native.Nat.{ℕ}
 use mathlib.Core.List.{List}
 use lib.Ieee.{Float}
-use Rattle.detectors.specs.declared.config.Settings.{Settings}
+use Rattle.ranges.specs.declared.config.Settings.{Settings}
 use Rattle.inputs.specs.Checks.{Input, input}
 
 abbrev pub settingsOf : Float → Float → Float → Float → Settings

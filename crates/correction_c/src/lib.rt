@@ -8,7 +8,7 @@ ghost use Rattle.correction_c.specs.Call.{called};
 use correction::pass;
 use correction::pass::Answer;
 use correction::view;
-use detectors::config::Settings;
+use ranges::config::Settings;
 
 // Answers the number of the first check that fails, 0 where all pass, and writes its place and the two counts.
 #[no_mangle]

@@ -1,5 +1,4 @@
 -- What the pass may know of the detectors.
-pub mod Constants
 pub mod Finite
 pub mod Falls
 pub mod Alike

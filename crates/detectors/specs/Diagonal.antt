@@ -5,13 +5,13 @@ use mathlib.Core.List.{List, []}
 use lib.ListN.{getD}
 use lib.Ieee.{Float, binary32, binary64, lt, neg, add, sub, mul, div}
 use Rattle.numbers.specs.Constants.{zeroOf, oneOf}
-use Rattle.detectors.specs.Constants.{halfOf}
+use Rattle.ranges.specs.Constants.{halfOf}
 use Rattle.numbers.specs.Scalar.{medianOf}
 use Rattle.numbers.specs.Rounding.{narrowOf}
 use Rattle.numbers.specs.EquationSolver.{rootsOf}
 use Rattle.ground.specs.Lists.{any, some}
 use Rattle.detectors.specs.Texel.{channel, texelMedian}
-use Rattle.detectors.specs.Classifier.{rangeTest}
+use Rattle.ranges.specs.Classifier.{rangeTest}
 use Rattle.detectors.specs.Pairs.{guard, inside, next, difference}
 
 -- channel i of a, b, c and d

@@ -4,7 +4,7 @@ use mathlib.Core.Bool.{Bool, _&&_}
 use mathlib.Core.List.{List}
 use lib.Ieee.{Float, binary32, binary64, lt, eq, ne, add, sub, div}
 use Rattle.numbers.specs.Constants.{zeroOf, oneOf}
-use Rattle.detectors.specs.Constants.{halfOf}
+use Rattle.ranges.specs.Constants.{halfOf}
 use Rattle.numbers.specs.Scalar.{absOf}
 use Rattle.ground.specs.Lists.{any}
 use Rattle.detectors.specs.Texel.{channel, texelMedian}

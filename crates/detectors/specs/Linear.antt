@@ -6,7 +6,7 @@ use lib.Ieee.{Float, binary32, binary64, sub, div}
 use Rattle.numbers.specs.Constants.{zeroOf, oneOf}
 use Rattle.ground.specs.Lists.{any}
 use Rattle.detectors.specs.Texel.{texelMedian}
-use Rattle.detectors.specs.Classifier.{rangeTest}
+use Rattle.ranges.specs.Classifier.{rangeTest}
 use Rattle.detectors.specs.Pairs.{guard, inside, mixedMedian, difference}
 
 -- t = dA/(dA−dB), f32 differences, f64 quotient

@@ -5,7 +5,7 @@ use mathlib.Core.List.{List}
 use lib.Dec.{ltb}
 use lib.Ieee.{Float, binary32, lt, le, sub}
 use Rattle.numbers.specs.Scalar.{medianOf, absOf, mixOf}
-use Rattle.detectors.specs.Constants.{halfOf, epsilon, oneLessEpsilon}
+use Rattle.ranges.specs.Constants.{halfOf, epsilon, oneLessEpsilon}
 use Rattle.detectors.specs.Texel.{channel}
 
 -- |am−0.5| ≥ |bm−0.5| in f32

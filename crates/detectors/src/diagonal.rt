@@ -4,18 +4,19 @@ ghost use Prim.Native.Nat.{_<_};
 ghost use Rattle.numbers.specs.EquationSolver.{Listed};
 ghost use Rattle.detectors.specs.Diagonal as Diagonal;
 ghost use Rattle.ground.specs.Lists.{any};
-ghost use Rattle.detectors.specs.Config as Config;
+ghost use Rattle.ranges.specs.Config as Config;
 ghost use Rattle.detectors.specs.Inner.{rootAt};
-use crate::classifier;
-use crate::classifier::Classifier;
-use crate::config::Settings;
-use crate::constants;
 use crate::pairs;
 use crate::texel;
 use numbers::equation_solver;
 use numbers::equation_solver::Roots;
 use numbers::rounding;
 use numbers::scalar;
+use ranges::classifier;
+use ranges::classifier::Classifier;
+use ranges::config;
+use ranges::config::Settings;
+use ranges::constants;
 
 // What both coefficients of channel i share: a less b less c.
 fn abc(m: [[f32; 3]; 4], i: usize) -> f32
@@ -176,7 +177,7 @@ pub fn has_diagonal_artifact(s: Settings, protected: bool, am: f32, m: [[f32; 3]
     pairs::guard(am, dm)
         && some_pair(
             Classifier {
-                span: s.ratio * s.diagonal,
+                span: config::diagonal_span(s),
                 protected,
             },
             am,

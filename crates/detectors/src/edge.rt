@@ -2,14 +2,14 @@
 ghost use mathlib.Core.Path.{_≡_};
 ghost use Prim.Native.Nat.{_<_};
 ghost use lib.Ieee.{binary32, sub};
-ghost use Rattle.detectors.specs.Constants.{halfOf};
+ghost use Rattle.ranges.specs.Constants.{halfOf};
 ghost use Rattle.numbers.specs.Scalar.{absOf};
-ghost use Rattle.detectors.specs.Config as Config;
+ghost use Rattle.ranges.specs.Config as Config;
 ghost use Rattle.detectors.specs.Edge as Edge;
-use crate::constants;
 use crate::pairs;
 use numbers::rounding;
 use numbers::scalar;
+use ranges::constants;
 
 // How far from the outline the two medians of a pair may be, together.
 pub fn radius(length: f64) -> f32

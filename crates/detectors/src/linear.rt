@@ -1,14 +1,15 @@
 // The linear detector: a texel against a side neighbour.
 ghost use mathlib.Core.Path.{_≡_};
 ghost use Rattle.ground.specs.Lists.{any};
-ghost use Rattle.detectors.specs.Config as Config;
+ghost use Rattle.ranges.specs.Config as Config;
 ghost use Rattle.detectors.specs.Linear as Linear;
-use crate::classifier;
-use crate::classifier::Classifier;
-use crate::config::Settings;
 use crate::pairs;
 use crate::pairs::difference;
 use crate::texel;
+use ranges::classifier;
+use ranges::classifier::Classifier;
+use ranges::config;
+use ranges::config::Settings;
 
 // Where a difference that is da at a and db at b is zero between them.
 fn crossing(da: f32, db: f32) -> f64
@@ -51,17 +52,6 @@ fn some_pair(k: Classifier, am: f32, bm: f32, a: [f32; 3], b: [f32; 3]) -> bool
             || has_linear_artifact_inner(k, am, bm, a, b, difference(a, 2), difference(b, 2)))
 }
 
-// The span of a side neighbour.
-fn side_span(s: Settings, upright: bool) -> f64
-    ensures { λ r. ⌜ r ≡ Config.sideSpan s upright ⌝ }
-{
-    if upright {
-        s.ratio * s.vertical
-    } else {
-        s.ratio * s.horizontal
-    }
-}
-
 // Texel a, whose median is am, against its neighbour b in the row, or upright in the column.
 pub fn has_linear_artifact(
     s: Settings,
@@ -77,7 +67,7 @@ pub fn has_linear_artifact(
     pairs::guard(am, bm)
         && some_pair(
             Classifier {
-                span: side_span(s, upright),
+                span: config::side_span(s, upright),
                 protected,
             },
             am,

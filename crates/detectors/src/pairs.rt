@@ -2,8 +2,8 @@
 ghost use mathlib.Core.Path.{_≡_};
 ghost use Prim.Native.Nat.{_<_};
 ghost use Rattle.detectors.specs.Pairs as Pairs;
-use crate::constants;
 use numbers::scalar;
+use ranges::constants;
 
 // The farther one from the outline is tested.
 pub fn guard(am: f32, bm: f32) -> bool

@@ -3,7 +3,7 @@ mod refusals;
 mod run;
 mod show;
 
-use detectors::config::Settings;
+use ranges::config::Settings;
 
 fn case_p() -> [f32; 6] {
     [1.0, 0.0, 0.75, 0.0, 1.0, 0.75]

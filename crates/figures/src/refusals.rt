@@ -1,6 +1,6 @@
 // Each refusal with its place. A stencil that is left as it was shows as `?`.
 use crate::run;
-use detectors::config::Settings;
+use ranges::config::Settings;
 
 fn sized(name: &[u8], w: usize, h: usize, ch: usize, stencil: &mut [u8]) {
     let mut xs = [0.0f32; 6];

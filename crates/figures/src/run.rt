@@ -1,8 +1,8 @@
 // A figure is run through the public pass and printed.
 use crate::show;
 use correction::pass;
-use detectors::config::Settings;
 use inputs::sizes::Bitmap;
+use ranges::config::Settings;
 
 // Ratio 1 and three equal lengths.
 pub fn all(l: f64) -> Settings {

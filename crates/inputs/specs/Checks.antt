@@ -6,8 +6,8 @@ use lib.ListN.{getD, length}
 use lib.Dec.{eqb, ltb, leb}
 use lib.Ieee.{Float, Format, binary32, binary64, nan, le, neg}
 use Rattle.numbers.specs.Constants.{zeroOf}
-use Rattle.detectors.specs.Constants.{limitOf}
-use Rattle.detectors.specs.declared.config.Settings.{Settings}
+use Rattle.ranges.specs.Constants.{limitOf}
+use Rattle.ranges.specs.declared.config.Settings.{Settings}
 use Rattle.ground.specs.Lists.{first}
 use Rattle.ground.specs.Refuse.{firstFailing}
 

@@ -8,8 +8,8 @@ ghost use lib.Ieee.{binary32, binary64};
 ghost use Rattle.inputs.specs.Checks as Checks;
 ghost use Rattle.inputs.specs.Checks.{input};
 use crate::sizes::Bitmap;
-use detectors::config::Settings;
-use detectors::constants;
+use ranges::config::Settings;
+use ranges::constants;
 
 // The first check that fails and its place; 0 and 0 where all pass.
 pub struct Refusal {

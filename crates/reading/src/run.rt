@@ -15,9 +15,9 @@ use crate::fields::Layout;
 use crate::text;
 use correction::pass;
 use correction::pass::Answer;
-use detectors::config::Settings;
 use ground::bytes;
 use inputs::sizes::Bitmap;
+use ranges::config::Settings;
 
 // The settings field.
 fn settings(s: &[u8]) -> Settings

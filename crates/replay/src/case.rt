@@ -8,8 +8,8 @@ use crate::answer;
 use crate::number;
 use correction::pass;
 use correction::pass::Answer;
-use detectors::config::Settings;
 use ground::bytes;
+use ranges::config::Settings;
 
 // Where a case begins, and how many samples, cells, colours, coordinates and ends it holds.
 pub struct Case {

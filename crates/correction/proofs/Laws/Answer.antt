@@ -4,7 +4,6 @@
 --     answers-fix       and whatever has them is that answer
 use mathlib.Core.Path.{_≡_, refl, sym, _∙_, ap, subst}
 use mathlib.Core.Bool.{Bool, true, false, cond, true≢false}
-use Prim.Native.Nat.{ℕ}
 use borrow.Author.Tests.{eqb-true, eq-eqb}
 use Rattle.correction.specs.declared.pass.Answer.{Answer}
 use Rattle.correction.specs.declared.pass.Answer.the-variants.{Accepted, Refused}

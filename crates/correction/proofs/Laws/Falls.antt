@@ -5,10 +5,11 @@ use mathlib.Core.List.{List, [], _∷_}
 use Prim.Native.Nat.{ℕ, _+_, _-_}
 use lib.Ieee.{Float}
 use Rattle.ground.proofs.Laws.Bools.{and-implies, or-implies, four-imply}
-use Rattle.detectors.specs.declared.config.Settings.{Settings}
-use Rattle.detectors.specs.Config.{sideSpan, diagonalSpan}
+use Rattle.ranges.specs.declared.config.Settings.{Settings}
+use Rattle.ranges.specs.Config.{sideSpan, diagonalSpan}
 use Rattle.detectors.specs.Texel.{texelMedian}
-use Rattle.detectors.proofs.Laws.Falls.{Spans, has-linear-artifact-falls, has-diagonal-artifact-falls}
+use Rattle.ranges.proofs.Laws.Falls.{Spans}
+use Rattle.detectors.proofs.Laws.Falls.{has-linear-artifact-falls, has-diagonal-artifact-falls}
 use Rattle.correction.specs.Bitmap.{inBounds}
 use Rattle.correction.specs.Errors.{sideArtifact, someSide, diagonalArtifact, someDiagonal, someArtifact, hasArtifact}
 use Rattle.correction.specs.Stricter.{NoSmaller}

@@ -11,9 +11,9 @@ use Rattle.ground.specs.Refuse.{firstFailing}
 use Rattle.correction.specs.Bitmap.{texel, inBounds}
 use Rattle.inputs.specs.Stencil.{stencilByte, isProtected, isError, protectedCount, errorCount}
 use Rattle.detectors.specs.Texel.{texelMedian}
-use Rattle.detectors.specs.Config.{sideSpan, diagonalSpan, radius}
+use Rattle.ranges.specs.Config.{sideSpan, diagonalSpan, radius}
 use Rattle.inputs.specs.Checks.{badChannels, badSide, badSize, badSampleCount, badCellCount, badLength, settingsPlace, badSettings, oversize, samplesPlace, badSamples, badOutlines, endBefore, badEnd, endsPlace, badEnds, badSegment, segmentsPlace, badSegments, refusalNumber, accepted}
-use Rattle.detectors.specs.Classifier.{fallsBelow, risesAbove, liesOutside, candidate, within, inRange, rangeTest}
+use Rattle.ranges.specs.Classifier.{fallsBelow, risesAbove, liesOutside, candidate, within, inRange, rangeTest}
 use Rattle.detectors.specs.Pairs.{guard, inside, mixedChannel, mixedMedian, next, difference}
 use Rattle.detectors.specs.Linear.{crossing, linearAt, linearPair, linearPairs, hasLinearArtifact}
 use Rattle.detectors.specs.Diagonal.{abc, linearTerm, squareTerm, turningPoint, curve, curveChannel, curveMedian, middleDifference, quadraticRoots, pairRoots, movedEnd, turningTest, rootTests, diagonalAt, diagonalPair, diagonalPairs, hasDiagonalArtifact}

@@ -11,19 +11,20 @@ use lib.IntN.{pos}
 use lib.Ieee.{Float, fin, Format, binary32, binary64, le, lt, mul, ofBits}
 use borrow.Author.Tests.{eqb-true}
 use Rattle.numbers.specs.Constants.{zeroOf, oneOf}
-use Rattle.detectors.specs.Constants.{limitOf}
+use Rattle.ranges.specs.Constants.{limitOf}
 use Rattle.numbers.specs.Scalar.{absOf}
 use Rattle.numbers.proofs.Laws.Order.{nought, abs-le}
 use Rattle.numbers.proofs.Laws.Monotone.{mul-not-negative}
 use Rattle.numbers.proofs.Laws.Bounds.{Within, within-no-nan, within-of-le, between-within, mul-within}
 use Rattle.ground.proofs.Laws.Bools.{holds}
-use Rattle.detectors.specs.declared.config.Settings.{Settings}
-use Rattle.detectors.specs.Config.{sideSpan, diagonalSpan}
+use Rattle.ranges.specs.declared.config.Settings.{Settings}
+use Rattle.ranges.specs.Config.{sideSpan, diagonalSpan}
 use Rattle.detectors.specs.Texel.{texelMedian}
-use Rattle.detectors.specs.Classifier.{compared}
+use Rattle.ranges.specs.Classifier.{compared}
 use Rattle.detectors.specs.Pairs.{inside, mixedMedian}
 use Rattle.detectors.specs.Diagonal.{curveMedian}
-use Rattle.detectors.proofs.Laws.Finite.{SmallTexel, Span, SmallFour, AllFinite, linear-finite, diagonal-finite, upper-finite, lower-finite}
+use Rattle.ranges.proofs.Laws.Finite.{Span, AllFinite}
+use Rattle.detectors.proofs.Laws.Finite.{SmallTexel, SmallFour, linear-finite, diagonal-finite, upper-finite, lower-finite}
 use Rattle.correction.specs.Bitmap.{texel, inBounds}
 use Rattle.inputs.specs.Checks.{Input, badLength, oversize, refusalNumber, accepted}
 use Rattle.correction.specs.Pass.{texels}

@@ -7,14 +7,14 @@ use native.Mathlib.Omega.{arith}
 use lib.Dec.{T, eqb}
 use lib.Ieee.{Float, binary64, le, mul, ofBits}
 use borrow.Author.Tests.{eqb-true, eqb-false, eq-eqb}
-use Rattle.detectors.specs.Constants.{limitOf, tolerance}
+use Rattle.ranges.specs.Constants.{limitOf, tolerance}
 use Rattle.numbers.proofs.Laws.Order as Order
 use Rattle.numbers.proofs.Laws.Order.{nought, finite}
 use Rattle.numbers.proofs.Laws.Monotone.{narrow-mono, mul-number, mul-mono, mul-mono-right}
-use Rattle.detectors.specs.declared.config.Settings.{Settings}
+use Rattle.ranges.specs.declared.config.Settings.{Settings}
 use Rattle.ground.specs.Lists.{any, some}
 use Rattle.correction.specs.Bitmap.{inBounds}
-use Rattle.detectors.specs.Config.{edgePriority, edgeOnly, sideSpan, diagonalSpan, radius}
+use Rattle.ranges.specs.Config.{edgePriority, edgeOnly, sideSpan, diagonalSpan, radius}
 use Rattle.inputs.specs.Checks.{Input, badLength}
 use Rattle.correction.specs.Corners.{Segment, contourProtects, cornersProtect}
 use Rattle.detectors.specs.Edge.{near, extreme, pairProtects, protectsLower, protectsUpper}
@@ -24,7 +24,7 @@ use Rattle.correction.specs.Stricter.{Outlines, NoSmaller, Stricter}
 use Rattle.correction.specs.Stricter.Outlines.{none, kept, added, skipped}
 use Rattle.ground.proofs.Laws.Bools.{holds, held, and-implies, or-implies, four-imply}
 use Rattle.inputs.proofs.Laws.Checks.{length-bounds}
-use Rattle.detectors.proofs.Laws.Falls.{Spans}
+use Rattle.ranges.proofs.Laws.Falls.{Spans}
 use Rattle.correction.proofs.Laws.Finite.{product-span}
 
 -- ---- lengths, radius and spans

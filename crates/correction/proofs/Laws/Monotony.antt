@@ -24,11 +24,11 @@ use borrow.Fn.Kinds.{Dens}
 use borrow.Author.Tests.{ne-eqb, lt-ltb}
 use Rattle.numbers.proofs.Laws.Order as Order
 use Rattle.numbers.proofs.Laws.Order.{nought}
-use Rattle.detectors.specs.declared.config.Settings.{Settings}
+use Rattle.ranges.specs.declared.config.Settings.{Settings}
 use Rattle.correction.specs.declared.pass.Answer.{Answer}
 use Rattle.ground.specs.Lists.{count}
 use Rattle.inputs.specs.Stencil.{isError, errorCount}
-use Rattle.detectors.specs.Config.{disabled}
+use Rattle.ranges.specs.Config.{disabled}
 use Rattle.inputs.specs.Checks.{Input, badLength, accepted}
 use Rattle.correction.specs.Corners.{Segment, contours}
 use Rattle.correction.specs.Errors.{hasArtifact}

@@ -5,7 +5,7 @@
 --     promise-neighbourhood    of two runs of the public function, by its promise
 use mathlib.Core.Path.{_≡_, refl, sym, _∙_, ap}
 use mathlib.Core.Bool.{Bool, true}
-use mathlib.Core.List.{List, [], _∷_}
+use mathlib.Core.List.{List}
 use Prim.Native.Nat.{ℕ, _+_, _-_, _*_, _<_, _≤_}
 use native.Mathlib.Nat.{mul-comm}
 use native.Mathlib.Omega.{arith}
@@ -18,10 +18,10 @@ use contract.Lifetimes.{Lfts}
 use borrow.Fn.Kinds.{Dens}
 use borrow.Author.Tests.{lt-ltb, le-leb}
 use Rattle.ground.proofs.Laws.Bools.{guarded}
-use Rattle.detectors.specs.declared.config.Settings.{Settings}
+use Rattle.ranges.specs.declared.config.Settings.{Settings}
 use Rattle.correction.specs.Bitmap.{cell, inBounds}
 use Rattle.inputs.specs.Stencil.{isProtected, isError}
-use Rattle.detectors.specs.Config.{disabled}
+use Rattle.ranges.specs.Config.{disabled}
 use Rattle.inputs.specs.Checks.{Input, accepted}
 use Rattle.detectors.specs.Linear.{hasLinearArtifact}
 use Rattle.correction.specs.Errors.{sideArtifact, someSide, diagonalArtifact, someDiagonal, someArtifact, hasArtifact}

@@ -6,7 +6,7 @@ use Prim.Native.Nat.{ℕ, _+_, _-_}
 use lib.Dec.{T}
 use lib.Ieee.{Float, binary32, lt, le, add, sub, isNan, fits}
 use lib.Ieee.Fits.{sub-fits}
-use Rattle.detectors.specs.Constants.{halfOf}
+use Rattle.ranges.specs.Constants.{halfOf}
 use Rattle.numbers.specs.Scalar.{absOf}
 use Rattle.numbers.proofs.Laws.Order as Order
 use Rattle.numbers.proofs.Laws.Order.{nought, abs-fits}

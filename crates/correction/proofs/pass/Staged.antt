@@ -13,7 +13,7 @@ use lib.ListN.{length, getD}
 use lib.Dec.{ltb}
 use lib.Seq.{ext-getD}
 use lib.Ieee.{Float, nan}
-use Rattle.detectors.specs.declared.config.Settings.{Settings}
+use Rattle.ranges.specs.declared.config.Settings.{Settings}
 use Rattle.ground.specs.Lists.{tab}
 use Rattle.correction.specs.Bitmap.{texel}
 use Rattle.inputs.specs.Stencil.{stencilByte, isProtected, isError, setError}

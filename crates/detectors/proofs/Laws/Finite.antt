@@ -1,22 +1,20 @@
 -- Of texels whose samples are at most 2 ^ 20 in size, every value that a range test compares is finite: no rule on NaN is ever leaned on there. Assumes nothing.
-use mathlib.Core.Path.{_≡_, refl}
-use mathlib.Core.Bool.{true, not}
-use mathlib.Core.List.{List, [], _∷_}
-use Prim.Native.Nat.{ℕ, zero-le}
-use native.Mathlib.Nat.{le-of-eq}
+use mathlib.Core.Path.{_≡_}
+use mathlib.Core.Bool.{true}
+use mathlib.Core.List.{List, []}
+use Prim.Native.Nat.{ℕ}
 use native.Mathlib.Omega.{arith}
 use lib.Dec.{T}
 use lib.ListN.{getD}
-use lib.Ieee.{Float, binary32, binary64, le, lt, add, sub, mul, neg, isNan, ofBits}
+use lib.Ieee.{Float, binary32, binary64, le, lt, add, sub, mul, neg, ofBits}
 use Rattle.numbers.specs.Constants.{zeroOf, oneOf}
-use Rattle.detectors.specs.Constants.{epsilon, oneLessEpsilon}
-use Rattle.numbers.specs.Scalar.{medianOf}
+use Rattle.ranges.specs.Constants.{epsilon, oneLessEpsilon}
 use Rattle.numbers.proofs.Laws.Order.{nought, one, finite, le-of-lt, le-trans}
-use Rattle.numbers.proofs.Laws.Monotone.{sub-not-negative}
-use Rattle.numbers.proofs.Laws.Bounds.{Within, within-more, within-finite, within-no-nan, between-within, neg-within, median-within, narrow-within, mix-within, add-within, sub-within, mul-within}
+use Rattle.numbers.proofs.Laws.Bounds.{Within, within-more, neg-within, median-within, narrow-within, mix-within, add-within, sub-within, mul-within}
 use Rattle.ground.proofs.Laws.Bools.{both-hold, holds}
 use Rattle.detectors.specs.Texel.{channel, texelMedian}
-use Rattle.detectors.specs.Classifier.{compared}
+use Rattle.ranges.specs.Classifier.{compared}
+use Rattle.ranges.proofs.Laws.Finite.{Weight, weight, zero-weight, one-weight, strict-weight, Span, AllFinite, compared-finite}
 use Rattle.detectors.specs.Pairs.{inside, mixedChannel, mixedMedian}
 use Rattle.detectors.specs.Diagonal.{ofA, ofB, ofC, ofD, abc, linearTerm, squareTerm, curve, curveChannel, curveMedian}
 
@@ -32,39 +30,7 @@ pub texel-median-within : (a : List Float) → SmallTexel a → Within 20 (texel
 unfolding texelMedian
 texel-median-within a s = median-within 20 (channel a 0) (channel a 1) (channel a 2) (s .zeroth) (s .first) (s .second)
 
--- ---- weights
--- t is from 0 to 1
-pub record Weight (t : Float) : Type 0 where
-  pub low : T (le (zeroOf binary64) t)
-  pub high : T (le t (oneOf binary64))
-  pub above : T (le nought t)
-  pub below : T (le t one)
-  pub bounded : Within 0 t
-
--- What is at least 0 and at most 1 is a weight.
-pub weight : (t : Float) → T (le nought t) → T (le t one) → Weight t
-unfolding ofBits
-weight t lo hi = record { low = lo; high = hi; above = lo; below = hi; bounded = between-within 0 nought t one zero-le (le-of-eq refl) lo hi }
-
--- 0 is a weight.
-pub zero-weight : Weight (zeroOf binary64)
-unfolding ofBits le
-zero-weight = weight nought tt tt
-
--- 1 is a weight.
-pub one-weight : Weight (oneOf binary64)
-unfolding ofBits le
-one-weight = weight one tt tt
-
--- A weight is finite.
-pub weight-finite : (t : Float) → Weight t → finite t
-weight-finite t w = within-finite 0 t (w .bounded)
-
--- What is strictly between 0 and 1 is a weight.
-pub strict-weight : (t : Float) → lt (zeroOf binary64) t ≡ true → lt t (oneOf binary64) ≡ true → Weight t
-unfolding ofBits
-strict-weight t p q = weight t (le-of-lt nought t (holds _ p)) (le-of-lt t one (holds _ q))
-
+-- ---- crossings
 -- A crossing that is inside is a weight.
 pub inside-weight : (t : Float) → inside t ≡ true → Weight t
 unfolding inside ofBits le
@@ -80,12 +46,6 @@ mixed-median-within a b t u v w =
   where
     mixed : (i : ℕ) → Within 20 (channel a i) → Within 20 (channel b i) → Within 21 (mixedChannel a b t i)
     mixed i p q = mix-within 20 (channel a i) (channel b i) t (omega arith) p q (w .low) (w .high)
-
--- ---- spans
--- d is not negative, and at most 2 ^ 40
-pub record Span (d : Float) : Type 0 where
-  pub above : T (le nought d)
-  pub bounded : Within 40 d
 
 -- ---- diagonals
 -- four small texels: a, b in its row, c in its column, and d
@@ -141,46 +101,7 @@ curve-median-within m t s w =
     (curve-channel-within m t 1 (record { a = s .a .first; b = s .b .first; c = s .c .first; d = s .d .first }) w)
     (curve-channel-within m t 2 (record { a = s .a .second; b = s .b .second; c = s .c .second; d = s .d .second }) w)
 
--- ---- ranges
--- the way between two weights: at most 2, a number, and not negative
-pub record Gap (d : Float) : Type 0 where
-  pub bounded : Within 1 d
-  pub number : T (not (isNan d))
-  pub above : T (le nought d)
-
--- A difference of weights is at most 2 in size.
-pub gap-within : (x y : Float) → Weight x → Weight y → Within 1 (sub binary64 x y)
-gap-within x y u v = sub-within binary64 0 0 0 x y (omega arith) (omega arith) (omega arith) (u .bounded) (v .bounded)
-
--- That of a weight and one that is at most it is not negative.
-pub gap : (x y : Float) → Weight x → Weight y → T (le y x) → Gap (sub binary64 x y)
-gap x y u v h =
-    let w = gap-within x y u v in
-    let n = within-no-nan 1 (sub binary64 x y) w in
-    record { bounded = w; number = n; above = sub-not-negative binary64 x y h n }
-
--- every entry is finite
-unfoldable pub AllFinite : List Float → Type 0
-AllFinite [] = Unit
-AllFinite (x ∷ xs) = finite x × AllFinite xs
-
--- A range test between weights, with medians of at most 2 ^ 25 and a span of at most 2 ^ 40, compares finite values.
-pub compared-finite : (span at bt xt am bm xm : Float) → Span span → Weight at → Weight bt → Weight xt → Within 25 am → Within 25 bm → Within 25 xm → AllFinite (compared span at bt xt am bm xm)
-unfolding compared AllFinite ofBits
-compared-finite span at bt xt am bm xm s p q r a b x =
-    let d = reach (sub binary64 xt at) (gap-within xt at r p) in
-    let e = reach (sub binary64 bt xt) (gap-within bt xt q r) in
-    (within-finite 25 am a, (within-finite 25 bm b, (within-finite 25 xm x, (tt, (within-finite 25 (medianOf am bm xm) (median-within 25 am bm xm a b x), (lower am _ a d, (upper am _ a d, (lower bm _ b e, (upper bm _ b e, tt)))))))))
-  where
-    reach : (g : Float) → Within 1 g → Within 41 (mul binary64 g span)
-    reach g w = mul-within binary64 1 40 g span (omega arith) w (s .bounded)
-
-    lower : (m d : Float) → Within 25 m → Within 41 d → finite (sub binary64 m d)
-    lower m d u v = within-finite 42 (sub binary64 m d) (sub-within binary64 25 41 41 m d (omega arith) (omega arith) (omega arith) u v)
-
-    upper : (m d : Float) → Within 25 m → Within 41 d → finite (add binary64 m d)
-    upper m d u v = within-finite 42 (add binary64 m d) (add-within binary64 25 41 41 m d (omega arith) (omega arith) (omega arith) u v)
-
+-- ---- the detectors
 median-25 : (a : List Float) → SmallTexel a → Within 25 (texelMedian a)
 median-25 a s = within-more 20 25 (texelMedian a) (omega arith) (texel-median-within a s)
 

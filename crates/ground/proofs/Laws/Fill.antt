@@ -9,7 +9,7 @@
 --     filled-at            the same with the index written another way
 --     filled-all           at the end the list is `tab (length st₀) f`
 use mathlib.Core.Path.{_≡_, refl, sym, _∙_, subst}
-use mathlib.Core.List.{List, [], _∷_}
+use mathlib.Core.List.{List}
 use Prim.Native.Nat.{ℕ, zero, suc, _+_, _<_, _≤_}
 use native.Mathlib.Nat.{le-trans, le-refl, le-of-lt, lt-of-lt-of-le, ne-of-lt, ne-of-gt, not-suc-le-zero, le-of-suc-le-suc, zero-lt-suc, suc-le-suc-iff}
 use native.Mathlib.Numerals.{lt-add-one}

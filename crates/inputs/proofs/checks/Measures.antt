@@ -1,15 +1,12 @@
 -- What passing each of checks 1 to 4 says, and all of them. Assumes nothing.
 --     channel-bound, side-bound, size-bound, sample-count, cell-count   each by itself
 --     sizes   the sides and the channels are within their bounds, and both lengths are as they should be
-use mathlib.Core.Path.{_≡_, refl, sym, _∙_, ap}
+use mathlib.Core.Path.{_≡_, refl, sym}
 use mathlib.Core.Bool.{Bool, true, false, _||_, true≢false}
-use mathlib.Core.List.{List}
-use Prim.Native.Nat.{ℕ, _+_, _*_, _<_, _≤_}
-use native.Mathlib.Nat.{mul-le-mul, mul-comm, mul-le-mul-right, le-mul-of-pos-right}
+use Prim.Native.Nat.{ℕ, _*_, _≤_}
+use native.Mathlib.Nat.{mul-le-mul}
 use native.Mathlib.Omega.{arith}
 use lib.Dec.{eqb, leb}
-use lib.ListN.{length}
-use lib.Ieee.{Float}
 use borrow.Author.Tests.{eqb-true, leb-true, not-false}
 use Rattle.inputs.specs.Checks.{badChannels, badSide, badSize, badSampleCount, badCellCount, sizeChecks, sizeRefusal}
 use Rattle.ground.proofs.Laws.Bools.{both-hold, both-fail}

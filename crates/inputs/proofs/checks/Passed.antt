@@ -15,8 +15,8 @@ use lib.ListN.{length, getD}
 use lib.Ieee.{Float, Format, binary32, binary64, nan, le, neg}
 use borrow.Author.Tests.{eqb-true, ltb-false, not-false}
 use Rattle.numbers.specs.Constants.{zeroOf}
-use Rattle.detectors.specs.Constants.{limitOf}
-use Rattle.detectors.specs.declared.config.Settings.{Settings}
+use Rattle.ranges.specs.Constants.{limitOf}
+use Rattle.ranges.specs.declared.config.Settings.{Settings}
 use Rattle.inputs.specs.Checks.{Input, badLength, settingsPlace, badSettings, oversize, samplesPlace, badSamples, badOutlines, endBefore, badEnd, endsPlace, badEnds, badSegment, segmentsPlace, badSegments, outlineChecks, bitmapChecks, contentChecks, sizeRefusal, refusalNumber}
 use Rattle.inputs.specs.Inner.{Outlined}
 use Rattle.inputs.proofs.checks.Ends.{before-next}

@@ -15,7 +15,7 @@ use Rattle.ground.proofs.Laws.Fill.{tab-length}
 use Rattle.ground.proofs.Laws.Refuse.{answer-is}
 use Rattle.ground.proofs.Laws.Search.{first-le}
 use Rattle.inputs.specs.Checks.{Input, badLength, settingsPlace, samplesPlace, endsPlace, segmentsPlace, outlinePlace, placeOf, checks, refusalNumber, refusalPlace}
-use Rattle.detectors.specs.declared.config.Settings.{Settings}
+use Rattle.ranges.specs.declared.config.Settings.{Settings}
 use Rattle.inputs.specs.Stencil.{protectedCount, errorCount}
 use Rattle.reading.specs.Case.{segments, contourColours, coloursOf, endsOf}
 use Rattle.reading.specs.Grammar.{fine, orElse, lengthAt, headBreach, bodyBreach, fieldBreach, sizeBreach, settingsBreach, contourBreach, start, before, goodContour, contoursFrom, contours, isContour, rowsAt, outlineBreach, rowSize, rowsBreach, endAt, endBreach, breach, width, height, channels}

@@ -6,8 +6,8 @@ use Prim.Native.Nat.{ℕ, _-_, _/_, _%_}
 use native.Mathlib.Omega.{arith}
 use lib.ListN.{length}
 use lib.Ieee.{Float}
-use Rattle.detectors.specs.declared.config.Settings.{Settings}
-use Rattle.detectors.specs.Config.{radius}
+use Rattle.ranges.specs.declared.config.Settings.{Settings}
+use Rattle.ranges.specs.Config.{radius}
 use Rattle.ground.specs.Lists.{tab}
 use Rattle.inputs.specs.declared.sizes.Bitmap.{Bitmap}
 use Rattle.correction.specs.declared.edges.Radii.{Radii}

@@ -8,8 +8,8 @@ use lib.Dec.{eqb}
 use lib.Ieee.{Float}
 use borrow.Author.Needs.{needs}
 use borrow.Author.Tests.{eq-eqb, ne-eqb}
-use Rattle.detectors.specs.declared.config.Settings.{Settings}
-use Rattle.detectors.specs.Config.{sideSpan, diagonalSpan}
+use Rattle.ranges.specs.declared.config.Settings.{Settings}
+use Rattle.ranges.specs.Config.{sideSpan, diagonalSpan}
 use Rattle.ground.proofs.Laws.Bools.{or-left}
 use Rattle.correction.specs.Errors.{sideArtifact, someSide, diagonalArtifact, someDiagonal, someArtifact}
 use Rattle.correction.proofs.errors.some_artifact.Statement.{statement}

@@ -1,5 +1,5 @@
 -- `detectors::edge::radius` meets its contract. Assumes nothing.
-use Rattle.detectors.specs.Config.{radius}
+use Rattle.ranges.specs.Config.{radius}
 use borrow.Author.Needs.{needs}
 use Rattle.detectors.proofs.edge.radius.Statement.{statement}
 use Rattle.detectors.proofs.edge.radius.Tie as tie

@@ -3,7 +3,7 @@ use mathlib.Core.Path.{sym, _∙_, ap}
 use denote.Ref.{now}
 use borrow.Author.Needs.{needs}
 use Rattle.ground.proofs.Laws.Write.{written-as}
-use Rattle.detectors.specs.declared.config.Settings.{Settings}
+use Rattle.ranges.specs.declared.config.Settings.{Settings}
 use Rattle.inputs.specs.Checks.{Input, input}
 use Rattle.correction.specs.Pass.{answer}
 use Rattle.correction.proofs.Laws.Answer.{answers-fix}

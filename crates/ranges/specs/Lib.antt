@@ -1,0 +1,4 @@
+-- The pages of definitions, each after those that it rests on.
+pub mod Constants
+pub mod Config
+pub mod Classifier
