@@ -293,7 +293,7 @@ fn finish(rng: &mut Rng, kind: &'static str, input: Input, samples: Vec<f32>) ->
     Case { kind, input, samples, stencil }
 }
 
-fn glyph_case(rng: &mut Rng) -> Case {
+pub fn glyph_case(rng: &mut Rng) -> Case {
     let (width, height) = if rng.one_in(8) { (8 + rng.below(40), 8 + rng.below(40)) } else { (4 + rng.below(8), 4 + rng.below(8)) };
     let channels = 3 + rng.below(2);
     let glyph = glyphs::glyph(rng, width, height);

@@ -23,7 +23,7 @@ fn figure(width: usize, height: usize, mode: u8, length: f64, samples: &[f32]) -
     }
 }
 
-/// The scope document's figures over bitmaps, case P first, and the two points below them.
+/// The scope document's figures over bitmaps, case P first, and the two points below them, and zeros.
 fn figures() -> Vec<Case> {
     let p = [1.0, 0.0, 0.75, 0.0, 1.0, 0.75];
     let c2 = [1.0, 0.625, 0.75, 0.625, 1.0, 0.75];
@@ -48,10 +48,14 @@ fn figures() -> Vec<Case> {
         c.input.ends = vec![2];
         list.push(c);
     }
-    // A zero whose sign the original leaves open.
-    let mut zero = figure(2, 1, 1, 0.0, &[-0.0, 0.0, 5.0, 0.0, 0.25, 0.0]);
-    zero.input.ratio = 0.0;
-    list.push(zero);
+    // Zeros of both signs, whose median's sign the original leaves open: +0 below 5 and -0 above -5, in each order of the channels.
+    for [a, b, c] in [[0, 1, 2], [0, 2, 1], [1, 0, 2], [1, 2, 0], [2, 0, 1], [2, 1, 0]] {
+        for (t, n) in [([-0.0, 0.0, 5.0], [0.0, 0.25, 0.0]), ([-0.0, 0.0, -5.0], [0.0, -0.25, 0.0])] {
+            let mut zeros = figure(2, 1, 1, 0.0, &[t[a], t[b], t[c], n[a], n[b], n[c]]);
+            zeros.input.ratio = 0.0;
+            list.push(zeros);
+        }
+    }
     list
 }
 

@@ -3,6 +3,7 @@
 //! `run COUNT SEED`: every refusal at every place, then COUNT cases; totals, and how often each branch was reached.
 //! `monotony COUNT SEED`: pairs of passes in demand 3's relation, and pairs with the relation broken.
 //! `again COUNT SEED`: what a pass leaves as the input of the next.
+//! `channels COUNT SEED`: bitmaps with their first three channels stored in each order.
 //! `show SEED INDEX`: one case of a run.
 //! `example`: the glyph of examples/glyph.txt.
 //! `make-fixed FILE`, `check-fixed FILE`, `show-fixed FILE`: the fixed list.
@@ -10,6 +11,7 @@
 
 mod again;
 mod cases;
+mod channels;
 mod fixed;
 mod glyphs;
 #[path = "../judge/judge.rs"]
@@ -75,6 +77,7 @@ fn main() {
         (Some("run"), Some(count), Some(seed)) => run(count, seed),
         (Some("monotony"), Some(count), Some(seed)) => monotony::run(count, seed),
         (Some("again"), Some(count), Some(seed)) => again::run(count, seed),
+        (Some("channels"), Some(count), Some(seed)) => channels::run(count, seed),
         (Some("show"), Some(seed), Some(index)) => {
             println!("{}", shrink::text(&cases::case(seed, index)));
             true
@@ -92,6 +95,6 @@ fn main() {
 }
 
 fn usage() -> ! {
-    eprintln!("usage: differential run COUNT SEED | monotony COUNT SEED | again COUNT SEED | show SEED INDEX | example | make-fixed FILE | check-fixed FILE | show-fixed FILE");
+    eprintln!("usage: differential run COUNT SEED | monotony COUNT SEED | again COUNT SEED | channels COUNT SEED | show SEED INDEX | example | make-fixed FILE | check-fixed FILE | show-fixed FILE");
     std::process::exit(2)
 }

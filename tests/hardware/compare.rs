@@ -11,14 +11,21 @@ use std::time::Instant;
 
 /// What the machine does, by the rules that the definitions state.
 mod machine {
+    /// IEEE 754's total order places −0 below +0, and numbers as they are.
     pub fn min(x: f32, y: f32) -> f32 {
-        if x.is_nan() || y < x { y } else { x }
+        if x.is_nan() || (!y.is_nan() && y.total_cmp(&x).is_lt()) { y } else { x }
     }
     pub fn max(x: f32, y: f32) -> f32 {
-        if x.is_nan() || x < y { y } else { x }
+        if x.is_nan() || (!y.is_nan() && x.total_cmp(&y).is_lt()) { y } else { x }
     }
+    /// The middle one of three numbers in that order, and the rule itself where one is a NaN.
     pub fn median(a: f32, b: f32, c: f32) -> f32 {
-        max(min(a, b), min(max(a, b), c))
+        let mut all = [a, b, c];
+        if all.iter().any(|x| x.is_nan()) {
+            return max(min(a, b), min(max(a, b), c));
+        }
+        all.sort_by(f32::total_cmp);
+        all[1]
     }
     pub fn mix(a: f32, b: f32, w: f64) -> f32 {
         ((1.0 - w) * a as f64 + w * b as f64) as f32
@@ -170,8 +177,50 @@ impl Tally {
     }
 }
 
+/// Zeros, subnormals, the ends of the normal numbers, neighbours and the rest of what can stand beside them, with either sign, and the NaN.
+fn special() -> Vec<f32> {
+    let sizes = [0, 1, 2, 0x007f_ffff, 0x0080_0000, 0x3f7f_ffff, 0x3f80_0000, 0x3f80_0001, 0x7f7f_ffff, 0x7f80_0000];
+    let mut all: Vec<f32> = sizes.iter().flat_map(|&bits| [f32::from_bits(bits), -f32::from_bits(bits)]).collect();
+    all.push(f32::NAN);
+    all
+}
+
+/// Every two and every three of these in every order: minimum, maximum and median, and that of three numbers the order does not matter to a bit.
+fn orders(t: &mut Tally) {
+    let all = special();
+    let (mut count, mut bad) = (0, 0);
+    let mut hold = |same: bool, text: &dyn Fn() -> String| {
+        count += 1;
+        if !same {
+            bad += 1;
+            if bad <= 3 {
+                println!("orders: {}", text());
+            }
+        }
+    };
+    for &a in &all {
+        for &b in &all {
+            hold(same32(proved::min(a, b), machine::min(a, b)), &|| format!("smaller of {a:?} {b:?}"));
+            hold(same32(proved::max(a, b), machine::max(a, b)), &|| format!("larger of {a:?} {b:?}"));
+            for &c in &all {
+                let m = proved::median(a, b, c);
+                hold(same32(m, machine::median(a, b, c)), &|| format!("median of {a:?} {b:?} {c:?}"));
+                if !(a.is_nan() || b.is_nan() || c.is_nan()) {
+                    for (x, y, z) in [(a, c, b), (b, a, c), (b, c, a), (c, a, b), (c, b, a)] {
+                        hold(proved::median(x, y, z).to_bits() == m.to_bits(), &|| format!("median of {x:?} {y:?} {z:?} and of {a:?} {b:?} {c:?}"));
+                    }
+                }
+            }
+        }
+    }
+    println!("orders: {count} comparisons over {} values, {bad} differ", all.len());
+    t.bad += bad;
+    t.all += count;
+}
+
 fn compare(count: u64) -> bool {
     let mut t = Tally { bad: 0, all: 0 };
+    orders(&mut t);
     t.run("narrow", count, |r| {
         let x = r.wide();
         (!same32(proved::narrow(x), x as f32)).then(|| format!("{:016x}", x.to_bits()))

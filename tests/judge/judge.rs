@@ -198,6 +198,7 @@ branches! {
     FlagProtected: "flag, on a protected texel",
     FlagNone: "no flag",
     CollapseMinusZero: "collapse, to minus zero",
+    CollapseZeros: "collapse, to one of two zeros of different signs",
     CollapseFourth: "collapse, fourth channel kept",
     CollapseChanges: "collapse, a sample changed",
 }
@@ -221,8 +222,13 @@ impl Seen {
 
 // Number rules.
 
+/// x < y, or x is −0 and y is +0.
+fn below(x: f32, y: f32) -> bool {
+    x < y || (x == 0.0 && x.is_sign_negative() && y == 0.0 && y.is_sign_positive())
+}
+
 fn min(x: f32, y: f32) -> f32 {
-    if x.is_nan() || y < x {
+    if x.is_nan() || below(y, x) {
         y
     } else {
         x
@@ -230,7 +236,7 @@ fn min(x: f32, y: f32) -> f32 {
 }
 
 fn max(x: f32, y: f32) -> f32 {
-    if x.is_nan() || x < y {
+    if x.is_nan() || below(x, y) {
         y
     } else {
         x
@@ -749,6 +755,7 @@ fn collapse(field_channels: usize, samples: &mut [f32], stencil: &[u8], seen: &m
         if cell & ERROR != 0 {
             let m = median(texel[0], texel[1], texel[2]);
             seen.hit_if(m.to_bits() == 0x8000_0000, Branch::CollapseMinusZero);
+            seen.hit_if(m == 0.0 && texel[..3].iter().any(|v| *v == m && v.to_bits() != m.to_bits()), Branch::CollapseZeros);
             seen.hit_if(field_channels == 4, Branch::CollapseFourth);
             seen.hit_if(texel[..3].iter().any(|v| v.to_bits() != m.to_bits()), Branch::CollapseChanges);
             texel[..3].fill(m);

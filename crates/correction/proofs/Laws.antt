@@ -4,6 +4,7 @@ pub mod Leaves
 pub mod Neighbourhood
 pub mod Finite
 pub mod Again
+pub mod Rewired
 pub mod Alike
 pub mod Grows
 pub mod Falls

@@ -3,6 +3,7 @@ pub mod Corners
 pub mod Edges
 pub mod Errors
 pub mod Collapse
+pub mod Rewired
 pub mod Pass
 pub mod Neighbourhood
 pub mod Stricter

@@ -3,6 +3,7 @@ pub mod Order
 pub mod Monotone
 pub mod Exact
 pub mod Bounds
+pub mod Rank
 pub mod Scalar
 pub mod Floor
 pub mod SquareRoot

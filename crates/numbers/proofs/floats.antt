@@ -3,6 +3,7 @@ pub mod Compared
 pub mod Differences
 pub mod Distances
 pub mod Held
+pub mod Middle
 pub mod Multiples
 pub mod Patterns
 pub mod Signs

@@ -1,7 +1,8 @@
 -- What the inner functions promise each other. No public function's promise rests on this page. Definitions only.
 use mathlib.Core.Path.{_≡_}
 use Prim.Native.Nat.{ℕ, _+_, _-_, _*_, _/_, _%_, _^_, _≤_, _<_, compare}
-use lib.Ieee.{nearest}
+use mathlib.Core.Bool.{Bool, false, cond}
+use lib.Ieee.{Float, nan, inf, fin, lt, nearest}
 use Rattle.numbers.specs.SquareRoot.{root}
 
 -- s is the root of n, cut to a whole number, and r is what is left
@@ -32,3 +33,16 @@ pub record Extends (s r a c b : ℕ) : Type 0 where
 -- the whole part of m * 2 ^ e / 2 ^ 1075, the size of the number with m for its digits and e for its exponent's field
 unfoldable pub scaled : ℕ → ℕ → ℕ
 scaled m e = m * 2 ^ e / 2 ^ 1075
+
+-- the sign is minus, a zero's too
+unfoldable pub negative : Float → Bool
+negative nan = false
+negative (inf s) = s
+negative (fin s m e) = s
+
+-- the smaller and the larger of two by value alone, the first of two that are equal
+unfoldable pub lesserOf : Float → Float → Float
+lesserOf x y = cond (lt y x) y x
+
+unfoldable pub greaterOf : Float → Float → Float
+greaterOf x y = cond (lt x y) y x

@@ -1,16 +1,28 @@
 -- The smaller and the larger of two floats, the middle one of three, the size of one, and the mix of two. Definitions only.
-use mathlib.Core.Bool.{_||_, false, cond}
+use Prim.Native.Nat.{zero, suc}
+use mathlib.Core.Bool.{Bool, _||_, _&&_, true, false, cond, Bool·beq}
 use lib.Ieee.{Float, nan, inf, fin, binary64, lt, isNan, add, mul, sub}
 use Rattle.numbers.specs.Constants.{oneOf}
 use Rattle.numbers.specs.Rounding.{narrowOf}
 
--- y if x is NaN or y < x, else x
-unfoldable pub minOf : Float → Float → Float
-minOf x y = cond (isNan x || lt y x) y x
+-- x is the zero with the sign s: −0 where s is true, +0 where it is false
+abbrev pub isZero : Bool → Float → Bool
+isZero s nan = false
+isZero s (inf t) = false
+isZero s (fin t zero e) = Bool·beq s t
+isZero s (fin t (suc m) e) = false
 
--- y if x is NaN or x < y, else x
+-- x lies below y: x < y, or x is −0 and y is +0
+abbrev pub isBelow : Float → Float → Bool
+isBelow x y = lt x y || (isZero true x && isZero false y)
+
+-- y if x is NaN or y is below x, else x: of numbers IEEE 754-2019's minimum
+unfoldable pub minOf : Float → Float → Float
+minOf x y = cond (isNan x || isBelow y x) y x
+
+-- y if x is NaN or x is below y, else x: of numbers IEEE 754-2019's maximum
 unfoldable pub maxOf : Float → Float → Float
-maxOf x y = cond (isNan x || lt x y) y x
+maxOf x y = cond (isNan x || isBelow x y) y x
 
 -- max(min(a,b), min(max(a,b),c))
 unfoldable pub medianOf : Float → Float → Float → Float

@@ -1,33 +1,103 @@
 // Minimum, maximum, median, size and mix: `math/scalar.rs`, with the rule for a NaN and for two zeros fixed.
 ghost use mathlib.Core.Path.{_≡_};
+ghost use mathlib.Core.Bool.{false, not, _||_};
+ghost use lib.Dec.{T};
+ghost use lib.IntN.{pos};
+ghost use lib.Ieee.{fin, isNan, eq};
+ghost use Rattle.numbers.specs.Inner.{negative, lesserOf, greaterOf};
 ghost use Rattle.numbers.specs.Scalar.{minOf, maxOf, medianOf, absOf, mixOf};
 use crate::rounding;
 
-// The smaller of two: y where x is a NaN or y is less.
+// Whether a number's sign is minus, a zero's too.
+fn is_negative(x: f32) -> bool
+    requires { ⌜ T (not (isNan x)) ⌝ }
+    ensures { λ r. ⌜ r ≡ negative x ⌝ }
+{
+    f32::to_bits(x) >= 0x8000_0000
+}
+
+// The smaller of two: y where x is a NaN or y lies below it.
 pub fn min(x: f32, y: f32) -> f32
     ensures { λ r. ⌜ r ≡ minOf x y ⌝ }
 {
     if x != x {
         return y;
     }
-    if y < x { y } else { x }
+    if y < x {
+        return y;
+    }
+    if y != x {
+        return x;
+    }
+    if is_negative(y) { y } else { x }
 }
 
-// The larger of two: y where x is a NaN or less.
+// The larger of two: y where x is a NaN or lies below it.
 pub fn max(x: f32, y: f32) -> f32
     ensures { λ r. ⌜ r ≡ maxOf x y ⌝ }
 {
     if x != x {
         return y;
     }
+    if x < y {
+        return y;
+    }
+    if y != x {
+        return x;
+    }
+    if is_negative(y) { x } else { y }
+}
+
+// The smaller of two by value alone, the first of two that are equal.
+fn lesser(x: f32, y: f32) -> f32
+    ensures { λ r. ⌜ r ≡ lesserOf x y ⌝ }
+{
+    if y < x { y } else { x }
+}
+
+// The larger of two by value alone, the first of two that are equal.
+fn greater(x: f32, y: f32) -> f32
+    ensures { λ r. ⌜ r ≡ greaterOf x y ⌝ }
+{
     if x < y { y } else { x }
 }
 
-// The middle one of three.
+// The zero with a sign.
+fn zero(minus: bool) -> f32
+    ensures { λ r. ⌜ r ≡ fin minus 0 (pos 0) ⌝ }
+{
+    if minus { -0.0 } else { 0.0 }
+}
+
+// The median of three numbers where it is a zero: it has the sign that two of them have.
+fn zero_median(a: f32, b: f32, c: f32) -> f32
+    requires { ⌜ T (not (isNan a)) × T (not (isNan b)) × T (not (isNan c)) ⌝ }
+    requires { ⌜ T (eq (medianOf a b c) (fin false 0 (pos 0))) ⌝ }
+    ensures { λ r. ⌜ r ≡ medianOf a b c ⌝ }
+{
+    let s = is_negative(a);
+    if s == is_negative(b) {
+        return zero(s);
+    }
+    zero(is_negative(c))
+}
+
+// Whether one of three is a NaN.
+fn some_nan(a: f32, b: f32, c: f32) -> bool
+    ensures { λ r. ⌜ r ≡ (isNan a || (isNan b || isNan c)) ⌝ }
+{
+    a != a || (b != b || c != c)
+}
+
+// The middle one of three: by value where none is a NaN, and only a zero's sign needs more.
 pub fn median(a: f32, b: f32, c: f32) -> f32
     ensures { λ r. ⌜ r ≡ medianOf a b c ⌝ }
 {
-    max(min(a, b), min(max(a, b), c))
+    if some_nan(a, b, c) {
+        return max(min(a, b), min(max(a, b), c));
+    }
+    let m = greater(lesser(a, b), lesser(greater(a, b), c));
+    if m == 0.0 { zero_median(a, b, c) } else { m }
 }
 
 // |x|, from the bits.

@@ -1,4 +1,4 @@
--- The smaller and the larger of two floats and the middle one of three, by the order: nothing here says which of two zeros is taken. Assumes nothing.
+-- The smaller and the larger of two floats and the middle one of three, by the order of values and by that with −0 below +0. Assumes nothing.
 --     min-either, max-either                    the smaller and the larger of two are one of them
 --     min-first, min-second                     the smaller is at most each
 --     max-first, max-second                     the larger is at least each
@@ -12,16 +12,25 @@
 --     median-least, median-greatest, median-only  what two are at most is at least the median, what two are at least at most, and what is both equals it
 --     median-swap, median-turn                  the first two may be swapped, and the three turned about, which gives every order
 --     median-twice                              the median of a value twice and another is that value
-use mathlib.Core.Path.{_≡_, refl, sym, subst}
+--     Number                                    a value of a format that is no NaN
+--     min-swap, max-swap                        of two such numbers the order does not matter, to a zero's sign
+--     median-order, median-order-bits           nor does it of three, in all six orders, to the last bit
+--     median-nan-first, median-nan-second, median-nan-third  where one of the three is a NaN the order does matter
+--     nan-zero-one, nan-one-zero                the smallest example
+use mathlib.Core.Path.{_≡_, refl, sym, ap, _∙_, subst}
 use mathlib.Core.Logic.{_⊎_, inl, inr}
 use mathlib.Core.Bool.{Bool, true, false, not, _||_, cond}
 use lib.Dec.{T}
-use lib.Ieee.{Float, Format, up, le, lt, eq, isNan, fits}
-use Rattle.numbers.specs.Scalar.{minOf, maxOf, medianOf}
-use Rattle.numbers.proofs.Laws.Order.{number-left, number-right, le-of-lt, le-refl, le-of-not-lt, le-trans, eq-of-le-le}
+use lib.Ieee.Bits.{is-false}
+use lib.Ieee.{Float, nan, inf, fin, Format, le, lt, eq, isNan, fits, toBits}
+use Rattle.numbers.specs.Scalar.{isBelow, minOf, maxOf, medianOf}
+use Rattle.numbers.proofs.Laws.Order.{nought, one, number-left, number-right, le-refl, le-trans, eq-of-le-le}
+pub use Rattle.numbers.proofs.floats.Middle.{TwoOf}
+use Rattle.numbers.proofs.floats.Middle.{NoNan, Chooses, two-below, two-above, least, greatest, swapped, turned, twice}
+use Rattle.numbers.proofs.Laws.Rank.{Ranked, ranked-same, ranked-trans, ranked-below, ranked-not-below, ranked-only, below-one-way, nan-not-above, nan-not-below}
 
-abbrev NoNan : Float → Type 0
-NoNan v = T (not (isNan v))
+abbrev AtMost : Float → Float → Type 0
+AtMost x y = T (le x y)
 
 -- ---- two
 either : (b : Bool) (x y : Float) → (cond b y x ≡ x) ⊎ (cond b y x ≡ y)
@@ -30,11 +39,11 @@ either false x y = inl refl
 
 pub min-either : (x y : Float) → (minOf x y ≡ x) ⊎ (minOf x y ≡ y)
 unfolding minOf
-min-either x y = either (isNan x || lt y x) x y
+min-either x y = either (isNan x || isBelow y x) x y
 
 pub max-either : (x y : Float) → (maxOf x y ≡ x) ⊎ (maxOf x y ≡ y)
 unfolding maxOf
-max-either x y = either (isNan x || lt x y) x y
+max-either x y = either (isNan x || isBelow x y) x y
 
 -- x where it is no NaN and the test fails, and y where the test passes
 taken : (x y : Float) (P : Float → Type 0) (b c : Bool) → T (not b) → (T c → P y) → (T (not c) → P x) → P (cond (b || c) y x)
@@ -48,21 +57,61 @@ taken-second x y P true c l r = l
 taken-second x y P false true l r = l
 taken-second x y P false false l r = r tt tt
 
-pub min-first : (x y : Float) → T (not (isNan x)) → T (le (minOf x y) x)
+-- by the order with −0 below +0
+pub min-ranks-first : (x y : Float) → T (not (isNan x)) → Ranked (minOf x y) x
 unfolding minOf
-min-first x y n = taken x y (λ (v : Float). T (le v x)) (isNan x) (lt y x) n (λ h. le-of-lt y x h) (λ h. le-refl x n)
+min-ranks-first x y n = taken x y (λ (v : Float). Ranked v x) (isNan x) (isBelow y x) n (λ h. ranked-below y x h) (λ h. ranked-same x n)
+
+pub min-ranks-second : (x y : Float) → T (not (isNan y)) → Ranked (minOf x y) y
+unfolding minOf
+min-ranks-second x y n = taken-second x y (λ (v : Float). Ranked v y) (isNan x) (isBelow y x) (ranked-same y n) (λ m h. ranked-not-below x y m n h)
+
+pub max-ranks-first : (x y : Float) → T (not (isNan x)) → Ranked x (maxOf x y)
+unfolding maxOf
+max-ranks-first x y n = taken x y (λ (v : Float). Ranked x v) (isNan x) (isBelow x y) n (λ h. ranked-below x y h) (λ h. ranked-same x n)
+
+pub max-ranks-second : (x y : Float) → T (not (isNan y)) → Ranked y (maxOf x y)
+unfolding maxOf
+max-ranks-second x y n = taken-second x y (λ (v : Float). Ranked y v) (isNan x) (isBelow x y) (ranked-same y n) (λ m h. ranked-not-below y x n m h)
+
+-- and so by that of values
+pub min-first : (x y : Float) → T (not (isNan x)) → T (le (minOf x y) x)
+min-first x y n = min-ranks-first x y n .0
 
 pub min-second : (x y : Float) → T (not (isNan y)) → T (le (minOf x y) y)
-unfolding minOf
-min-second x y n = taken-second x y (λ (v : Float). T (le v y)) (isNan x) (lt y x) (le-refl y n) (λ m h. le-of-not-lt y x n m h)
+min-second x y n = min-ranks-second x y n .0
 
 pub max-first : (x y : Float) → T (not (isNan x)) → T (le x (maxOf x y))
-unfolding maxOf
-max-first x y n = taken x y (λ (v : Float). T (le x v)) (isNan x) (lt x y) n (λ h. le-of-lt x y h) (λ h. le-refl x n)
+max-first x y n = max-ranks-first x y n .0
 
 pub max-second : (x y : Float) → T (not (isNan y)) → T (le y (maxOf x y))
-unfolding maxOf
-max-second x y n = taken-second x y (λ (v : Float). T (le y v)) (isNan x) (lt x y) (le-refl y n) (λ m h. le-of-not-lt x y m n h)
+max-second x y n = max-ranks-second x y n .0
+
+pub by-rank : Chooses Ranked minOf maxOf
+by-rank =
+    record {
+      same = ranked-same;
+      trans = ranked-trans;
+      lo-either = min-either;
+      hi-either = max-either;
+      lo-first = λ x y m n. min-ranks-first x y m;
+      lo-second = λ x y m n. min-ranks-second x y n;
+      hi-first = λ x y m n. max-ranks-first x y m;
+      hi-second = λ x y m n. max-ranks-second x y n;
+    }
+
+by-value : Chooses AtMost minOf maxOf
+by-value =
+    record {
+      same = le-refl;
+      trans = le-trans;
+      lo-either = min-either;
+      hi-either = max-either;
+      lo-first = λ x y m n. min-first x y m;
+      lo-second = λ x y m n. min-second x y n;
+      hi-first = λ x y m n. max-first x y m;
+      hi-second = λ x y m n. max-second x y n;
+    }
 
 pub min-keeps : (P : Float → Type 0) (x y : Float) → P x → P y → P (minOf x y)
 min-keeps P x y p q = elim (min-either x y) [ inl e ↦ subst P (sym e) p | inr e ↦ subst P (sym e) q ]
@@ -107,85 +156,38 @@ median-above lo a b c = median-keeps (λ (v : Float). T (le lo v)) a b c
 pub median-below : (a b c hi : Float) → T (le a hi) → T (le b hi) → T (le c hi) → T (le (medianOf a b c) hi)
 median-below a b c hi = median-keeps (λ (v : Float). T (le v hi)) a b c
 
-abbrev pub TwoOf : (Float → Type 0) → Float → Float → Float → Type 0
-TwoOf P a b c = (P a × P b) ⊎ ((P a × P c) ⊎ (P b × P c))
-
+-- ---- three, by the order of values
 pub median-two-below : (a b c : Float) → T (not (isNan a)) → T (not (isNan b)) → T (not (isNan c)) → TwoOf (λ (v : Float). T (le v (medianOf a b c))) a b c
-median-two-below a b c l m n =
-    let p = minOf a b in
-    let g = maxOf a b in
-    let q = minOf g c in
-    let r = maxOf p q in
-    let pr : T (le p r) = max-first p q (min-keeps NoNan a b l m) in
-    let qr : T (le q r) = max-second p q (min-keeps NoNan g c (max-keeps NoNan a b l m) n) in
-    subst (λ (w : Float). TwoOf (λ (v : Float). T (le v w)) a b c) (sym (is a b c))
-    (elim (min-either g c) [
-      | inl e ↦ let gr : T (le g r) = subst (λ (v : Float). T (le v r)) e qr in inl (le-trans a g r (max-first a b l) gr, le-trans b g r (max-second a b m) gr)
-      | inr e ↦ let cr : T (le c r) = subst (λ (v : Float). T (le v r)) e qr in
-          elim (min-either a b) [ inl h ↦ inr (inl (subst (λ (v : Float). T (le v r)) h pr, cr)) | inr h ↦ inr (inr (subst (λ (v : Float). T (le v r)) h pr, cr)) ]
-    ])
+unfolding medianOf
+median-two-below = two-below AtMost minOf maxOf by-value
 
 pub median-two-above : (a b c : Float) → T (not (isNan a)) → T (not (isNan b)) → T (not (isNan c)) → TwoOf (λ (v : Float). T (le (medianOf a b c) v)) a b c
-median-two-above a b c l m n =
-    let p = minOf a b in
-    let g = maxOf a b in
-    let q = minOf g c in
-    let r = maxOf p q in
-    let qg : T (le q g) = min-first g c (max-keeps NoNan a b l m) in
-    let qc : T (le q c) = min-second g c n in
-    subst (λ (w : Float). TwoOf (λ (v : Float). T (le w v)) a b c) (sym (is a b c))
-    (elim (max-either p q) [
-      | inl e ↦ inl (subst (λ (w : Float). T (le w a)) (sym e) (min-first a b l), subst (λ (w : Float). T (le w b)) (sym e) (min-second a b m))
-      | inr e ↦ subst (λ (w : Float). TwoOf (λ (v : Float). T (le w v)) a b c) (sym e)
-          (elim (max-either a b) [ inl h ↦ inr (inl (subst (λ (v : Float). T (le q v)) h qg, qc)) | inr h ↦ inr (inr (subst (λ (v : Float). T (le q v)) h qg, qc)) ])
-    ])
-
--- two of three and two of three have one in common
-common : (P Q : Float → Type 0) (R : Type 0) (a b c : Float) → TwoOf P a b c → TwoOf Q a b c → ((v : Float) → P v → Q v → R) → R
-common P Q R a b c (inl x) (inl y) k = k a (x .0) (y .0)
-common P Q R a b c (inl x) (inr (inl y)) k = k a (x .0) (y .0)
-common P Q R a b c (inl x) (inr (inr y)) k = k b (x .1) (y .0)
-common P Q R a b c (inr (inl x)) (inl y) k = k a (x .0) (y .0)
-common P Q R a b c (inr (inl x)) (inr (inl y)) k = k a (x .0) (y .0)
-common P Q R a b c (inr (inl x)) (inr (inr y)) k = k c (x .1) (y .1)
-common P Q R a b c (inr (inr x)) (inl y) k = k b (x .0) (y .1)
-common P Q R a b c (inr (inr x)) (inr (inl y)) k = k c (x .1) (y .1)
-common P Q R a b c (inr (inr x)) (inr (inr y)) k = k b (x .0) (y .0)
+unfolding medianOf
+median-two-above = two-above AtMost minOf maxOf by-value
 
 pub median-least : (a b c v : Float) → T (not (isNan a)) → T (not (isNan b)) → T (not (isNan c)) → TwoOf (λ (u : Float). T (le u v)) a b c → T (le (medianOf a b c) v)
-median-least a b c v l m n h =
-    common (λ (u : Float). T (le (medianOf a b c) u)) (λ (u : Float). T (le u v)) (T (le (medianOf a b c) v)) a b c (median-two-above a b c l m n) h (λ u x y. le-trans (medianOf a b c) u v x y)
+unfolding medianOf
+median-least = least AtMost minOf maxOf by-value
 
 pub median-greatest : (v a b c : Float) → T (not (isNan a)) → T (not (isNan b)) → T (not (isNan c)) → TwoOf (λ (u : Float). T (le v u)) a b c → T (le v (medianOf a b c))
-median-greatest v a b c l m n h =
-    common (λ (u : Float). T (le v u)) (λ (u : Float). T (le u (medianOf a b c))) (T (le v (medianOf a b c))) a b c h (median-two-below a b c l m n) (λ u x y. le-trans v u (medianOf a b c) x y)
+unfolding medianOf
+median-greatest = greatest AtMost minOf maxOf by-value
 
 pub median-only : (a b c v : Float) → T (not (isNan a)) → T (not (isNan b)) → T (not (isNan c)) → TwoOf (λ (u : Float). T (le u v)) a b c → TwoOf (λ (u : Float). T (le v u)) a b c
     → T (eq (medianOf a b c) v)
 median-only a b c v l m n h k = eq-of-le-le (medianOf a b c) v (median-least a b c v l m n h) (median-greatest v a b c l m n k)
 
-swap-two : (P : Float → Type 0) (a b c : Float) → TwoOf P a b c → TwoOf P b a c
-swap-two P a b c (inl x) = inl (x .1, x .0)
-swap-two P a b c (inr (inl x)) = inr (inr x)
-swap-two P a b c (inr (inr x)) = inr (inl x)
-
-turn-two : (P : Float → Type 0) (a b c : Float) → TwoOf P a b c → TwoOf P b c a
-turn-two P a b c (inl x) = inr (inl (x .1, x .0))
-turn-two P a b c (inr (inl x)) = inr (inr (x .1, x .0))
-turn-two P a b c (inr (inr x)) = inl x
-
 pub median-swap : (a b c : Float) → T (not (isNan a)) → T (not (isNan b)) → T (not (isNan c)) → T (eq (medianOf a b c) (medianOf b a c))
-median-swap a b c l m n =
-    let v = medianOf b a c in
-    median-only a b c v l m n (swap-two (λ (u : Float). T (le u v)) b a c (median-two-below b a c m l n)) (swap-two (λ (u : Float). T (le v u)) b a c (median-two-above b a c m l n))
+unfolding medianOf
+median-swap a b c l m n = eq-of-le-le (medianOf a b c) (medianOf b a c) (swapped AtMost minOf maxOf by-value a b c l m n) (swapped AtMost minOf maxOf by-value b a c m l n)
 
 pub median-turn : (a b c : Float) → T (not (isNan a)) → T (not (isNan b)) → T (not (isNan c)) → T (eq (medianOf a b c) (medianOf c a b))
-median-turn a b c l m n =
-    let v = medianOf c a b in
-    median-only a b c v l m n (turn-two (λ (u : Float). T (le u v)) c a b (median-two-below c a b n l m)) (turn-two (λ (u : Float). T (le v u)) c a b (median-two-above c a b n l m))
+unfolding medianOf
+median-turn a b c l m n = let k = turned AtMost minOf maxOf by-value a b c l m n in eq-of-le-le (medianOf a b c) (medianOf c a b) (k .0) (k .1)
 
 pub median-twice : (a b : Float) → T (not (isNan a)) → T (not (isNan b)) → T (eq (medianOf a a b) a)
-median-twice a b l m = median-only a a b a l l m (inl (le-refl a l, le-refl a l)) (inl (le-refl a l, le-refl a l))
+unfolding medianOf
+median-twice a b l m = let k = twice AtMost minOf maxOf by-value a b l m in eq-of-le-le (medianOf a a b) a (k .0) (k .1)
 
 pub median-mono : (a a' b b' c c' : Float) → T (le a a') → T (le b b') → T (le c c') → T (le (medianOf a b c) (medianOf a' b' c'))
 median-mono a a' b b' c c' h k g =
@@ -197,3 +199,117 @@ median-mono a a' b b' c c' h k g =
     up (inl x) = inl (le-trans (medianOf a b c) a a' (x .0) h, le-trans (medianOf a b c) b b' (x .1) k)
     up (inr (inl x)) = inr (inl (le-trans (medianOf a b c) a a' (x .0) h, le-trans (medianOf a b c) c c' (x .1) g))
     up (inr (inr x)) = inr (inr (le-trans (medianOf a b c) b b' (x .0) k, le-trans (medianOf a b c) c c' (x .1) g))
+
+-- ---- numbers of one format: the same value in every order, a zero's sign included
+abbrev pub Number : Format → Float → Type 0
+Number f x = T (fits f x) × T (not (isNan x))
+
+-- the smaller of two in either order ranks at most itself in the other
+min-ranked : (x y : Float) → NoNan x → NoNan y → Ranked (minOf x y) (minOf y x)
+min-ranked x y m n = min-keeps (λ (v : Float). Ranked (minOf x y) v) y x (min-ranks-second x y n) (min-ranks-first x y m)
+
+max-ranked : (x y : Float) → NoNan x → NoNan y → Ranked (maxOf x y) (maxOf y x)
+max-ranked x y m n = max-keeps (λ (v : Float). Ranked v (maxOf y x)) x y (max-ranks-second y x m) (max-ranks-first y x n)
+
+pub min-swap : (f : Format) (x y : Float) → Number f x → Number f y → minOf x y ≡ minOf y x
+min-swap f x y p q =
+    ranked-only f (minOf x y) (minOf y x) (min-fits f x y (p .0) (q .0)) (min-fits f y x (q .0) (p .0)) (min-ranked x y (p .1) (q .1)) (min-ranked y x (q .1) (p .1))
+
+pub max-swap : (f : Format) (x y : Float) → Number f x → Number f y → maxOf x y ≡ maxOf y x
+max-swap f x y p q =
+    ranked-only f (maxOf x y) (maxOf y x) (max-fits f x y (p .0) (q .0)) (max-fits f y x (q .0) (p .0)) (max-ranked x y (p .1) (q .1)) (max-ranked y x (q .1) (p .1))
+
+swap : (f : Format) (a b c : Float) → Number f a → Number f b → Number f c → medianOf a b c ≡ medianOf b a c
+unfolding medianOf
+swap f a b c p q r =
+    ranked-only f (medianOf a b c) (medianOf b a c) (median-fits f a b c (p .0) (q .0) (r .0)) (median-fits f b a c (q .0) (p .0) (r .0)) (swapped Ranked minOf maxOf by-rank a b c (p .1) (q .1) (r .1))
+    (swapped Ranked minOf maxOf by-rank b a c (q .1) (p .1) (r .1))
+
+turn : (f : Format) (a b c : Float) → Number f a → Number f b → Number f c → medianOf a b c ≡ medianOf c a b
+unfolding medianOf
+turn f a b c p q r =
+    let k = turned Ranked minOf maxOf by-rank a b c (p .1) (q .1) (r .1) in
+    ranked-only f (medianOf a b c) (medianOf c a b) (median-fits f a b c (p .0) (q .0) (r .0)) (median-fits f c a b (r .0) (p .0) (q .0)) (k .0) (k .1)
+
+-- v is what g makes of the three in each of the five other orders
+abbrev pub InOtherOrders : {X : Type 0} → X → (Float → Float → Float → X) → Float → Float → Float → Type 0
+InOtherOrders v g a b c = (v ≡ g a c b) × (v ≡ g b a c) × (v ≡ g b c a) × (v ≡ g c a b) × (v ≡ g c b a)
+
+pub median-order : (f : Format) (a b c : Float) → Number f a → Number f b → Number f c → InOtherOrders (medianOf a b c) medianOf a b c
+median-order f a b c p q r =
+    let cab : medianOf a b c ≡ medianOf c a b = turn f a b c p q r in
+    let bca : medianOf a b c ≡ medianOf b c a = cab ∙ turn f c a b r p q in
+    (cab ∙ swap f c a b r p q, swap f a b c p q r, bca, cab, bca ∙ swap f b c a q r p)
+
+-- Each such value has one bit pattern (`one-pattern` of Laws/Rank.antt), so the patterns are the same.
+pub median-order-bits : (f : Format) (a b c : Float) → Number f a → Number f b → Number f c → InOtherOrders (toBits f (medianOf a b c)) (λ x y z. toBits f (medianOf x y z)) a b c
+median-order-bits f a b c p q r =
+    let k = median-order f a b c p q r in
+    (ap (toBits f) (k .0), ap (toBits f) (k .1), ap (toBits f) (k .2), ap (toBits f) (k .3), ap (toBits f) (k .4))
+
+-- ---- with a NaN among the three: the order decides
+min-is : (x y : Float) (b : Bool) → T (not (isNan x)) → isBelow y x ≡ b → minOf x y ≡ cond b y x
+unfolding minOf
+min-is x y b n e = ap (λ (a : Bool). cond (a || isBelow y x) y x) (is-false (isNan x) n) ∙ ap (λ (a : Bool). cond a y x) e
+
+max-is : (x y : Float) (b : Bool) → T (not (isNan x)) → isBelow x y ≡ b → maxOf x y ≡ cond b y x
+unfolding maxOf
+max-is x y b n e = ap (λ (a : Bool). cond (a || isBelow x y) y x) (is-false (isNan x) n) ∙ ap (λ (a : Bool). cond a y x) e
+
+one-way : (x y : Float) → isBelow x y ≡ true → isBelow y x ≡ false
+one-way x y e = is-false (isBelow y x) (refuted (isBelow y x) (below-one-way x y (subst T (sym e) tt)))
+  where
+    refuted : (b : Bool) → (T b → ⊥) → T (not b)
+    refuted true n = n tt
+    refuted false n = tt
+
+max-self : (x : Float) → maxOf x x ≡ x
+max-self x = elim (max-either x x) [ inl e ↦ e | inr e ↦ e ]
+
+-- the larger of x and the smaller of x and y is x
+absorbed : (x y : Float) → T (not (isNan x)) → maxOf x (minOf x y) ≡ x
+absorbed x y n = go (isBelow y x) refl
+  where
+    go : (b : Bool) → isBelow y x ≡ b → maxOf x (minOf x y) ≡ x
+    go true e = ap (maxOf x) (min-is x y true n e) ∙ max-is x y false n (one-way y x e)
+    go false e = ap (maxOf x) (min-is x y false n e) ∙ max-self x
+
+-- the larger of the smaller and the larger is the larger
+kept : (x y : Float) → T (not (isNan x)) → T (not (isNan y)) → maxOf (minOf x y) (maxOf x y) ≡ maxOf x y
+kept x y m n = go (isBelow x y) (isBelow y x) refl refl
+  where
+    go : (b c : Bool) → isBelow x y ≡ b → isBelow y x ≡ c → maxOf (minOf x y) (maxOf x y) ≡ maxOf x y
+    go true c e f =
+        ap (λ (v : Float). maxOf v (maxOf x y)) (min-is x y false m (one-way x y e)) ∙ ap (maxOf x) (max-is x y true m e)
+    go false true e f =
+        ap (λ (v : Float). maxOf v (maxOf x y)) (min-is x y true m f) ∙ ap (maxOf y) (max-is x y false m e) ∙ max-is y x true n f ∙ sym (max-is x y false m e)
+    go false false e f =
+        ap (λ (v : Float). maxOf v (maxOf x y)) (min-is x y false m f) ∙ ap (maxOf x) (max-is x y false m e) ∙ max-self x ∙ sym (max-is x y false m e)
+
+-- first: the second, or the third where that is one too
+pub median-nan-first : (b c : Float) → medianOf nan b c ≡ cond (isNan b) c b
+unfolding medianOf minOf maxOf isNan
+median-nan-first nan c = refl
+median-nan-first (inf s) c = absorbed (inf s) c tt
+median-nan-first (fin s m e) c = absorbed (fin s m e) c tt
+
+-- second: the first
+pub median-nan-second : (a c : Float) → T (not (isNan a)) → medianOf a nan c ≡ a
+unfolding medianOf
+median-nan-second a c n =
+    ap (λ (v : Float). maxOf v (minOf (maxOf a nan) c)) (min-is a nan false n (nan-not-below a)) ∙ ap (λ (v : Float). maxOf a (minOf v c)) (max-is a nan false n (nan-not-above a)) ∙ absorbed a c n
+
+-- third: the larger of the other two
+pub median-nan-third : (a b : Float) → T (not (isNan a)) → T (not (isNan b)) → medianOf a b nan ≡ maxOf a b
+unfolding medianOf
+median-nan-third a b m n =
+    let g = maxOf a b in
+    ap (maxOf (minOf a b)) (min-is g nan false (max-keeps NoNan a b m n) (nan-not-below g)) ∙ kept a b m n
+
+pub nan-zero-one : medianOf nan nought one ≡ nought
+unfolding medianOf minOf maxOf lt isNan
+nan-zero-one = refl
+
+pub nan-one-zero : medianOf nan one nought ≡ one
+unfolding medianOf minOf maxOf lt isNan
+nan-one-zero = refl

@@ -12,7 +12,7 @@ use lib.Ieee.Bits.{toBits-lt, ofBits-toBits, nanBits-is}
 use Rattle.numbers.specs.Scalar.{absOf}
 use Rattle.numbers.proofs.Laws.Order.{abs-number, abs-fits}
 
-negative-bits : (f : Format) (m : ℕ) (e : ℤ) → toBits f (fin true m e) ≡ top f + toBits f (fin false m e)
+pub negative-bits : (f : Format) (m : ℕ) (e : ℤ) → toBits f (fin true m e) ≡ top f + toBits f (fin false m e)
 unfolding toBits
 negative-bits f m e = omega arith
 
@@ -23,7 +23,7 @@ flipped f m e h = neg-fits f (fin false m e) h
 pub size-lt-top : (f : Format) (m : ℕ) (e : ℤ) → T (fits f (fin false m e)) → toBits f (fin false m e) < top f
 size-lt-top f m e h = omega (arith, subst (λ (n : ℕ). n < 2 * top f) (negative-bits f m e) (toBits-lt f (fin true m e) (flipped f m e h)))
 
-inf-lt : (f : Format) → ones f * hid f < top f
+pub inf-lt : (f : Format) → ones f * hid f < top f
 inf-lt binary32 = lit< tt
 inf-lt binary64 = lit< tt
 

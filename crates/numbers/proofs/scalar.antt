@@ -1,0 +1,2 @@
+-- Minimum, maximum and median by comparisons and signs.
+pub mod Zeros
