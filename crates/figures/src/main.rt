@@ -99,8 +99,18 @@ fn quotients() {
         run::all(0.0),
     );
     run::pair(b"zeros", [-0.0, 0.0, 5.0, 0.0, 0.25, 0.0], 1, run::all(0.0));
-    run::pair(b"zeros, blue first", [5.0, 0.0, -0.0, 0.0, 0.25, 0.0], 1, run::all(0.0));
-    run::pair(b"zeros, above", [-0.0, 0.0, -5.0, 0.0, -0.25, 0.0], 1, run::all(0.0));
+    run::pair(
+        b"zeros, blue first",
+        [5.0, 0.0, -0.0, 0.0, 0.25, 0.0],
+        1,
+        run::all(0.0),
+    );
+    run::pair(
+        b"zeros, above",
+        [-0.0, 0.0, -5.0, 0.0, -0.25, 0.0],
+        1,
+        run::all(0.0),
+    );
 }
 
 fn four_channels() {

@@ -1,4 +1,5 @@
 -- The order in which minimum and maximum place floats: that of `le`, with −0 below +0. Assumes nothing.
+--     zero-is, zero-eq, zero-same    what equals 0 is a zero of either sign, zeros are equal, and those of one sign and format the same
 --     Ranked                         x ranks at most y: x ≤ y, and they are not +0 and −0
 --     ranked-same, ranked-trans      an order of all that is no NaN
 --     ranked-below, ranked-not-below  what lies below ranks at most, and so does what the other does not lie below

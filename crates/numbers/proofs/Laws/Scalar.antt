@@ -1,5 +1,8 @@
 -- The smaller and the larger of two floats and the middle one of three, by the order of values and by that with −0 below +0. Assumes nothing.
 --     min-either, max-either                    the smaller and the larger of two are one of them
+--     min-ranks-first, min-ranks-second         the smaller ranks at most each, in the order with −0 below +0
+--     max-ranks-first, max-ranks-second         the larger ranks at least each
+--     by-rank                                   so both choose by that order
 --     min-first, min-second                     the smaller is at most each
 --     max-first, max-second                     the larger is at least each
 --     min-keeps, max-keeps, median-keeps        what holds of all holds of the one that is chosen
