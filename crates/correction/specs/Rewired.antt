@@ -6,7 +6,7 @@ use lib.ListN.{getD, length}
 use lib.Dec.{T}
 use lib.Ieee.{Float, nan, binary32, fits}
 
--- the six orders, by what was red, green and blue
+-- the six orders of red, green and blue, by what is stored first, second and third
 pub data Wiring : Type 0 where
   rgb rbg grb gbr brg bgr : Wiring
 

@@ -1,6 +1,6 @@
 // Minimum, maximum, median, size and mix: `math/scalar.rs`, with the rule for a NaN and for two zeros fixed.
 ghost use mathlib.Core.Path.{_≡_};
-ghost use mathlib.Core.Bool.{false, not, _||_};
+ghost use mathlib.Core.Bool.{true, false, not, _||_};
 ghost use lib.Dec.{T};
 ghost use lib.IntN.{pos};
 ghost use lib.Ieee.{fin, isNan, eq};
@@ -89,12 +89,29 @@ fn some_nan(a: f32, b: f32, c: f32) -> bool
     a != a || (b != b || c != c)
 }
 
+// The median of three of which one is a NaN.
+fn nan_median(a: f32, b: f32, c: f32) -> f32
+    requires { ⌜ isNan a || (isNan b || isNan c) ≡ true ⌝ }
+    ensures { λ r. ⌜ r ≡ medianOf a b c ⌝ }
+{
+    if a != a {
+        if b != b {
+            return c;
+        }
+        return b;
+    }
+    if b != b {
+        return a;
+    }
+    max(a, b)
+}
+
 // The middle one of three: by value where none is a NaN, and only a zero's sign needs more.
 pub fn median(a: f32, b: f32, c: f32) -> f32
     ensures { λ r. ⌜ r ≡ medianOf a b c ⌝ }
 {
     if some_nan(a, b, c) {
-        return max(min(a, b), min(max(a, b), c));
+        return nan_median(a, b, c);
     }
     let m = greater(lesser(a, b), lesser(greater(a, b), c));
     if m == 0.0 { zero_median(a, b, c) } else { m }

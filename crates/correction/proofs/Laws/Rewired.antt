@@ -5,27 +5,27 @@
 --     pass-rewired-bits    bit for bit,
 --     promise-rewired      and after two runs of the public function, by its promise
 use mathlib.Core.Path.{_≡_, refl, sym, _∙_, ap, subst}
-use mathlib.Core.Bool.{Bool, true, cond, _&&_}
+use mathlib.Core.Bool.{Bool, true}
 use mathlib.Core.List.{List}
 use Prim.Native.Nat.{ℕ, _+_, _*_, _/_, _%_, _<_, _≤_}
 use native.Mathlib.Nat.{add-zero, lt-of-lt-of-le}
 use native.Mathlib.Omega.{arith}
 use lib.Arith.{digits-lt, digits-div, digits-mod}
-use lib.Dec.{T, ltb}
 use lib.ListN.{getD, length}
-use lib.Ieee.{Float, nan, binary32, toBits, fits}
+use lib.Ieee.{Float, nan, binary32, toBits}
 use denote.Ref.{now}
 use contract.Lifetimes.{Lfts}
 use borrow.Fn.Kinds.{Dens}
 use borrow.Author.Tests.{lt-ltb}
 use Rattle.numbers.specs.Scalar.{medianOf}
-use Rattle.numbers.proofs.Laws.Scalar.{Number, median-order}
+use Rattle.numbers.specs.Orders.{Number}
+use Rattle.numbers.proofs.Laws.Scalar.{median-order}
 use Rattle.numbers.proofs.Laws.Bounds.{within-no-nan}
-use Rattle.inputs.specs.Checks.{Input, oversize, accepted}
+use Rattle.inputs.specs.Checks.{Input, accepted}
 use Rattle.inputs.specs.Stencil.{isError}
 use Rattle.correction.specs.Collapse.{cellMedian, collapsedSample, collapsed}
 use Rattle.correction.specs.Rewired.{Wiring, rgb, rbg, grb, gbr, brg, bgr, wired, Rewired, Singles}
-use Rattle.correction.specs.Pass.{flags, passSamples, stencilAfter, samplesAfter, numberOf}
+use Rattle.correction.specs.Pass.{flags, passSamples, samplesAfter, numberOf}
 use Rattle.ground.proofs.Laws.Fill.{tab-at}
 use Rattle.inputs.proofs.Laws.Checks.{sizes, passed}
 use Rattle.correction.proofs.pass.msdf_error_correction.Kinds.{ps}

@@ -1,6 +1,6 @@
 -- The order of floats: `le`, `lt` and `eq` over all that are no NaN, the infinities too, and what `neg` and `absOf` make of it. Assumes nothing.
 -- `T (not (isNan x))` says that x is no NaN. A comparison that holds says so of both of its operands.
---     nought, one                               0 and 1
+--     nought, minus-nought, one                 0, −0 and 1
 --     finite, finite-number                     neither a NaN nor an infinity, so no NaN
 --     le→at-most, at-most→le                    two finite values compare as their fractions, each over the other's denominator
 --     inf-le, le-inf                            -∞ is at most each value, and each at most ∞
@@ -40,6 +40,9 @@ pub use Rattle.numbers.proofs.floats.Differences.{plus, minus, AtMost}
 
 abbrev pub nought : Float
 nought = fin false 0 (pos 0)
+
+abbrev pub minus-nought : Float
+minus-nought = fin true 0 (pos 0)
 
 abbrev pub one : Float
 one = fin false 1 (pos 0)

@@ -2,9 +2,8 @@
 --     zero-is, zero-eq, zero-same    what equals 0 is a zero of either sign, zeros are equal, and those of one sign and format the same
 --     Ranked                         x ranks at most y: x ≤ y, and they are not +0 and −0
 --     ranked-same, ranked-trans      an order of all that is no NaN
---     ranked-below, ranked-not-below  what lies below ranks at most, and so does what the other does not lie below
+--     ranked-below, ranked-not-below, ranked-not-above  what lies below ranks at most; and x ranks at most y just where y does not lie below it
 --     ranked-only                    two values of one format that rank at most each other are the same, a zero's sign included
---     below-one-way                  of two numbers at most one lies below the other
 --     nan-not-above, nan-not-below   a NaN neither lies below anything nor has anything below it
 --     one-pattern, same-pattern      a value of a format that is no NaN has one bit pattern there, and two that have the same are the same
 use mathlib.Core.Path.{_≡_, refl, sym, ap, _∙_, subst}
@@ -13,7 +12,7 @@ use Prim.Native.Nat.{ℕ, zero, suc, _*_, _<_}
 use native.Mathlib.Nat.{zero-mul}
 use native.Mathlib.Omega.{arith}
 use mathlib.Core.Bool.{Bool, true, false, not, _&&_, _||_, Bool·beq}
-use lib.IntN.{ℤ, pos}
+use lib.IntN.{ℤ}
 use lib.Dec.{T, eqb, eqb→eq}
 use lib.Ieee.{Float, nan, inf, fin, Format, up, down, top, le, lt, eq, isNan, fits, toBits, ofBits}
 use lib.Ieee.Fits.{up-pos, and-l, and-r}
@@ -117,14 +116,21 @@ ranked-only f x y i j p q = elim (eq-held f x y i j (eq-of-le-le x y (p .0) (q .
   ]
 ]
 
--- nothing lies below what lies below it
-pub below-one-way : (x y : Float) → T (isBelow x y) → T (isBelow y x) → ⊥
-below-one-way x y h k = elim (or-split (lt x y) (isZero true x && isZero false y) h) [
-  | inl l ↦ lt-not-le x y l (ranked-below y x k .0)
-  | inr z ↦ ranked-below y x k .1 (and-r (isZero true x) (isZero false y) z) (and-l (isZero true x) (isZero false y) z)
-]
+-- what ranks at least another does not lie below it
+pub ranked-not-above : (x y : Float) → Ranked x y → T (not (isBelow y x))
+ranked-not-above x y p = refuted (isBelow y x) below
+  where
+    below : T (isBelow y x) → ⊥
+    below h = elim (or-split (lt y x) (isZero true y && isZero false x) h) [
+      | inl l ↦ lt-not-le y x l (p .0)
+      | inr z ↦ p .1 (and-r (isZero true y) (isZero false x) z) (and-l (isZero true y) (isZero false x) z)
+    ]
 
--- and a NaN lies neither below nor above anything
+    refuted : (b : Bool) → (T b → ⊥) → T (not b)
+    refuted true n = n tt
+    refuted false n = tt
+
+-- a NaN lies neither below nor above anything
 pub nan-not-above : (x : Float) → isBelow x nan ≡ false
 unfolding lt
 nan-not-above nan = refl

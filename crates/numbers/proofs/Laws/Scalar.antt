@@ -15,31 +15,27 @@
 --     median-least, median-greatest, median-only  what two are at most is at least the median, what two are at least at most, and what is both equals it
 --     median-swap, median-turn                  the first two may be swapped, and the three turned about, which gives every order
 --     median-twice                              the median of a value twice and another is that value
---     Number                                    a value of a format that is no NaN
+--     min-lowest, max-highest                   neither of two numbers lies below the smaller, and the larger below neither
 --     min-swap, max-swap                        of two such numbers the order does not matter, to a zero's sign
 --     median-order, median-order-bits           nor does it of three, in all six orders, to the last bit
+--     zeros-min, zeros-max, zeros-median        of −0 and +0 the one is the smaller, the other the larger; between them and 5 it is +0, and −0 with −5
 --     median-nan-first, median-nan-second, median-nan-third  where one of the three is a NaN the order does matter
 --     nan-zero-one, nan-one-zero                the smallest example
 use mathlib.Core.Path.{_≡_, refl, sym, ap, _∙_, subst}
 use mathlib.Core.Logic.{_⊎_, inl, inr}
 use mathlib.Core.Bool.{Bool, true, false, not, _||_, cond}
+use lib.IntN.{pos}
 use lib.Dec.{T}
 use lib.Ieee.Bits.{is-false}
 use lib.Ieee.{Float, nan, inf, fin, Format, le, lt, eq, isNan, fits, toBits}
+use Rattle.numbers.specs.Orders.{Number, InEveryOrder}
 use Rattle.numbers.specs.Scalar.{isBelow, minOf, maxOf, medianOf}
-use Rattle.numbers.proofs.Laws.Order.{nought, one, number-left, number-right, le-refl, le-trans, eq-of-le-le}
+use Rattle.numbers.proofs.Laws.Order.{nought, minus-nought, one, number-left, number-right, le-trans, eq-of-le-le}
 pub use Rattle.numbers.proofs.floats.Middle.{TwoOf}
-use Rattle.numbers.proofs.floats.Middle.{NoNan, Chooses, two-below, two-above, least, greatest, swapped, turned, twice}
-use Rattle.numbers.proofs.Laws.Rank.{Ranked, ranked-same, ranked-trans, ranked-below, ranked-not-below, ranked-only, below-one-way, nan-not-above, nan-not-below}
-
-abbrev AtMost : Float → Float → Type 0
-AtMost x y = T (le x y)
+use Rattle.numbers.proofs.floats.Middle.{NoNan, AtMost, either, Chooses, map-two, through, two-below, two-above, swapped, turned, twice}
+use Rattle.numbers.proofs.Laws.Rank.{Ranked, ranked-same, ranked-trans, ranked-below, ranked-not-below, ranked-not-above, ranked-only, nan-not-above, nan-not-below}
 
 -- ---- two
-either : (b : Bool) (x y : Float) → (cond b y x ≡ x) ⊎ (cond b y x ≡ y)
-either true x y = inr refl
-either false x y = inl refl
-
 pub min-either : (x y : Float) → (minOf x y ≡ x) ⊎ (minOf x y ≡ y)
 unfolding minOf
 min-either x y = either (isNan x || isBelow y x) x y
@@ -77,6 +73,12 @@ pub max-ranks-second : (x y : Float) → T (not (isNan y)) → Ranked y (maxOf x
 unfolding maxOf
 max-ranks-second x y n = taken-second x y (λ (v : Float). Ranked y v) (isNan x) (isBelow x y) (ranked-same y n) (λ m h. ranked-not-below y x n m h)
 
+pub min-lowest : (x y : Float) → T (not (isNan x)) → T (not (isNan y)) → T (not (isBelow x (minOf x y))) × T (not (isBelow y (minOf x y)))
+min-lowest x y m n = (ranked-not-above (minOf x y) x (min-ranks-first x y m), ranked-not-above (minOf x y) y (min-ranks-second x y n))
+
+pub max-highest : (x y : Float) → T (not (isNan x)) → T (not (isNan y)) → T (not (isBelow (maxOf x y) x)) × T (not (isBelow (maxOf x y) y))
+max-highest x y m n = (ranked-not-above x (maxOf x y) (max-ranks-first x y m), ranked-not-above y (maxOf x y) (max-ranks-second x y n))
+
 -- and so by that of values
 pub min-first : (x y : Float) → T (not (isNan x)) → T (le (minOf x y) x)
 min-first x y n = min-ranks-first x y n .0
@@ -101,19 +103,6 @@ by-rank =
       lo-second = λ x y m n. min-ranks-second x y n;
       hi-first = λ x y m n. max-ranks-first x y m;
       hi-second = λ x y m n. max-ranks-second x y n;
-    }
-
-by-value : Chooses AtMost minOf maxOf
-by-value =
-    record {
-      same = le-refl;
-      trans = le-trans;
-      lo-either = min-either;
-      hi-either = max-either;
-      lo-first = λ x y m n. min-first x y m;
-      lo-second = λ x y m n. min-second x y n;
-      hi-first = λ x y m n. max-first x y m;
-      hi-second = λ x y m n. max-second x y n;
     }
 
 pub min-keeps : (P : Float → Type 0) (x y : Float) → P x → P y → P (minOf x y)
@@ -162,19 +151,21 @@ median-below a b c hi = median-keeps (λ (v : Float). T (le v hi)) a b c
 -- ---- three, by the order of values
 pub median-two-below : (a b c : Float) → T (not (isNan a)) → T (not (isNan b)) → T (not (isNan c)) → TwoOf (λ (v : Float). T (le v (medianOf a b c))) a b c
 unfolding medianOf
-median-two-below = two-below AtMost minOf maxOf by-value
+median-two-below a b c l m n =
+    let v = medianOf a b c in
+    map-two (λ (u : Float). Ranked u v) (λ (u : Float). T (le u v)) a b c (λ u r. r .0) (two-below Ranked minOf maxOf by-rank a b c l m n)
 
 pub median-two-above : (a b c : Float) → T (not (isNan a)) → T (not (isNan b)) → T (not (isNan c)) → TwoOf (λ (v : Float). T (le (medianOf a b c) v)) a b c
 unfolding medianOf
-median-two-above = two-above AtMost minOf maxOf by-value
+median-two-above a b c l m n =
+    let v = medianOf a b c in
+    map-two (λ (u : Float). Ranked v u) (λ (u : Float). T (le v u)) a b c (λ u r. r .0) (two-above Ranked minOf maxOf by-rank a b c l m n)
 
 pub median-least : (a b c v : Float) → T (not (isNan a)) → T (not (isNan b)) → T (not (isNan c)) → TwoOf (λ (u : Float). T (le u v)) a b c → T (le (medianOf a b c) v)
-unfolding medianOf
-median-least = least AtMost minOf maxOf by-value
+median-least a b c v l m n h = through AtMost le-trans a b c (medianOf a b c) v (median-two-above a b c l m n) h
 
 pub median-greatest : (v a b c : Float) → T (not (isNan a)) → T (not (isNan b)) → T (not (isNan c)) → TwoOf (λ (u : Float). T (le v u)) a b c → T (le v (medianOf a b c))
-unfolding medianOf
-median-greatest = greatest AtMost minOf maxOf by-value
+median-greatest v a b c l m n h = through AtMost le-trans a b c v (medianOf a b c) h (median-two-below a b c l m n)
 
 pub median-only : (a b c v : Float) → T (not (isNan a)) → T (not (isNan b)) → T (not (isNan c)) → TwoOf (λ (u : Float). T (le u v)) a b c → TwoOf (λ (u : Float). T (le v u)) a b c
     → T (eq (medianOf a b c) v)
@@ -182,15 +173,15 @@ median-only a b c v l m n h k = eq-of-le-le (medianOf a b c) v (median-least a b
 
 pub median-swap : (a b c : Float) → T (not (isNan a)) → T (not (isNan b)) → T (not (isNan c)) → T (eq (medianOf a b c) (medianOf b a c))
 unfolding medianOf
-median-swap a b c l m n = eq-of-le-le (medianOf a b c) (medianOf b a c) (swapped AtMost minOf maxOf by-value a b c l m n) (swapped AtMost minOf maxOf by-value b a c m l n)
+median-swap a b c l m n = eq-of-le-le (medianOf a b c) (medianOf b a c) (swapped Ranked minOf maxOf by-rank a b c l m n .0) (swapped Ranked minOf maxOf by-rank b a c m l n .0)
 
 pub median-turn : (a b c : Float) → T (not (isNan a)) → T (not (isNan b)) → T (not (isNan c)) → T (eq (medianOf a b c) (medianOf c a b))
 unfolding medianOf
-median-turn a b c l m n = let k = turned AtMost minOf maxOf by-value a b c l m n in eq-of-le-le (medianOf a b c) (medianOf c a b) (k .0) (k .1)
+median-turn a b c l m n = let k = turned Ranked minOf maxOf by-rank a b c l m n in eq-of-le-le (medianOf a b c) (medianOf c a b) (k .0 .0) (k .1 .0)
 
 pub median-twice : (a b : Float) → T (not (isNan a)) → T (not (isNan b)) → T (eq (medianOf a a b) a)
 unfolding medianOf
-median-twice a b l m = let k = twice AtMost minOf maxOf by-value a b l m in eq-of-le-le (medianOf a a b) a (k .0) (k .1)
+median-twice a b l m = let k = twice Ranked minOf maxOf by-rank a b l m in eq-of-le-le (medianOf a a b) a (k .0 .0) (k .1 .0)
 
 pub median-mono : (a a' b b' c c' : Float) → T (le a a') → T (le b b') → T (le c c') → T (le (medianOf a b c) (medianOf a' b' c'))
 median-mono a a' b b' c c' h k g =
@@ -204,9 +195,6 @@ median-mono a a' b b' c c' h k g =
     up (inr (inr x)) = inr (inr (le-trans (medianOf a b c) b b' (x .0) k, le-trans (medianOf a b c) c c' (x .1) g))
 
 -- ---- numbers of one format: the same value in every order, a zero's sign included
-abbrev pub Number : Format → Float → Type 0
-Number f x = T (fits f x) × T (not (isNan x))
-
 -- the smaller of two in either order ranks at most itself in the other
 min-ranked : (x y : Float) → NoNan x → NoNan y → Ranked (minOf x y) (minOf y x)
 min-ranked x y m n = min-keeps (λ (v : Float). Ranked (minOf x y) v) y x (min-ranks-second x y n) (min-ranks-first x y m)
@@ -234,21 +222,30 @@ turn f a b c p q r =
     let k = turned Ranked minOf maxOf by-rank a b c (p .1) (q .1) (r .1) in
     ranked-only f (medianOf a b c) (medianOf c a b) (median-fits f a b c (p .0) (q .0) (r .0)) (median-fits f c a b (r .0) (p .0) (q .0)) (k .0) (k .1)
 
--- v is what g makes of the three in each of the five other orders
-abbrev pub InOtherOrders : {X : Type 0} → X → (Float → Float → Float → X) → Float → Float → Float → Type 0
-InOtherOrders v g a b c = (v ≡ g a c b) × (v ≡ g b a c) × (v ≡ g b c a) × (v ≡ g c a b) × (v ≡ g c b a)
-
-pub median-order : (f : Format) (a b c : Float) → Number f a → Number f b → Number f c → InOtherOrders (medianOf a b c) medianOf a b c
+pub median-order : (f : Format) (a b c : Float) → Number f a → Number f b → Number f c → InEveryOrder medianOf a b c
 median-order f a b c p q r =
     let cab : medianOf a b c ≡ medianOf c a b = turn f a b c p q r in
     let bca : medianOf a b c ≡ medianOf b c a = cab ∙ turn f c a b r p q in
     (cab ∙ swap f c a b r p q, swap f a b c p q r, bca, cab, bca ∙ swap f b c a q r p)
 
 -- Each such value has one bit pattern (`one-pattern` of Laws/Rank.antt), so the patterns are the same.
-pub median-order-bits : (f : Format) (a b c : Float) → Number f a → Number f b → Number f c → InOtherOrders (toBits f (medianOf a b c)) (λ x y z. toBits f (medianOf x y z)) a b c
+pub median-order-bits : (f : Format) (a b c : Float) → Number f a → Number f b → Number f c → InEveryOrder (λ x y z. toBits f (medianOf x y z)) a b c
 median-order-bits f a b c p q r =
     let k = median-order f a b c p q r in
     (ap (toBits f) (k .0), ap (toBits f) (k .1), ap (toBits f) (k .2), ap (toBits f) (k .3), ap (toBits f) (k .4))
+
+-- −0 and +0 in both orders, and between them and 5 or −5
+pub zeros-min : (minOf nought minus-nought ≡ minus-nought) × (minOf minus-nought nought ≡ minus-nought)
+unfolding minOf lt isNan
+zeros-min = (refl, refl)
+
+pub zeros-max : (maxOf nought minus-nought ≡ nought) × (maxOf minus-nought nought ≡ nought)
+unfolding maxOf lt isNan
+zeros-max = (refl, refl)
+
+pub zeros-median : (medianOf minus-nought nought (fin false 5 (pos 0)) ≡ nought) × (medianOf minus-nought nought (fin true 5 (pos 0)) ≡ minus-nought)
+unfolding medianOf minOf maxOf lt isNan
+zeros-median = (refl, refl)
 
 -- ---- with a NaN among the three: the order decides
 min-is : (x y : Float) (b : Bool) → T (not (isNan x)) → isBelow y x ≡ b → minOf x y ≡ cond b y x
@@ -260,11 +257,7 @@ unfolding maxOf
 max-is x y b n e = ap (λ (a : Bool). cond (a || isBelow x y) y x) (is-false (isNan x) n) ∙ ap (λ (a : Bool). cond a y x) e
 
 one-way : (x y : Float) → isBelow x y ≡ true → isBelow y x ≡ false
-one-way x y e = is-false (isBelow y x) (refuted (isBelow y x) (below-one-way x y (subst T (sym e) tt)))
-  where
-    refuted : (b : Bool) → (T b → ⊥) → T (not b)
-    refuted true n = n tt
-    refuted false n = tt
+one-way x y e = is-false (isBelow y x) (ranked-not-above x y (ranked-below x y (subst T (sym e) tt)))
 
 max-self : (x : Float) → maxOf x x ≡ x
 max-self x = elim (max-either x x) [ inl e ↦ e | inr e ↦ e ]

@@ -1,12 +1,20 @@
 -- The middle one of three, chosen by a smaller and a larger of two that respect an order. Assumes nothing.
-use mathlib.Core.Path.{_≡_, sym, subst}
+use mathlib.Core.Path.{_≡_, refl, sym, subst}
 use mathlib.Core.Logic.{_⊎_, inl, inr}
-use mathlib.Core.Bool.{not}
+use mathlib.Core.Bool.{Bool, true, false, not, cond}
 use lib.Dec.{T}
-use lib.Ieee.{Float, isNan}
+use lib.Ieee.{Float, le, isNan}
 
 abbrev pub NoNan : Float → Type 0
 NoNan v = T (not (isNan v))
+
+abbrev pub AtMost : Float → Float → Type 0
+AtMost x y = T (le x y)
+
+-- a choice is one of two
+pub either : (b : Bool) (x y : Float) → (cond b y x ≡ x) ⊎ (cond b y x ≡ y)
+either true x y = inr refl
+either false x y = inl refl
 
 -- R is an order of all that is no NaN; lo and hi take one of two, and of such as are no NaN one that is at most, or at least, each.
 pub record Chooses (R : Float → Float → Type 0) (lo hi : Float → Float → Float) : Type 0 where
@@ -24,7 +32,7 @@ abbrev pub TwoOf : (Float → Type 0) → Float → Float → Float → Type 0
 TwoOf P a b c = (P a × P b) ⊎ ((P a × P c) ⊎ (P b × P c))
 
 -- two of three and two of three have one in common
-pub common : (P Q : Float → Type 0) (R : Type 0) (a b c : Float) → TwoOf P a b c → TwoOf Q a b c → ((v : Float) → P v → Q v → R) → R
+common : (P Q : Float → Type 0) (R : Type 0) (a b c : Float) → TwoOf P a b c → TwoOf Q a b c → ((v : Float) → P v → Q v → R) → R
 common P Q R a b c (inl x) (inl y) k = k a (x .0) (y .0)
 common P Q R a b c (inl x) (inr (inl y)) k = k a (x .0) (y .0)
 common P Q R a b c (inl x) (inr (inr y)) k = k b (x .1) (y .0)
@@ -35,15 +43,24 @@ common P Q R a b c (inr (inr x)) (inl y) k = k b (x .0) (y .1)
 common P Q R a b c (inr (inr x)) (inr (inl y)) k = k c (x .1) (y .1)
 common P Q R a b c (inr (inr x)) (inr (inr y)) k = k b (x .0) (y .0)
 
-pub swap-two : (P : Float → Type 0) (a b c : Float) → TwoOf P a b c → TwoOf P b a c
+-- what ranks at most two of three ranks at most what two of them rank at most
+pub through : (R : Float → Float → Type 0) → ((x y z : Float) → R x y → R y z → R x z) → (a b c v w : Float) → TwoOf (λ (u : Float). R v u) a b c → TwoOf (λ (u : Float). R u w) a b c → R v w
+through R trans a b c v w x y = common (λ (u : Float). R v u) (λ (u : Float). R u w) (R v w) a b c x y (λ u h k. trans v u w h k)
+
+swap-two : (P : Float → Type 0) (a b c : Float) → TwoOf P a b c → TwoOf P b a c
 swap-two P a b c (inl x) = inl (x .1, x .0)
 swap-two P a b c (inr (inl x)) = inr (inr x)
 swap-two P a b c (inr (inr x)) = inr (inl x)
 
-pub turn-two : (P : Float → Type 0) (a b c : Float) → TwoOf P a b c → TwoOf P b c a
+turn-two : (P : Float → Type 0) (a b c : Float) → TwoOf P a b c → TwoOf P b c a
 turn-two P a b c (inl x) = inr (inl (x .1, x .0))
 turn-two P a b c (inr (inl x)) = inr (inr (x .1, x .0))
 turn-two P a b c (inr (inr x)) = inl x
+
+pub map-two : (P Q : Float → Type 0) (a b c : Float) → ((v : Float) → P v → Q v) → TwoOf P a b c → TwoOf Q a b c
+map-two P Q a b c k (inl x) = inl (k a (x .0), k b (x .1))
+map-two P Q a b c k (inr (inl x)) = inr (inl (k a (x .0), k c (x .1)))
+map-two P Q a b c k (inr (inr x)) = inr (inr (k b (x .0), k c (x .1)))
 
 -- what holds of both holds of the one that is taken
 keeps : (P : Float → Type 0) (x y v : Float) → (v ≡ x) ⊎ (v ≡ y) → P x → P y → P v
@@ -85,14 +102,10 @@ module _ (R : Float → Float → Type 0) (lo hi : Float → Float → Float) (o
       ]
 
   pub least : (a b c v : Float) → NoNan a → NoNan b → NoNan c → TwoOf (λ (u : Float). R u v) a b c → R (middle lo hi a b c) v
-  least a b c v l m n h =
-      let w = middle lo hi a b c in
-      common (λ (u : Float). R w u) (λ (u : Float). R u v) (R w v) a b c (two-above a b c l m n) h (λ u x y. o .trans w u v x y)
+  least a b c v l m n h = through R (o .trans) a b c (middle lo hi a b c) v (two-above a b c l m n) h
 
   pub greatest : (v a b c : Float) → NoNan a → NoNan b → NoNan c → TwoOf (λ (u : Float). R v u) a b c → R v (middle lo hi a b c)
-  greatest v a b c l m n h =
-      let w = middle lo hi a b c in
-      common (λ (u : Float). R v u) (λ (u : Float). R u w) (R v w) a b c h (two-below a b c l m n) (λ u x y. o .trans v u w x y)
+  greatest v a b c l m n h = through R (o .trans) a b c v (middle lo hi a b c) h (two-below a b c l m n)
 
   pub swapped : (a b c : Float) → NoNan a → NoNan b → NoNan c → R (middle lo hi a b c) (middle lo hi b a c)
   swapped a b c l m n = let v = middle lo hi b a c in least a b c v l m n (swap-two (λ (u : Float). R u v) b a c (two-below b a c m l n))

@@ -1,22 +1,23 @@
 -- What the sign of one decides of two equal numbers and of three with a zero for their median; and the median by value alone, which is the median but for a zero's sign. Assumes nothing.
-use mathlib.Core.Path.{_≡_, refl, sym, _∙_, ap, subst}
+use mathlib.Core.Path.{_≡_, refl, sym, _∙_, subst}
 use mathlib.Core.Logic.{_⊎_, inl, inr}
 use mathlib.Core.Bool.{Bool, true, false, not, _&&_, _||_, cond}
-use Prim.Native.Nat.{ℕ, zero, suc, _+_, _*_}
+use Prim.Native.Nat.{zero, suc, _+_, _*_}
 use native.Mathlib.Nat.{zero-mul}
 use native.Mathlib.Omega.{arith}
-use lib.IntN.{ℤ, pos}
+use lib.IntN.{pos}
 use lib.Dec.{T, leb}
 use lib.Ieee.{Float, nan, inf, fin, Format, binary32, up, down, top, hid, ones, le, lt, eq, ne, isNan, fits, toBits}
 use borrow.Author.Tests.{le-leb, lt-leb, not-true, not-false}
 use Rattle.numbers.specs.Inner.{negative, lesserOf, greaterOf}
+use Rattle.numbers.specs.Orders.{Number}
 use Rattle.numbers.specs.Scalar.{isZero, isBelow, minOf, maxOf, medianOf}
-use Rattle.numbers.proofs.floats.Middle.{NoNan, Chooses, TwoOf, middle, two-below, two-above, least, greatest}
+use Rattle.numbers.proofs.floats.Middle.{NoNan, AtMost, either, Chooses, TwoOf, middle, two-below, two-above, least, greatest}
 use Rattle.numbers.proofs.floats.Differences.{of-at-most}
 use Rattle.numbers.proofs.floats.Signs.{negative-bits, size-lt-top, inf-lt}
-use Rattle.numbers.proofs.Laws.Order.{nought, number-left, number-right, le-of-lt, le-of-eq, ge-of-eq, le-refl, le-trans, le-of-not-lt, eq-trans, eq-held}
+use Rattle.numbers.proofs.Laws.Order.{nought, minus-nought, number-left, number-right, le-of-lt, le-of-eq, ge-of-eq, le-refl, le-trans, le-of-not-lt, eq-trans, eq-held}
 use Rattle.numbers.proofs.Laws.Rank.{Ranked, ranked-only, zero-is, zero-eq, zero-same}
-use Rattle.numbers.proofs.Laws.Scalar.{Number, by-rank, min-ranks-first, min-ranks-second, max-ranks-first, max-ranks-second, min-either, max-either, median-only, median-fits}
+use Rattle.numbers.proofs.Laws.Scalar.{by-rank, min-ranks-first, min-ranks-second, max-ranks-first, max-ranks-second, min-either, max-either, median-only, median-fits}
 
 -- ---- signs
 not-plus : (x : Float) → negative x ≡ true → T (isZero false x) → ⊥
@@ -35,11 +36,8 @@ not-minus (fin s (suc m) e') e h = h
 not-minus (fin false zero e') e h = h
 not-minus (fin true zero e') e h = subst T e tt
 
-abbrev pub minusZero : Float
-minusZero = fin true 0 (pos 0)
-
 -- what is negative ranks at most −0, and what is not at least +0
-minus-under : (x : Float) → NoNan x → negative x ≡ true → Ranked x minusZero
+minus-under : (x : Float) → NoNan x → negative x ≡ true → Ranked x minus-nought
 unfolding negative isNan le
 minus-under nan n e = absurd n
 minus-under (inf true) n e = (tt, λ a b. not-plus (inf true) e a)
@@ -73,18 +71,18 @@ equal-of : (x y : Float) → ne y x ≡ false → T (eq y x)
 unfolding ne
 equal-of x y e = subst T (sym (not-false (eq y x) e)) tt
 
-neither : (b c d : Bool) → b ≡ false → (T c → T d → ⊥) → b || (c && d) ≡ false
-neither true c d e n = e
-neither false true true e n = absurd (n tt tt)
-neither false true false e n = refl
-neither false false d e n = refl
+fails : (b c d : Bool) → b ≡ false → (T c → T d → ⊥) → b || (c && d) ≡ false
+fails true c d e n = e
+fails false true true e n = absurd (n tt tt)
+fails false true false e n = refl
+fails false false d e n = refl
 
 -- of two that are not equal the one lies below the other by value or not at all
 pub apart-min : (x y : Float) → lt y x ≡ false → ne y x ≡ true → isBelow y x ≡ false
-apart-min x y l n = neither (lt y x) (isZero true y) (isZero false x) l (λ a b. unequal x y n (zero-eq true false y x a b))
+apart-min x y l n = fails (lt y x) (isZero true y) (isZero false x) l (λ a b. unequal x y n (zero-eq true false y x a b))
 
 pub apart-max : (x y : Float) → lt x y ≡ false → ne y x ≡ true → isBelow x y ≡ false
-apart-max x y l n = neither (lt x y) (isZero true x) (isZero false y) l (λ a b. unequal x y n (zero-eq false true y x b a))
+apart-max x y l n = fails (lt x y) (isZero true x) (isZero false y) l (λ a b. unequal x y n (zero-eq false true y x b a))
 
 -- of two that are equal
 module _ (x y : Float) (i : fits binary32 x ≡ true) (j : fits binary32 y ≡ true) (e' : ne y x ≡ false) where
@@ -131,17 +129,10 @@ module _ (x y : Float) (i : fits binary32 x ≡ true) (j : fits binary32 y ≡ t
   ]
 
 -- ---- three
-either : (b : Bool) (x y : Float) → (cond b y x ≡ x) ⊎ (cond b y x ≡ y)
-either true x y = inr refl
-either false x y = inl refl
-
 -- y where the test passes, and x where it fails
 taken : (x y : Float) (P : Float → Type 0) (b : Bool) → (T b → P y) → (T (not b) → P x) → P (cond b y x)
 taken x y P true l r = l tt
 taken x y P false l r = r tt
-
-abbrev AtMost : Float → Float → Type 0
-AtMost x y = T (le x y)
 
 by-value : Chooses AtMost lesserOf greaterOf
 unfolding lesserOf greaterOf
@@ -186,13 +177,13 @@ module _ (f : Format) (a b c : Float) (p : Number f a) (q : Number f b) (r : Num
     fitting : T (fits f (medianOf a b c))
     fitting = median-fits f a b c (p .0) (q .0) (r .0)
 
-    median-minus : TwoOf (λ (v : Float). negative v ≡ true) a b c → minusZero ≡ medianOf a b c
+    median-minus : TwoOf (λ (v : Float). negative v ≡ true) a b c → minus-nought ≡ medianOf a b c
     unfolding medianOf fits
     median-minus t =
-        let k : Ranked (medianOf a b c) minusZero = least Ranked minOf maxOf by-rank a b c minusZero (p .1) (q .1) (r .1) (two t) in
-        elim (zero-is (medianOf a b c) z) [ inl h ↦ zero-same f true minusZero (medianOf a b c) tt fitting tt h | inr h ↦ absurd (k .1 h tt) ]
+        let k : Ranked (medianOf a b c) minus-nought = least Ranked minOf maxOf by-rank a b c minus-nought (p .1) (q .1) (r .1) (two t) in
+        elim (zero-is (medianOf a b c) z) [ inl h ↦ zero-same f true minus-nought (medianOf a b c) tt fitting tt h | inr h ↦ absurd (k .1 h tt) ]
       where
-        two : TwoOf (λ (v : Float). negative v ≡ true) a b c → TwoOf (λ (v : Float). Ranked v minusZero) a b c
+        two : TwoOf (λ (v : Float). negative v ≡ true) a b c → TwoOf (λ (v : Float). Ranked v minus-nought) a b c
         two (inl x) = inl (minus-under a (p .1) (x .0), minus-under b (q .1) (x .1))
         two (inr (inl x)) = inr (inl (minus-under a (p .1) (x .0), minus-under c (r .1) (x .1)))
         two (inr (inr x)) = inr (inr (minus-under b (q .1) (x .0), minus-under c (r .1) (x .1)))

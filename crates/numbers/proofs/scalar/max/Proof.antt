@@ -1,6 +1,6 @@
 -- `numbers::scalar::max` meets its contract (`Zeros.antt` where neither is less). Assumes nothing.
 use mathlib.Core.Path.{sym, _∙_}
-use Rattle.numbers.specs.Scalar.{isBelow, maxOf}
+use Rattle.numbers.specs.Scalar.{maxOf}
 use Rattle.ground.proofs.Laws.Nan.{ne-self}
 use Rattle.numbers.proofs.scalar.Zeros.{apart-max, second-number, max-minus, max-plus}
 use Rattle.numbers.proofs.scalar.max.Statement.{statement}

@@ -1,12 +1,11 @@
--- `numbers::scalar::median` meets its contract: the rule itself where one is a NaN, else the median by value (`Zeros.antt`). Assumes nothing.
+-- `numbers::scalar::median` meets its contract: what `nan_median` promises where one is a NaN, else the median by value (`Zeros.antt`). Assumes nothing.
 use borrow.Author.Needs.{needs}
 use mathlib.Core.Path.{_≡_, sym, _∙_, subst}
 use mathlib.Core.Bool.{Bool, true, false, not, _||_}
 use lib.Dec.{T}
 use lib.Ieee.{Float, binary32, eq, isNan, ofBits, ofFields, odd}
-use Rattle.numbers.specs.Scalar.{medianOf}
+use Rattle.numbers.specs.Orders.{Number}
 use Rattle.numbers.proofs.Laws.Order.{nought}
-use Rattle.numbers.proofs.Laws.Scalar.{Number}
 use Rattle.numbers.proofs.scalar.Zeros.{byValue, median-by-value, median-zero}
 use Rattle.numbers.proofs.scalar.median.Statement.{statement}
 use Rattle.numbers.proofs.scalar.median.Tie as tie
@@ -31,10 +30,6 @@ numbers c =
 value : (c : tie.After-greater2) → let a = start c .args in c .greater2 .result ≡ byValue (a .a) (a .b) (a .c)
 value c = cc
 
-returns : tie.Need-returns
-unfolding medianOf
-returns c = cc
-
 zero-median-requires : tie.Need-zero-median-requires
 unfolding ofBits ofFields odd
 zero-median-requires c κs =
@@ -52,6 +47,4 @@ returns-3 c =
 pub median-spec : {M : Type 1} → statement M
 median-spec =
     tie.close
-    (tie.spec (λ c κs. search needs) (λ c κs. search needs) (λ c κs. search needs) (λ c κs. search needs) (λ c κs. search needs) returns (λ c κs. search needs) (λ c κs. search needs) (λ c κs. search needs) (λ c κs. search needs) zero-median-requires
-    (λ c. search needs)
-    returns-3)
+    (tie.spec (λ c κs. search needs) (λ c κs. sym (c .before .some-nan .ensures) ∙ c .if1 .taken) (λ c. c .nan-median .ensures) (λ c κs. search needs) (λ c κs. search needs) (λ c κs. search needs) (λ c κs. search needs) zero-median-requires (λ c. search needs) returns-3)

@@ -1,6 +1,6 @@
 -- `numbers::scalar::min` meets its contract (`Zeros.antt` where neither is less). Assumes nothing.
 use mathlib.Core.Path.{sym, _∙_}
-use Rattle.numbers.specs.Scalar.{isBelow, minOf}
+use Rattle.numbers.specs.Scalar.{minOf}
 use Rattle.ground.proofs.Laws.Nan.{ne-self}
 use Rattle.numbers.proofs.scalar.Zeros.{apart-min, second-number, min-minus, min-plus}
 use Rattle.numbers.proofs.scalar.min.Statement.{statement}

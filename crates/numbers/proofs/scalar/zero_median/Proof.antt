@@ -4,10 +4,8 @@ use mathlib.Core.Path.{_≡_, refl, sym, _∙_, ap, subst}
 use mathlib.Core.Bool.{Bool, true, false, Bool·beq}
 use lib.IntN.{pos}
 use lib.Dec.{T}
-use lib.Ieee.{Float, fin, binary32}
-use Rattle.numbers.specs.Inner.{negative}
-use Rattle.numbers.specs.Scalar.{medianOf}
-use Rattle.numbers.proofs.Laws.Scalar.{Number}
+use lib.Ieee.{fin, binary32}
+use Rattle.numbers.specs.Orders.{Number}
 use Rattle.numbers.proofs.scalar.Zeros.{sign-first, sign-third}
 use Rattle.numbers.proofs.scalar.zero_median.Statement.{statement}
 use Rattle.numbers.proofs.scalar.zero_median.Tie as tie
