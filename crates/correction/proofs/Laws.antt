@@ -9,4 +9,5 @@ pub mod Alike
 pub mod Grows
 pub mod Falls
 pub mod Monotony
+pub mod Channel
 pub mod Figures

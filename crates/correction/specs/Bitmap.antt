@@ -14,9 +14,12 @@ cell w x y = y * w + x
 abbrev pub place : ℕ → ℕ → ℕ → ℕ → ℕ → ℕ
 place w ch x y i = cell w x y * ch + i
 
--- the first three channels of texel x, y
+-- the first three channels of the texel of cell k, and of texel x, y
+abbrev pub cellTexel : List Float → ℕ → ℕ → List Float
+cellTexel xs ch k = getD xs (k * ch + 0) nan ∷ getD xs (k * ch + 1) nan ∷ getD xs (k * ch + 2) nan ∷ []
+
 unfoldable pub texel : List Float → ℕ → ℕ → ℕ → ℕ → List Float
-texel xs w ch x y = getD xs (place w ch x y 0) nan ∷ getD xs (place w ch x y 1) nan ∷ getD xs (place w ch x y 2) nan ∷ []
+texel xs w ch x y = cellTexel xs ch (cell w x y)
 
 -- Column nx and row ny, counted from 1, are inside: so 0 and the size plus 1 are the outside's nearest.
 unfoldable pub inBounds : ℕ → ℕ → ℕ → ℕ → Bool

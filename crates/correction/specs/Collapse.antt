@@ -5,12 +5,13 @@ use mathlib.Core.List.{List}
 use lib.ListN.{getD, length}
 use lib.Dec.{ltb}
 use lib.Ieee.{Float, nan}
-use Rattle.numbers.specs.Scalar.{medianOf}
 use Rattle.ground.specs.Lists.{tab}
+use Rattle.detectors.specs.Texel.{texelMedian}
+use Rattle.correction.specs.Bitmap.{cellTexel}
 
--- the median of the texel of cell k
-unfoldable pub cellMedian : List Float → ℕ → ℕ → Float
-cellMedian xs ch k = medianOf (getD xs (k * ch) nan) (getD xs (k * ch + 1) nan) (getD xs (k * ch + 2) nan)
+-- the median's own value, of the texel of cell k
+abbrev pub cellMedian : List Float → ℕ → ℕ → Float
+cellMedian xs ch k = texelMedian (cellTexel xs ch k)
 
 -- Sample j, which is channel j % ch of cell j / ch: channel four and all other texels stay.
 unfoldable pub collapsedSample : List Float → ℕ → (ℕ → Bool) → ℕ → Float

@@ -2,12 +2,11 @@
 use mathlib.Core.Path.{_≡_}
 use Prim.Native.Nat.{ℕ, zero, suc, _+_, _-_, _*_, _/_, _%_, _≤_, _<_}
 use mathlib.Core.Bool.{Bool, cond, _&&_, _||_}
-use mathlib.Core.List.{List}
+use mathlib.Core.List.{List, [], _∷_}
 use lib.ListN.{getD, length, set}
 use lib.Dec.{eqb, ltb}
 use lib.IntN.{ℤ, pos, negsuc}
 use lib.Ieee.{Float, nan}
-use Rattle.numbers.specs.Scalar.{medianOf}
 use Rattle.ranges.specs.declared.config.Settings.{Settings}
 use Rattle.detectors.specs.Texel.{texelMedian}
 use Rattle.detectors.specs.Edge.{protectsLower, protectsUpper}
@@ -91,9 +90,9 @@ someOf lower tex w h rh rv rd x y ahead behind level =
     || (asEither lower tex w h rv x y (x + 1) level
     || (asEither lower tex w h rd x y ahead level || asEither lower tex w h rd x y behind level))
 
--- the three samples from a place on set to their median
+-- the three samples from a place on set to the value of their median
 abbrev pub collapsedAt : List Float → ℕ → List Float
-collapsedAt xs at = let m = medianOf (getD xs at nan) (getD xs (at + 1) nan) (getD xs (at + 2) nan) in set (set (set xs at m) (at + 1) m) (at + 2) m
+collapsedAt xs at = let m = texelMedian (getD xs at nan ∷ getD xs (at + 1) nan ∷ getD xs (at + 2) nan ∷ []) in set (set (set xs at m) (at + 1) m) (at + 2) m
 
 -- the byte of a cell with its error bit set where the texel is flagged
 unfoldable pub marked : List Float → ℕ → ℕ → ℕ → Settings → ℕ → ℕ → ℕ → ℕ

@@ -59,7 +59,7 @@ pub fn centre_at(xs: &[f32], b: Bitmap, x: usize, y: usize) -> Centre
     let m = texel::median(a);
     Centre {
         texel: a,
-        median: m,
+        median: m.value,
         x: x,
         y: y,
     }

@@ -8,19 +8,19 @@ ghost use Rattle.correction.specs.Collapse as Collapse;
 ghost use Rattle.correction.specs.Inner.{Sized, collapsedAt};
 ghost use Rattle.inputs.specs.Stencil.{isError};
 use crate::bitmap;
+use detectors::texel;
 use inputs::sizes::Bitmap;
 use inputs::stencil;
-use numbers::scalar;
 
-// The three samples from a place on become their median.
+// The three samples from a place on become the value of their median, a zero's sign included.
 fn collapse(xs: &mut [f32], at: usize)
     requires { ⌜ at + 2 < length (now xs) ⌝ }
     ensures { λ _. ⌜ now (xs .exit) ≡ collapsedAt (now (xs .entry)) at ⌝ }
 {
-    let m = scalar::median(xs[at], xs[at + 1], xs[at + 2]);
-    xs[at] = m;
-    xs[at + 1] = m;
-    xs[at + 2] = m;
+    let m = texel::median([xs[at], xs[at + 1], xs[at + 2]]);
+    xs[at] = m.value;
+    xs[at + 1] = m.value;
+    xs[at + 2] = m.value;
 }
 
 // Those of texel x, y where the byte v of its cell has the error bit.

@@ -49,9 +49,9 @@ fn protects(r: f32, lower: bool, t: Centre, n: [f32; 3]) -> bool
     let m = t.median;
     let k = texel::median(n);
     if lower {
-        edge::pair_protects(r, a, n, m, k, a, m)
+        edge::pair_protects(r, a, n, m, k.value, a, m)
     } else {
-        edge::pair_protects(r, n, a, k, m, a, m)
+        edge::pair_protects(r, n, a, k.value, m, a, m)
     }
 }
 

@@ -1,6 +1,8 @@
-// The pass and the texel view for C and Rust to call.
+// The pass, the texel view and the channel of a texel's median for C and Rust to call.
 ghost use mathlib.Core.Path.{_≡_};
+ghost use mathlib.Core.List.{[], _∷_};
 ghost use denote.Ref.{ptr};
+ghost use Rattle.detectors.specs.Texel.{texelMiddle};
 ghost use Rattle.inputs.specs.Checks as Checks;
 ghost use Rattle.correction.specs.Pass as Pass;
 ghost use Rattle.correction.specs.View as View;
@@ -8,6 +10,7 @@ ghost use Rattle.correction_c.specs.Call.{called};
 use correction::pass;
 use correction::pass::Answer;
 use correction::view;
+use detectors::texel;
 use ranges::config::Settings;
 
 // Answers the number of the first check that fails, 0 where all pass, and writes its place and the two counts.
@@ -87,4 +90,13 @@ pub extern "C" fn rungtwine_texel_view<'a>(
     ensures lies { λ _. ⌜ ptr (now (texel .exit)) ≡ View.viewPlace (original .entry) (corrected .entry) (now (stencil .entry)) width height channels x y ⌝ }
 {
     *texel = view::texel_view(original, corrected, stencil, width, height, channels, x, y);
+}
+
+// The lowest channel of a texel whose value compares equal to its median, from the values of its first three.
+#[no_mangle]
+pub extern "C" fn rungtwine_texel_channel(red: f32, green: f32, blue: f32) -> usize
+    ensures { λ r. ⌜ r ≡ texelMiddle (red ∷ green ∷ blue ∷ []) .channel ⌝ }
+{
+    let m = texel::median([red, green, blue]);
+    m.channel
 }

@@ -1,4 +1,5 @@
 -- What the pass may know of the detectors.
+pub mod Texel
 pub mod Finite
 pub mod Falls
 pub mod Alike

@@ -77,7 +77,7 @@ fn interpolated_median_quad(m: [[f32; 3]; 4], t: f64) -> f32
     let x = curve_channel(m, t, 0);
     let y = curve_channel(m, t, 1);
     let z = curve_channel(m, t, 2);
-    scalar::median(x, y, z)
+    scalar::median_value(x, y, z)
 }
 
 // The difference of pair p in the two side neighbours together.
@@ -173,7 +173,8 @@ fn some_pair(k: Classifier, am: f32, dm: f32, m: [[f32; 3]; 4]) -> bool
 pub fn has_diagonal_artifact(s: Settings, protected: bool, am: f32, m: [[f32; 3]; 4]) -> bool
     ensures { λ r. ⌜ r ≡ Diagonal.hasDiagonalArtifact (Config.diagonalSpan s) protected am m ⌝ }
 {
-    let dm = texel::median(m[3]);
+    let far = texel::median(m[3]);
+    let dm = far.value;
     pairs::guard(am, dm)
         && some_pair(
             Classifier {

@@ -63,7 +63,8 @@ pub fn has_linear_artifact(
 ) -> bool
     ensures { λ r. ⌜ r ≡ Linear.hasLinearArtifact (Config.sideSpan s upright) protected am a b ⌝ }
 {
-    let bm = texel::median(b);
+    let m = texel::median(b);
+    let bm = m.value;
     pairs::guard(am, bm)
         && some_pair(
             Classifier {

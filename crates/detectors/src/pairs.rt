@@ -34,7 +34,7 @@ pub fn interpolated_median_linear(a: [f32; 3], b: [f32; 3], t: f64) -> f32
     let x = mixed_channel(a, b, t, 0);
     let y = mixed_channel(a, b, t, 1);
     let z = mixed_channel(a, b, t, 2);
-    scalar::median(x, y, z)
+    scalar::median_value(x, y, z)
 }
 
 // The channel that a pair takes channel p from.

@@ -2,10 +2,11 @@
 ghost use mathlib.Core.Path.{_≡_};
 ghost use Rattle.detectors.specs.Texel as Texel;
 use numbers::scalar;
+use numbers::scalar::Middle;
 
-// The median of a texel's three channels.
-pub fn median(a: [f32; 3]) -> f32
-    ensures { λ r. ⌜ r ≡ Texel.texelMedian a ⌝ }
+// The median of a texel's three channels: its value and the lowest channel that carries it.
+pub fn median(a: [f32; 3]) -> Middle
+    ensures { λ r. ⌜ r ≡ Texel.texelMiddle a ⌝ }
 {
     scalar::median(a[0], a[1], a[2])
 }

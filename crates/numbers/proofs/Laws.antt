@@ -5,6 +5,7 @@ pub mod Exact
 pub mod Bounds
 pub mod Rank
 pub mod Scalar
+pub mod Channel
 pub mod Floor
 pub mod SquareRoot
 pub mod Nearest

@@ -1,9 +1,10 @@
--- The smaller and the larger of two floats, the middle one of three, the size of one, and the mix of two. Definitions only.
-use Prim.Native.Nat.{zero, suc}
+-- The smaller and the larger of two floats, the middle one of three and the channel that it is, the size of one, and the mix of two. Definitions only.
+use Prim.Native.Nat.{ℕ, zero, suc}
 use mathlib.Core.Bool.{Bool, _||_, _&&_, true, false, cond, Bool·beq}
-use lib.Ieee.{Float, nan, inf, fin, binary64, lt, isNan, add, mul, sub}
+use lib.Ieee.{Float, nan, inf, fin, binary64, lt, eq, isNan, add, mul, sub}
 use Rattle.numbers.specs.Constants.{oneOf}
 use Rattle.numbers.specs.Rounding.{narrowOf}
+use Rattle.numbers.specs.declared.scalar.Middle.{Middle}
 
 -- x is the zero with the sign s: −0 where s is true, +0 where it is false
 abbrev pub isZero : Bool → Float → Bool
@@ -27,6 +28,14 @@ maxOf x y = cond (isNan x || isBelow x y) y x
 -- max(min(a,b), min(max(a,b),c))
 unfoldable pub medianOf : Float → Float → Float → Float
 medianOf a b c = maxOf (minOf a b) (minOf (maxOf a b) c)
+
+-- the lowest of the channels 0, 1 and 2, whose values are a, b and c, whose value compares equal to m; 0 where none does
+unfoldable pub lowestEqual : Float → Float → Float → Float → ℕ
+lowestEqual m a b c = cond (eq a m) 0 (cond (eq b m) 1 (cond (eq c m) 2 0))
+
+-- the median's answer: its value and the lowest channel whose value compares equal to it, 0 for three NaNs
+abbrev pub middleOf : Float → Float → Float → Middle
+middleOf a b c = record { value = medianOf a b c; channel = lowestEqual (medianOf a b c) a b c }
 
 -- |x|: the sign dropped, of a zero and an infinity too
 unfoldable pub absOf : Float → Float

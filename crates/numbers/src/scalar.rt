@@ -1,12 +1,18 @@
 // Minimum, maximum, median, size and mix: `math/scalar.rs`, with the rule for a NaN and for two zeros fixed.
 ghost use mathlib.Core.Path.{_≡_};
-ghost use mathlib.Core.Bool.{true, false, not, _||_};
+ghost use mathlib.Core.Bool.{true, false, not, _||_, cond};
 ghost use lib.Dec.{T};
 ghost use lib.IntN.{pos};
 ghost use lib.Ieee.{fin, isNan, eq};
 ghost use Rattle.numbers.specs.Inner.{negative, lesserOf, greaterOf};
-ghost use Rattle.numbers.specs.Scalar.{minOf, maxOf, medianOf, absOf, mixOf};
+ghost use Rattle.numbers.specs.Scalar.{minOf, maxOf, medianOf, lowestEqual, middleOf, absOf, mixOf};
 use crate::rounding;
+
+// The median of three channels: its value, and the lowest channel whose value compares equal to it.
+pub struct Middle {
+    pub value: f32,
+    pub channel: usize,
+}
 
 // Whether a number's sign is minus, a zero's too.
 fn is_negative(x: f32) -> bool
@@ -106,8 +112,8 @@ fn nan_median(a: f32, b: f32, c: f32) -> f32
     max(a, b)
 }
 
-// The middle one of three: by value where none is a NaN, and only a zero's sign needs more.
-pub fn median(a: f32, b: f32, c: f32) -> f32
+// The value of the middle one of three: by value where none is a NaN, and only a zero's sign needs more.
+pub fn median_value(a: f32, b: f32, c: f32) -> f32
     ensures { λ r. ⌜ r ≡ medianOf a b c ⌝ }
 {
     if some_nan(a, b, c) {
@@ -115,6 +121,32 @@ pub fn median(a: f32, b: f32, c: f32) -> f32
     }
     let m = greater(lesser(a, b), lesser(greater(a, b), c));
     if m == 0.0 { zero_median(a, b, c) } else { m }
+}
+
+// Channel i where its value x compares equal to m, and the rest where it does not.
+fn equal_or(m: f32, x: f32, i: usize, rest: usize) -> usize
+    ensures { λ r. ⌜ r ≡ cond (eq x m) i rest ⌝ }
+{
+    if x == m { i } else { rest }
+}
+
+// The lowest of three channels whose value compares equal to m, and 0 where none does.
+fn lowest_equal(m: f32, a: f32, b: f32, c: f32) -> usize
+    ensures { λ r. ⌜ r ≡ lowestEqual m a b c ⌝ }
+{
+    equal_or(m, a, 0, equal_or(m, b, 1, equal_or(m, c, 2, 0)))
+}
+
+// The middle one of three, with its channel.
+pub fn median(a: f32, b: f32, c: f32) -> Middle
+    ensures { λ r. ⌜ r ≡ middleOf a b c ⌝ }
+{
+    let m = median_value(a, b, c);
+    let i = lowest_equal(m, a, b, c);
+    Middle {
+        value: m,
+        channel: i,
+    }
 }
 
 // |x|, from the bits.

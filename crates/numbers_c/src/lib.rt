@@ -3,7 +3,7 @@ ghost use mathlib.Core.Path.{_≡_};
 ghost use lib.Ieee.{binary64};
 ghost use lib.ListN.{length, getD};
 ghost use Rattle.numbers.specs.Constants.{zeroOf};
-ghost use Rattle.numbers.specs.Scalar.{minOf, maxOf, medianOf, absOf, mixOf};
+ghost use Rattle.numbers.specs.Scalar.{minOf, maxOf, medianOf, middleOf, absOf, mixOf};
 ghost use Rattle.numbers.specs.Rounding.{narrowOf, floorOf};
 ghost use Rattle.numbers.specs.SquareRoot.{sqrtOf};
 ghost use Rattle.numbers.specs.EquationSolver.{rootsOf};
@@ -30,7 +30,16 @@ pub extern "C" fn rungtwine_max(x: f32, y: f32) -> f32
 pub extern "C" fn rungtwine_median(a: f32, b: f32, c: f32) -> f32
     ensures { λ r. ⌜ r ≡ medianOf a b c ⌝ }
 {
-    scalar::median(a, b, c)
+    scalar::median_value(a, b, c)
+}
+
+// The lowest of the channels 0, 1 and 2, with these values, whose value compares equal to the median, 0 for three NaNs.
+#[no_mangle]
+pub extern "C" fn rungtwine_median_channel(a: f32, b: f32, c: f32) -> usize
+    ensures { λ r. ⌜ r ≡ middleOf a b c .channel ⌝ }
+{
+    let m = scalar::median(a, b, c);
+    m.channel
 }
 
 #[no_mangle]

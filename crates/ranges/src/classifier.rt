@@ -28,7 +28,7 @@ fn rises_above(am: f32, bm: f32, xm: f32) -> bool
 fn lies_outside(protected: bool, am: f32, bm: f32, xm: f32) -> bool
     ensures { λ r. ⌜ r ≡ liesOutside protected am bm xm ⌝ }
 {
-    !protected && scalar::median(am, bm, xm) != xm
+    !protected && scalar::median_value(am, bm, xm) != xm
 }
 
 // Any of the three makes a candidate.

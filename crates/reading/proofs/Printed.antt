@@ -11,7 +11,7 @@ use borrow.Author.Tests.{eq-eqb, ne-eqb, eqb-true}
 use Rattle.ground.proofs.Laws.Join.{joined-length}
 use Rattle.ground.specs.Refuse.{firstFailing}
 use Rattle.inputs.specs.Checks.{Input, accepted, refusalNumber, refusalPlace, placeOf, outlinePlace, badChannels}
-use Rattle.correction.specs.Collapse.{cellMedian}
+use Rattle.correction.specs.Bitmap.{cellTexel}
 use Rattle.correction.specs.Pass.{answer, passStencil}
 use Rattle.inputs.specs.Stencil.{protectedCount, errorCount, countsOf}
 use Rattle.correction.specs.declared.pass.Answer.the-variants.{Accepted, Refused}
@@ -58,7 +58,7 @@ samples-few s e =
     omega (arith, joined-length (height s) (rowSize s) (λ y. rowSamples s (rowAt s y) (rowSize s)) (λ y l. omega (arith, row-length s (rowAt s y) (rowSize s))), mul-comm (rowSize s) (height s), samples-by-rows (width s) (height s) (channels s), breach-small s e)
 
 -- an accepted case: its sides, its channels and its counts are at most 4,096, and so are its cells
-accepted-fits : (i : Input) → accepted i ≡ true → length (i .samples) ≤ 12288 → length (answerText i (Accepted (countsOf (passStencil i)))) ≤ 98304
+accepted-fits : (i : Input) → accepted i ≡ true → length (i .samples) ≤ 12288 → length (answerText i (Accepted (countsOf (passStencil i)))) ≤ 131072
 unfolding answerText
 accepted-fits i a l =
     let z = sized i a in
@@ -66,28 +66,28 @@ accepted-fits i a l =
     let m : i .width * i .height ≤ 4096 = omega (arith, z .samples, mul-le-mul-left (i .width * i .height) (z .deep)) in
     let p : protectedCount st ≤ 4096 = omega (arith, protected-le st, stencil-length i a) in
     let e : errorCount st ≤ 4096 = omega (arith, error-le st, stencil-length i a) in
-    omega (arith, accepted-length (i .width) (i .height) (i .channels) (protectedCount st) (errorCount st) st (cellMedian (i .samples) (i .channels)) (omega (arith, z .narrow)) (omega (arith, z .high)) (omega (arith, z .shallow)) (omega arith) (omega arith) (omega arith), z .high)
+    omega (arith, accepted-length (i .width) (i .height) (i .channels) (protectedCount st) (errorCount st) st (cellTexel (i .samples) (i .channels)) (omega (arith, z .narrow)) (omega (arith, z .high)) (omega (arith, z .shallow)) (omega arith) (omega arith) (omega arith), z .high)
 
 -- a refused one: its check is one of nine, and its place at most 12,288
-refused-fits : (i : Input) → length (i .samples) ≤ 12288 → length (i .ends) ≤ 12288 → length (i .colours) ≤ 12288 → length (answerText i (Refused (refusalNumber i) (refusalPlace i))) ≤ 98304
+refused-fits : (i : Input) → length (i .samples) ≤ 12288 → length (i .ends) ≤ 12288 → length (i .colours) ≤ 12288 → length (answerText i (Refused (refusalNumber i) (refusalPlace i))) ≤ 131072
 unfolding answerText
 refused-fits i l m n = omega (arith, refused-length (refusalNumber i) (refusalPlace i) (omega (arith, refusal-number-le i)) (omega (arith, refusal-place-le i 12288 (omega arith) l m n)))
 
-fits-go : (i : Input) (t : Bool) → accepted i ≡ t → length (i .samples) ≤ 12288 → length (i .ends) ≤ 12288 → length (i .colours) ≤ 12288 → length (answerText i (cond t (Accepted (countsOf (passStencil i))) (Refused (refusalNumber i) (refusalPlace i)))) ≤ 98304
+fits-go : (i : Input) (t : Bool) → accepted i ≡ t → length (i .samples) ≤ 12288 → length (i .ends) ≤ 12288 → length (i .colours) ≤ 12288 → length (answerText i (cond t (Accepted (countsOf (passStencil i))) (Refused (refusalNumber i) (refusalPlace i)))) ≤ 131072
 fits-go i true a l m n = accepted-fits i a l
 fits-go i false a l m n = refused-fits i l m n
 
-answer-fits : (i : Input) → length (i .samples) ≤ 12288 → length (i .ends) ≤ 12288 → length (i .colours) ≤ 12288 → length (answerText i (answer i)) ≤ 98304
+answer-fits : (i : Input) → length (i .samples) ≤ 12288 → length (i .ends) ≤ 12288 → length (i .colours) ≤ 12288 → length (answerText i (answer i)) ≤ 131072
 unfolding answer
 answer-fits i l m n = fits-go i (accepted i) refl l m n
 
-printed-go : (s : List ℕ) (t : Bool) → eqb (breach s) 65537 ≡ t → length (cond t (answerText (caseOf s) (answer (caseOf s))) (badText (breach s))) ≤ 98304
+printed-go : (s : List ℕ) (t : Bool) → eqb (breach s) 65537 ≡ t → length (cond t (answerText (caseOf s) (answer (caseOf s))) (badText (breach s))) ≤ 131072
 printed-go s true e =
     let b = eqb-true (breach s) 65537 e in
     answer-fits (caseOf s) (samples-few s b) (omega (arith, ends-le s)) (omega (arith, colours-le s (breach-short s b)))
 printed-go s false e = omega (arith, bad-length (breach s) (omega (arith, breach-le s)))
 
--- whatever comes in, what is printed has at most 98,304 bytes
-pub printed-fits : (s : List ℕ) → length (printed s) ≤ 98304
+-- whatever comes in, what is printed has at most 131,072 bytes
+pub printed-fits : (s : List ℕ) → length (printed s) ≤ 131072
 unfolding printed
 printed-fits s = printed-go s (eqb (breach s) 65537) refl

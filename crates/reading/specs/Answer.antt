@@ -8,7 +8,7 @@ use Rattle.ranges.specs.declared.config.Settings.{Settings}
 use Rattle.correction.specs.declared.pass.Answer.{Answer}
 use Rattle.correction.specs.declared.pass.Answer.the-variants.{Accepted, Refused}
 use Rattle.inputs.specs.Checks.{Input, input}
-use Rattle.correction.specs.Collapse.{cellMedian}
+use Rattle.correction.specs.Bitmap.{cellTexel}
 use Rattle.correction.specs.Pass.{answer, passStencil}
 use Rattle.reading.specs.Grammar.{fine, width, height, channels, breach}
 use Rattle.reading.specs.Case.{modeOf, ratioOf, horizontalOf, verticalOf, diagonalOf, coloursOf, coordsOf, endsOf, samplesOf}
@@ -22,9 +22,9 @@ abbrev pub caseOf : List ℕ → Input
 caseOf s =
     input (width s) (height s) (channels s) (samplesOf s) (tab (width s * height s) (λ k. 0)) (modeOf s) (settingsOf s) (coloursOf s) (coordsOf s) (endsOf s)
 
--- the text of the pass's answer
+-- the text of the pass's answer; each median is judged on the samples that came in, before the collapse
 unfoldable pub answerText : Input → Answer → List ℕ
-answerText i (Accepted c) = acceptedText (i .width) (i .height) (i .channels) (c .protected) (c .error) (passStencil i) (cellMedian (i .samples) (i .channels))
+answerText i (Accepted c) = acceptedText (i .width) (i .height) (i .channels) (c .protected) (c .error) (passStencil i) (cellTexel (i .samples) (i .channels))
 answerText i (Refused n place) = refusedText n place
 
 -- all that is printed
@@ -33,4 +33,4 @@ printed s = cond (eqb (breach s) fine) (answerText (caseOf s) (answer (caseOf s)
 
 -- What is written for an input into a slice of n bytes: all that is printed, and nothing where there is less room than the longest text needs.
 unfoldable pub written : ℕ → List ℕ → List ℕ
-written n s = cond (leb 98304 n) (printed s) []
+written n s = cond (leb 131072 n) (printed s) []

@@ -7,6 +7,8 @@ use lib.Dec.{ltb}
 use lib.Ieee.{Float, binary32, toBits}
 use Rattle.ground.specs.Lists.{joined, tab}
 use Rattle.inputs.specs.Stencil.{isProtected, isError}
+use Rattle.numbers.specs.declared.scalar.Middle.{Middle}
+use Rattle.detectors.specs.Texel.{texelMiddle}
 use Rattle.reading.specs.Decimal.{decimal}
 
 -- ---- numbers
@@ -61,15 +63,15 @@ rowText w st y = marksText w st (y * w) ++ (10 ∷ [])
 unfoldable pub rowsText : ℕ → ℕ → List ℕ → List ℕ
 rowsText w h st = joined h (rowText w st)
 
--- `X Y BITS` of a texel whose median has these bits
-unfoldable pub texelText : ℕ → ℕ → ℕ → List ℕ
-texelText x y bits = numbered x 32 ++ (numbered y 32 ++ (hex bits ++ (10 ∷ [])))
+-- `X Y BITS ch I` of a texel: the bits of its median's value, and the channel that carries it
+unfoldable pub texelText : ℕ → ℕ → Middle → List ℕ
+texelText x y m = numbered x 32 ++ (numbered y 32 ++ (hex (toBits binary32 (m .value)) ++ ((32 ∷ 99 ∷ 104 ∷ 32 ∷ []) ++ numbered (m .channel) 10)))
 
--- cell k, where it is flagged
-unfoldable pub flaggedText : ℕ → List ℕ → (ℕ → Float) → ℕ → List ℕ
-flaggedText w st medians k = cond (isError (getD st k 0)) (texelText (k % w) (k / w) (toBits binary32 (medians k))) []
+-- cell k, where it is flagged; the texels are those before the pass
+unfoldable pub flaggedText : ℕ → List ℕ → (ℕ → List Float) → ℕ → List ℕ
+flaggedText w st texels k = cond (isError (getD st k 0)) (texelText (k % w) (k / w) (texelMiddle (texels k))) []
 
 -- the size, the counts, the rows, then each flagged texel, row by row
-unfoldable pub acceptedText : ℕ → ℕ → ℕ → ℕ → ℕ → List ℕ → (ℕ → Float) → List ℕ
-acceptedText w h ch p e st medians =
-    sizeText w h ch ++ (countsText p e ++ (rowsText w h st ++ joined (w * h) (flaggedText w st medians)))
+unfoldable pub acceptedText : ℕ → ℕ → ℕ → ℕ → ℕ → List ℕ → (ℕ → List Float) → List ℕ
+acceptedText w h ch p e st texels =
+    sizeText w h ch ++ (countsText p e ++ (rowsText w h st ++ joined (w * h) (flaggedText w st texels)))

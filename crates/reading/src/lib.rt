@@ -13,7 +13,7 @@ mod text;
 
 // Writes what the program prints for an input into the front of `out`, and answers how many bytes that is.
 fn answer_into(input: &[u8], out: &mut [u8]) -> usize
-    requires { ⌜ 98304 ≤ length (now out) ⌝ }
+    requires { ⌜ 131072 ≤ length (now out) ⌝ }
     ensures { λ r. ⌜ (r ≡ length (printed (now (input .entry)))) × (now (out .exit) ≡ printed (now (input .entry)) ++ drop r (now (out .entry))) ⌝ }
 {
     let l = fields::read(input);
@@ -44,7 +44,7 @@ fn answer_into(input: &[u8], out: &mut [u8]) -> usize
 pub fn answer(input: &[u8], out: &mut [u8]) -> usize
     ensures { λ r. ⌜ (r ≡ length (written (length (now (out .entry))) (now (input .entry)))) × (now (out .exit) ≡ written (length (now (out .entry))) (now (input .entry)) ++ drop r (now (out .entry))) ⌝ }
 {
-    if out.len() < 98304 {
+    if out.len() < 131072 {
         return 0;
     }
     answer_into(input, out)

@@ -31,7 +31,20 @@ fn settings(s: &[u8]) -> Settings
     }
 }
 
-// The pass on a decoded case, with the mode and the settings of the input s.
+// The samples, copied to the front of `out`.
+fn keep(xs: &[f32], out: &mut [f32]) -> usize
+    requires { ⌜ length (now xs) ≤ length (now out) ⌝ }
+    ensures { λ r. ⌜ Written (now (out .entry)) 0 (now (xs .entry)) r (now (out .exit)) ⌝ }
+{
+    let mut j = 0usize;
+    while j < xs.len() {
+        out[j] = xs[j];
+        j += 1;
+    }
+    j
+}
+
+// The pass on a decoded case, with the mode and the settings of the input s. The medians are printed of the samples as they came in.
 fn run(
     out: &mut [u8],
     s: &[u8],
@@ -42,9 +55,11 @@ fn run(
     coords: &[f64],
     ends: &[usize],
 ) -> usize
-    requires { ⌜ (98304 ≤ length (now out)) × (length (now samples) ≤ 12288) × (11 < length (now s)) ⌝ }
+    requires { ⌜ (131072 ≤ length (now out)) × (length (now samples) ≤ 12288) × (11 < length (now s)) ⌝ }
     ensures { λ r. ⌜ Written (now (out .entry)) 0 (Answers.answerText (input (b .width) (b .height) (b .channels) (now (samples .entry)) (now (stencil .entry)) (modeOf (now (s .entry))) (Answers.settingsOf (now (s .entry))) (now (colours .entry)) (now (coords .entry)) (now (ends .entry))) (Pass.answer (input (b .width) (b .height) (b .channels) (now (samples .entry)) (now (stencil .entry)) (modeOf (now (s .entry))) (Answers.settingsOf (now (s .entry))) (now (colours .entry)) (now (coords .entry)) (now (ends .entry))))) r (now (out .exit)) ⌝ }
 {
+    let mut kept = [0.0f32; 12288];
+    let n = keep(samples, &mut kept);
     match pass::msdf_error_correction(
         b.width,
         b.height,
@@ -57,7 +72,7 @@ fn run(
         coords,
         ends,
     ) {
-        Answer::Accepted(c) => text::put_accepted(out, b, c, stencil, samples),
+        Answer::Accepted(c) => text::put_accepted(out, b, c, stencil, &kept[..n]),
         Answer::Refused(n, p) => text::put_refused(out, n as usize, p),
     }
 }
@@ -87,7 +102,7 @@ pub fn answer_case(
     ends: &mut [usize],
 ) -> usize
     requires { ⌜ Whole (now s) (l .rows) (l .contours) (l .segments) ⌝ }
-    requires { ⌜ (98304 ≤ length (now out)) × (0 < channels (now s)) ⌝ }
+    requires { ⌜ (131072 ≤ length (now out)) × (0 < channels (now s)) ⌝ }
     requires { ⌜ Lent (now samples) (now stencil) (now colours) (now coords) (now ends) ⌝ }
     ensures { λ r. ⌜ Written (now (out .entry)) 0 (Answers.answerText (Answers.caseOf (now (s .entry))) (Pass.answer (Answers.caseOf (now (s .entry))))) r (now (out .exit)) ⌝ }
 {

@@ -2,16 +2,18 @@
 ghost use mathlib.Core.Path.{_≡_};
 ghost use Prim.Native.Nat.{_+_, _*_, _≤_, _<_};
 ghost use mathlib.Core.List.{[], _∷_, _++_};
-ghost use lib.ListN.{length, getD};
-ghost use lib.Ieee.{nan};
+ghost use lib.ListN.{length};
 ghost use Rattle.ground.specs.Lists.{joined};
 ghost use Rattle.ground.specs.Write.{Written};
+ghost use Rattle.correction.specs.Bitmap.{cellTexel};
 ghost use Rattle.reading.specs.Decimal.{decimal};
 ghost use Rattle.reading.specs.Text as Text;
+use detectors::texel;
 use ground::bytes;
 use inputs::sizes::Bitmap;
 use inputs::stencil;
 use inputs::stencil::Counts;
+use numbers::scalar::Middle;
 
 fn put(out: &mut [u8], at: usize, b: u8) -> usize
     requires { ⌜ at < length (now out) ⌝ }
@@ -197,35 +199,37 @@ fn put_rows(out: &mut [u8], at: usize, st: &[u8], b: Bitmap) -> usize
     next
 }
 
-// `X Y BITS`, of places with at most five digits.
-fn put_texel(out: &mut [u8], at: usize, x: usize, y: usize, bits: u32) -> usize
-    requires { ⌜ (at + 21 ≤ length (now out)) × (x < 100000) × (y < 100000) ⌝ }
-    ensures { λ r. ⌜ Written (now (out .entry)) at (Text.texelText x y bits) r (now (out .exit)) ⌝ }
+// `X Y BITS ch I`, of places with at most five digits.
+fn put_texel(out: &mut [u8], at: usize, x: usize, y: usize, m: Middle) -> usize
+    requires { ⌜ (at + 26 ≤ length (now out)) × (x < 100000) × (y < 100000) × (m .channel < 3) ⌝ }
+    ensures { λ r. ⌜ Written (now (out .entry)) at (Text.texelText x y m) r (now (out .exit)) ⌝ }
 {
     let a = put_number(out, at, x, 32);
     let b = put_number(out, a, y, 32);
-    let c = put_hex(out, b, bits);
-    put(out, c, 10)
+    let c = put_hex(out, b, bytes::bits_of_float32(m.value));
+    let d = put_all(out, c, b" ch ");
+    put_number(out, d, m.channel, 10)
 }
 
-// Cell k, where it is flagged; xs has its median first in its texel.
+// Cell k, where it is flagged; xs has its texel as it was before the pass.
 fn put_flagged(out: &mut [u8], at: usize, st: &[u8], xs: &[f32], b: Bitmap, k: usize) -> usize
-    requires { ⌜ (at + 21 ≤ length (now out)) × (k < length (now st)) ⌝ }
-    requires { ⌜ (k * b .channels < length (now xs)) × (0 < b .width) × (k < 100000) ⌝ }
-    ensures { λ r. ⌜ Written (now (out .entry)) at (Text.flaggedText (b .width) (now (st .entry)) (λ i. getD (now (xs .entry)) (i * b .channels) nan) k) r (now (out .exit)) ⌝ }
+    requires { ⌜ (at + 26 ≤ length (now out)) × (k < length (now st)) ⌝ }
+    requires { ⌜ (k * b .channels + 2 < length (now xs)) × (0 < b .width) × (k < 100000) ⌝ }
+    ensures { λ r. ⌜ Written (now (out .entry)) at (Text.flaggedText (b .width) (now (st .entry)) (cellTexel (now (xs .entry)) (b .channels)) k) r (now (out .exit)) ⌝ }
 {
     if stencil::is_error(st[k]) {
-        let bits = bytes::bits_of_float32(xs[k * b.channels]);
-        return put_texel(out, at, k % b.width, k / b.width, bits);
+        let j = k * b.channels;
+        let m = texel::median([xs[j], xs[j + 1], xs[j + 2]]);
+        return put_texel(out, at, k % b.width, k / b.width, m);
     }
     at
 }
 
 // Each flagged texel, row by row.
 fn put_texels(out: &mut [u8], at: usize, st: &[u8], xs: &[f32], b: Bitmap) -> usize
-    requires { ⌜ (at + 21 * (b .width * b .height) ≤ length (now out)) × (b .width * b .height ≤ length (now st)) ⌝ }
-    requires { ⌜ (b .width * b .height * b .channels ≤ length (now xs)) × (0 < b .channels) × (0 < b .width) × (b .width * b .height ≤ 100000) ⌝ }
-    ensures { λ r. ⌜ Written (now (out .entry)) at (joined (b .width * b .height) (Text.flaggedText (b .width) (now (st .entry)) (λ i. getD (now (xs .entry)) (i * b .channels) nan))) r (now (out .exit)) ⌝ }
+    requires { ⌜ (at + 26 * (b .width * b .height) ≤ length (now out)) × (b .width * b .height ≤ length (now st)) ⌝ }
+    requires { ⌜ (b .width * b .height * b .channels ≤ length (now xs)) × (3 ≤ b .channels) × (0 < b .width) × (b .width * b .height ≤ 100000) ⌝ }
+    ensures { λ r. ⌜ Written (now (out .entry)) at (joined (b .width * b .height) (Text.flaggedText (b .width) (now (st .entry)) (cellTexel (now (xs .entry)) (b .channels)))) r (now (out .exit)) ⌝ }
 {
     let n = b.width * b.height;
     let mut next = at;
@@ -237,11 +241,11 @@ fn put_texels(out: &mut [u8], at: usize, st: &[u8], xs: &[f32], b: Bitmap) -> us
     next
 }
 
-// The size, the counts, the rows, then each flagged texel.
+// The size, the counts, the rows, then each flagged texel; xs has the samples as they were before the pass.
 pub fn put_accepted(out: &mut [u8], b: Bitmap, c: Counts, st: &[u8], xs: &[f32]) -> usize
-    requires { ⌜ (0 < b .width) × (0 < b .channels) × (b .height ≤ 4096) × (b .width * b .height ≤ 4096) ⌝ }
-    requires { ⌜ (b .width * b .height ≤ length (now st)) × (b .width * b .height * b .channels ≤ length (now xs)) × (98304 ≤ length (now out)) ⌝ }
-    ensures { λ r. ⌜ Written (now (out .entry)) 0 (Text.acceptedText (b .width) (b .height) (b .channels) (c .protected) (c .error) (now (st .entry)) (λ i. getD (now (xs .entry)) (i * b .channels) nan)) r (now (out .exit)) ⌝ }
+    requires { ⌜ (0 < b .width) × (3 ≤ b .channels) × (b .height ≤ 4096) × (b .width * b .height ≤ 4096) ⌝ }
+    requires { ⌜ (b .width * b .height ≤ length (now st)) × (b .width * b .height * b .channels ≤ length (now xs)) × (131072 ≤ length (now out)) ⌝ }
+    ensures { λ r. ⌜ Written (now (out .entry)) 0 (Text.acceptedText (b .width) (b .height) (b .channels) (c .protected) (c .error) (now (st .entry)) (cellTexel (now (xs .entry)) (b .channels))) r (now (out .exit)) ⌝ }
 {
     let counts = put_size(out, 0, b);
     let rows = put_counts(out, counts, c);

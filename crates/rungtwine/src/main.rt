@@ -12,10 +12,10 @@ fn input_buffer() -> [u8; 65537]
 }
 
 // Room for the longest answer.
-fn output_buffer() -> [u8; 98304]
-    ensures { λ r. ⌜ 98304 ≡ length r ⌝ }
+fn output_buffer() -> [u8; 131072]
+    ensures { λ r. ⌜ 131072 ≡ length r ⌝ }
 {
-    [0; 98304]
+    [0; 131072]
 }
 
 fn main() {

@@ -17,6 +17,7 @@ use contract.Lifetimes.{Lfts}
 use borrow.Fn.Kinds.{Dens}
 use borrow.Author.Tests.{le-ltb, eq-eqb}
 use Rattle.numbers.proofs.Laws.Scalar.{median-keeps}
+use Rattle.detectors.specs.Texel.{texelMiddle}
 use Rattle.inputs.specs.Checks.{Input, oversize, samplesPlace, badSamples, refusalNumber, accepted}
 use Rattle.correction.specs.Collapse.{cellMedian, collapsedSample, collapsed}
 use Rattle.correction.specs.Pass.{flags, passSamples, stencilAfter, samplesAfter, fedBack, numberOf}
@@ -39,17 +40,16 @@ texel-lt ch n j p l = div-lt-iff-lt-mul p .1 l
 
 -- A sample of a collapsed bitmap has what all samples of the bitmap have.
 collapsed-keeps : (P : Float → Type 0) (xs : List Float) (ch n : ℕ) (flag : ℕ → Bool) → 3 ≤ ch → length xs ≡ n * ch → ((j : ℕ) → j < length xs → P (getD xs j nan)) → (j : ℕ) → j < length xs → P (collapsedSample xs ch flag j)
-unfolding collapsedSample cellMedian
+unfolding collapsedSample
 collapsed-keeps P xs ch n flag few long all j l = go (flag (j / ch) && ltb (j % ch) 3)
   where
     in-texel : (c : ℕ) → c < 3 → j / ch * ch + c < length xs
     in-texel c d = subst (λ (m : ℕ). j / ch * ch + c < m) (sym long) (digits-lt (texel-lt ch n j (omega arith) (subst (λ (m : ℕ). j < m) long l)) (lt-of-lt-of-le d few))
 
-    first : P (getD xs (j / ch * ch) nan)
-    first = all (j / ch * ch) (let k = in-texel 0 (omega arith) in omega arith)
-
     go : (b : Bool) → P (cond b (cellMedian xs ch (j / ch)) (getD xs j nan))
-    go true = unfold cellMedian in median-keeps P (getD xs (j / ch * ch) nan) (getD xs (j / ch * ch + 1) nan) (getD xs (j / ch * ch + 2) nan) first (all (j / ch * ch + 1) (in-texel 1 (omega arith))) (all (j / ch * ch + 2) (in-texel 2 (omega arith)))
+    go true =
+        unfold texelMiddle in median-keeps P (getD xs (j / ch * ch + 0) nan) (getD xs (j / ch * ch + 1) nan) (getD xs (j / ch * ch + 2) nan) (all (j / ch * ch + 0) (in-texel 0 (omega arith))) (all (j / ch * ch + 1) (in-texel 1 (omega arith)))
+        (all (j / ch * ch + 2) (in-texel 2 (omega arith)))
     go false = all j l
 
 -- After an accepted pass every sample is within check 6's limit.

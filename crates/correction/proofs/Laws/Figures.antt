@@ -10,7 +10,7 @@ use Rattle.ground.specs.Lists.{tab, any, some, count, first}
 use Rattle.ground.specs.Refuse.{firstFailing}
 use Rattle.correction.specs.Bitmap.{texel, inBounds}
 use Rattle.inputs.specs.Stencil.{stencilByte, isProtected, isError, protectedCount, errorCount}
-use Rattle.detectors.specs.Texel.{texelMedian}
+use Rattle.detectors.specs.Texel.{texelMiddle}
 use Rattle.ranges.specs.Config.{sideSpan, diagonalSpan, radius}
 use Rattle.inputs.specs.Checks.{badChannels, badSide, badSize, badSampleCount, badCellCount, badLength, settingsPlace, badSettings, oversize, samplesPlace, badSamples, badOutlines, endBefore, badEnd, endsPlace, badEnds, badSegment, segmentsPlace, badSegments, refusalNumber, accepted}
 use Rattle.ranges.specs.Classifier.{fallsBelow, risesAbove, liesOutside, candidate, within, inRange, rangeTest}
@@ -26,7 +26,7 @@ use Rattle.correction.specs.Figures.{Figures}
 
 -- All figures of the table hold.
 pub figures : Figures
-unfolding trailingZeros isNan lt le ne eq neg add sum sub mul div round units odd size span climb ofBits ofFields minOf maxOf medianOf absOf narrowOf mixOf rootBy root rootOf sqrtOf isLinear linearRoots discriminant upperRoot lowerRoot squareRoots rootsOf tab any some count first texel texelMedian inBounds stencilByte isProtected isError sideSpan diagonalSpan radius firstFailing badChannels badSide badSize badSampleCount badCellCount badLength settingsPlace badSettings oversize samplesPlace badSamples badOutlines endBefore badEnd endsPlace badEnds badSegment segmentsPlace badSegments refusalNumber accepted fallsBelow risesAbove liesOutside candidate within inRange rangeTest guard inside mixedChannel mixedMedian next difference crossing linearAt linearPair linearPairs hasLinearArtifact abc linearTerm squareTerm turningPoint curve curveChannel curveMedian middleDifference quadraticRoots pairRoots movedEnd turningTest rootTests diagonalAt diagonalPair diagonalPairs hasDiagonalArtifact split contours before shared isCorner cornersProtect near edgePoint edgeAt masked extreme pairProtects protectsLower protectsUpper asLower asUpper someLower someUpper someEdge edgesProtect sideArtifact someSide diagonalArtifact someDiagonal someArtifact hasArtifact texels edgePriorityProtects protects flags byteAt passStencil protectedCount errorCount answer stencilAfter
+unfolding trailingZeros isNan lt le ne eq neg add sum sub mul div round units odd size span climb ofBits ofFields minOf maxOf medianOf absOf narrowOf mixOf rootBy root rootOf sqrtOf isLinear linearRoots discriminant upperRoot lowerRoot squareRoots rootsOf tab any some count first texel texelMiddle inBounds stencilByte isProtected isError sideSpan diagonalSpan radius firstFailing badChannels badSide badSize badSampleCount badCellCount badLength settingsPlace badSettings oversize samplesPlace badSamples badOutlines endBefore badEnd endsPlace badEnds badSegment segmentsPlace badSegments refusalNumber accepted fallsBelow risesAbove liesOutside candidate within inRange rangeTest guard inside mixedChannel mixedMedian next difference crossing linearAt linearPair linearPairs hasLinearArtifact abc linearTerm squareTerm turningPoint curve curveChannel curveMedian middleDifference quadraticRoots pairRoots movedEnd turningTest rootTests diagonalAt diagonalPair diagonalPairs hasDiagonalArtifact split contours before shared isCorner cornersProtect near edgePoint edgeAt masked extreme pairProtects protectsLower protectsUpper asLower asUpper someLower someUpper someEdge edgesProtect sideArtifact someSide diagonalArtifact someDiagonal someArtifact hasArtifact texels edgePriorityProtects protects flags byteAt passStencil protectedCount errorCount answer stencilAfter
 figures =
     record {
       c1 = (refl, refl);

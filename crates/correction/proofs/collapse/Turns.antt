@@ -1,7 +1,7 @@
 -- A sweep that collapses the flagged texels: before cell k the samples below its texel are as `collapsed` has them, the others as they were. Assumes nothing.
 use mathlib.Core.Path.{_≡_, refl, sym, _∙_, ap, subst}
 use mathlib.Core.Bool.{Bool, true, false, cond, _&&_}
-use mathlib.Core.List.{List}
+use mathlib.Core.List.{List, [], _∷_}
 use Prim.Native.Nat.{ℕ, _+_, _-_, _*_, _<_, _≤_}
 use native.Mathlib.Nat.{zero-mul, add-zero, mul-le-mul-right}
 use native.Mathlib.Omega.{arith}
@@ -10,7 +10,7 @@ use lib.Dec.{ltb}
 use lib.Arith.{digits-div, digits-mod}
 use lib.Ieee.{Float, nan}
 use borrow.Author.Tests.{lt-ltb, le-ltb}
-use Rattle.numbers.specs.Scalar.{medianOf}
+use Rattle.detectors.specs.Texel.{texelMiddle, texelMedian}
 use Rattle.ground.proofs.Laws.Fill.{Filled, filled-none, filled-more, filled-run, filled-at, filled-all}
 use Rattle.correction.specs.declared.bitmap.Visit.{Visit}
 use Rattle.correction.specs.Bitmap.{place}
@@ -40,11 +40,11 @@ module _ (flag : ℕ → Bool) (xs₀ : List Float) (ch : ℕ) (xs : List Float)
 
   module _ (e : flag k ≡ true) (t : 3 ≤ ch) (l : at + 2 < length xs) where
     m : Float
-    m = medianOf (getD xs at nan) (getD xs (at + 1) nan) (getD xs (at + 2) nan)
+    m = texelMedian (getD xs at nan ∷ getD xs (at + 1) nan ∷ getD xs (at + 2) nan ∷ [])
 
     same : m ≡ cellMedian xs₀ ch k
-    unfolding m cellMedian
-    same = rw (i .rest at (omega arith), i .rest (at + 1) (omega arith), i .rest (at + 2) (omega arith), here)
+    unfolding m texelMiddle
+    same = rw (i .rest at (omega arith), i .rest (at + 1) (omega arith), i .rest (at + 2) (omega arith), here, add-zero (k * ch))
 
     value : (r : ℕ) → r < 3 → m ≡ collapsedSample xs₀ ch flag (at + r)
     value r b = same ∙ sym (rw (here, at-channel flag xs₀ ch k r (omega arith)) (simp (e, lt-ltb r 3 b)))

@@ -5,6 +5,7 @@ use denote.Ref.{now, ptr}
 use Rattle.ground.proofs.Laws.Alike.{alike}
 use Rattle.correction_c.proofs.rungtwine_error_correction.Reads as pass
 use Rattle.correction_c.proofs.rungtwine_texel_view.Reads as view
+use Rattle.correction_c.proofs.rungtwine_texel_channel.Reads as channel
 
 -- Two answers of the pass are the same,
 pub pass-answers-alike : (κs : _) (a : _) (z z' : _) (e e' : _) → pass.Post κs a z e → pass.Post κs a z' e' → z ≡ z'
@@ -37,3 +38,7 @@ views-alike κs a z z' e e' p q = alike (p .0) (q .0)
 -- and lie at the same place of the same bitmap.
 pub views-placed-alike : (κs : _) (a : _) (z z' : _) (e e' : _) → view.Post κs a z e → view.Post κs a z' e' → ptr (now (e .1 .1 .1 .1 .1 .1 .1 .1 .0)) ≡ ptr (now (e' .1 .1 .1 .1 .1 .1 .1 .1 .0))
 views-placed-alike κs a z z' e e' p q = alike (p .1) (q .1)
+
+-- Two channels of a texel's median are the same.
+pub channels-alike : (κs : _) (a : _) (z z' : _) (e e' : _) → channel.Post κs a z e → channel.Post κs a z' e' → z ≡ z'
+channels-alike κs a z z' e e' p q = alike p q

@@ -12,7 +12,7 @@ use Rattle.ranges.specs.Constants.{epsilon, oneLessEpsilon}
 use Rattle.numbers.proofs.Laws.Order.{nought, one, finite, le-of-lt, le-trans}
 use Rattle.numbers.proofs.Laws.Bounds.{Within, within-more, neg-within, median-within, narrow-within, mix-within, add-within, sub-within, mul-within}
 use Rattle.ground.proofs.Laws.Bools.{both-hold, holds}
-use Rattle.detectors.specs.Texel.{channel, texelMedian}
+use Rattle.detectors.specs.Texel.{channel, texelMiddle, texelMedian}
 use Rattle.ranges.specs.Classifier.{compared}
 use Rattle.ranges.proofs.Laws.Finite.{Weight, weight, zero-weight, one-weight, strict-weight, Span, AllFinite, compared-finite}
 use Rattle.detectors.specs.Pairs.{inside, mixedChannel, mixedMedian}
@@ -27,7 +27,7 @@ pub record SmallTexel (a : List Float) : Type 0 where
 
 -- The median of a small texel is at most 2 ^ 20 in size.
 pub texel-median-within : (a : List Float) → SmallTexel a → Within 20 (texelMedian a)
-unfolding texelMedian
+unfolding texelMiddle
 texel-median-within a s = median-within 20 (channel a 0) (channel a 1) (channel a 2) (s .zeroth) (s .first) (s .second)
 
 -- ---- crossings

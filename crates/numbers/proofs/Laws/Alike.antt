@@ -12,6 +12,8 @@ use Rattle.numbers.proofs.scalar.min.Kinds as min-kinds
 use Rattle.numbers.proofs.scalar.min.Reads as min
 use Rattle.numbers.proofs.scalar.max.Kinds as max-kinds
 use Rattle.numbers.proofs.scalar.max.Reads as max
+use Rattle.numbers.proofs.scalar.median_value.Kinds as median-value-kinds
+use Rattle.numbers.proofs.scalar.median_value.Reads as median-value
 use Rattle.numbers.proofs.scalar.median.Kinds as median-kinds
 use Rattle.numbers.proofs.scalar.median.Reads as median
 use Rattle.numbers.proofs.scalar.abs32.Kinds as abs32-kinds
@@ -40,6 +42,9 @@ min-alike κs a r s e f = alike
 
 pub max-alike : Alike 0 max-kinds.ps max-kinds.r max.Post
 max-alike κs a r s e f = alike
+
+pub median-value-alike : Alike 0 median-value-kinds.ps median-value-kinds.r median-value.Post
+median-value-alike κs a r s e f = alike
 
 pub median-alike : Alike 0 median-kinds.ps median-kinds.r median.Post
 median-alike κs a r s e f = alike

@@ -7,6 +7,8 @@ use Rattle.numbers_c.proofs.rungtwine_max.Kinds as max-kinds
 use Rattle.numbers_c.proofs.rungtwine_max.Reads as max
 use Rattle.numbers_c.proofs.rungtwine_median.Kinds as median-kinds
 use Rattle.numbers_c.proofs.rungtwine_median.Reads as median
+use Rattle.numbers_c.proofs.rungtwine_median_channel.Kinds as median-channel-kinds
+use Rattle.numbers_c.proofs.rungtwine_median_channel.Reads as median-channel
 use Rattle.numbers_c.proofs.rungtwine_abs32.Kinds as abs32-kinds
 use Rattle.numbers_c.proofs.rungtwine_abs32.Reads as abs32
 use Rattle.numbers_c.proofs.rungtwine_abs64.Kinds as abs64-kinds
@@ -34,6 +36,9 @@ max-alike κs a r s e f = alike
 
 pub median-alike : Alike 0 median-kinds.ps median-kinds.r median.Post
 median-alike κs a r s e f = alike
+
+pub median-channel-alike : Alike 0 median-channel-kinds.ps median-channel-kinds.r median-channel.Post
+median-channel-alike κs a r s e f = alike
 
 pub abs32-alike : Alike 0 abs32-kinds.ps abs32-kinds.r abs32.Post
 abs32-alike κs a r s e f = alike

@@ -11,13 +11,13 @@ use Rattle.reading.specs.Answer.{printed, written}
 use Rattle.reading.proofs.answer.Statement.{statement}
 use Rattle.reading.proofs.answer.Tie as tie
 
-short : (n : ℕ) (s : List ℕ) → n < 98304 → written n s ≡ []
+short : (n : ℕ) (s : List ℕ) → n < 131072 → written n s ≡ []
 unfolding written
-short n s h = cond-no (leb 98304 n) (printed s) [] (lt→nleb 98304 n h)
+short n s h = cond-no (leb 131072 n) (printed s) [] (lt→nleb 131072 n h)
 
-enough : (n : ℕ) (s : List ℕ) → 98304 ≤ n → written n s ≡ printed s
+enough : (n : ℕ) (s : List ℕ) → 131072 ≤ n → written n s ≡ printed s
 unfolding written
-enough n s h = ap (λ (b : Bool). cond b (printed s) []) (is-true (leb 98304 n) (le→leb 98304 n h))
+enough n s h = ap (λ (b : Bool). cond b (printed s) []) (is-true (leb 131072 n) (le→leb 131072 n h))
 
 returns : tie.Need-returns
 returns c = rw (short _ _ (c .if1 .taken)) (refl, refl)

@@ -10,6 +10,9 @@ use lib.ListN.{length, getD, length-append}
 use Rattle.ground.specs.Lists.{joined}
 use Rattle.ground.proofs.Laws.Fill.{tab-length}
 use Rattle.ground.proofs.Laws.Join.{joined-length}
+use Rattle.numbers.specs.declared.scalar.Middle.{Middle}
+use Rattle.detectors.specs.Texel.{texelMiddle}
+use Rattle.detectors.proofs.Laws.Texel.{texel-channel-below}
 use Rattle.inputs.specs.Stencil.{isError}
 use Rattle.reading.specs.Text.{hexPair, hex, numbered, badText, refusedText, sizeText, countsText, marksText, rowText, rowsText, texelText, flaggedText, acceptedText}
 use Rattle.reading.proofs.Laws.Decimal.{decimal-length, decimal-length-u64}
@@ -18,7 +21,7 @@ cond-length : (t : Bool) (m : ℕ) (l : List ℕ) → length l ≤ m → length 
 cond-length true m l h = h
 cond-length false m l h = omega arith
 
--- a number with the byte after it: one that fits a u64, and one below 100,000
+-- a number with the byte after it: one that fits a u64, one below 100,000 and one below 10
 pub numbered-length : (n b : ℕ) → n < 2 ^ 64 → length (numbered n b) ≤ 21
 unfolding numbered
 numbered-length n b l = simp length-append (omega (arith, decimal-length-u64 n l))
@@ -26,6 +29,10 @@ numbered-length n b l = simp length-append (omega (arith, decimal-length-u64 n l
 pub numbered-short : (n b : ℕ) → n < 100000 → length (numbered n b) ≤ 6
 unfolding numbered
 numbered-short n b l = simp length-append (omega (arith, decimal-length 5 n (omega arith) l))
+
+pub numbered-digit : (n b : ℕ) → n < 10 → length (numbered n b) ≤ 2
+unfolding numbered
+numbered-digit n b l = simp length-append (omega (arith, decimal-length 1 n (omega arith) l))
 
 -- two hex digits, and eight
 pub hexPair-length : (v : ℕ) → length (hexPair v) ≤ 2
@@ -46,20 +53,20 @@ unfolding rowText
 row-length w st y = length-append (marksText w st (y * w)) (10 ∷ []) ∙ ap (λ (n : ℕ). n + 1) (marks-length w st (y * w))
 
 -- the line of a texel
-pub texel-length : (x y bits : ℕ) → x < 100000 → y < 100000 → length (texelText x y bits) ≤ 21
+pub texel-length : (x y : ℕ) (m : Middle) → x < 100000 → y < 100000 → m .channel < 3 → length (texelText x y m) ≤ 26
 unfolding texelText
-texel-length x y bits p q = simp length-append (omega (arith, numbered-short x 32 p, numbered-short y 32 q, hex-length bits))
+texel-length x y m p q r = simp length-append (omega (arith, numbered-short x 32 p, numbered-short y 32 q, hex-length (toBits binary32 (m .value)), numbered-digit (m .channel) 10 (omega arith)))
 
 -- neither place of a cell is above its number
 pub cell-short : (k w : ℕ) → k < 100000 → (k % w < 100000) × (k / w < 100000)
 cell-short k w l = (lt-of-le-of-lt (mod-le k w) l, lt-of-le-of-lt (div-le-self k w) l)
 
 -- where it is flagged
-pub flagged-length : (w : ℕ) (st : List ℕ) (medians : ℕ → Float) (k : ℕ) → k < 100000 → length (flaggedText w st medians k) ≤ 21
+pub flagged-length : (w : ℕ) (st : List ℕ) (texels : ℕ → List Float) (k : ℕ) → k < 100000 → length (flaggedText w st texels k) ≤ 26
 unfolding flaggedText
-flagged-length w st medians k l =
+flagged-length w st texels k l =
     let z = cell-short k w l in
-    cond-length (isError (getD st k 0)) 21 _ (texel-length (k % w) (k / w) (toBits binary32 (medians k)) (z .0) (z .1))
+    cond-length (isError (getD st k 0)) 26 _ (texel-length (k % w) (k / w) (texelMiddle (texels k)) (z .0) (z .1) (texel-channel-below (texels k)))
 
 -- the size line
 pub size-length : (w h ch : ℕ) → w < 2 ^ 64 → h < 2 ^ 64 → ch < 2 ^ 64 → length (sizeText w h ch) ≤ 68
@@ -87,12 +94,12 @@ unfolding refusedText
 refused-length n place p q = simp length-append (omega (arith, numbered-length n 32 p, numbered-length place 10 q))
 
 -- all texels
-pub texels-length : (n w : ℕ) (st : List ℕ) (medians : ℕ → Float) → n ≤ 100000 → length (joined n (flaggedText w st medians)) ≤ 21 * n
-texels-length n w st medians l = joined-length n 21 (flaggedText w st medians) (λ k p. flagged-length w st medians k (omega arith))
+pub texels-length : (n w : ℕ) (st : List ℕ) (texels : ℕ → List Float) → n ≤ 100000 → length (joined n (flaggedText w st texels)) ≤ 26 * n
+texels-length n w st texels l = joined-length n 26 (flaggedText w st texels) (λ k p. flagged-length w st texels k (omega arith))
 
 -- an accepted pass
-pub accepted-length : (w h ch p e : ℕ) (st : List ℕ) (medians : ℕ → Float) → w < 2 ^ 64 → h < 2 ^ 64 → ch < 2 ^ 64 → p < 2 ^ 64 → e < 2 ^ 64 → w * h ≤ 100000 → length (acceptedText w h ch p e st medians) ≤ 126 + (w * h + h) + 21 * (w * h)
+pub accepted-length : (w h ch p e : ℕ) (st : List ℕ) (texels : ℕ → List Float) → w < 2 ^ 64 → h < 2 ^ 64 → ch < 2 ^ 64 → p < 2 ^ 64 → e < 2 ^ 64 → w * h ≤ 100000 → length (acceptedText w h ch p e st texels) ≤ 126 + (w * h + h) + 26 * (w * h)
 unfolding acceptedText
-accepted-length w h ch p e st medians a b c d f l =
+accepted-length w h ch p e st texels a b c d f l =
     simp length-append
-    (omega (arith, size-length w h ch a b c, counts-length p e d f, rows-length w h st, texels-length (w * h) w st medians l))
+    (omega (arith, size-length w h ch a b c, counts-length p e d f, rows-length w h st, texels-length (w * h) w st texels l))

@@ -1,5 +1,7 @@
 -- `detectors::diagonal::has_diagonal_artifact` meets its contract. Assumes nothing.
 use borrow.Author.Needs.{needs}
+use mathlib.Core.Path.{ap}
+use Rattle.numbers.specs.declared.scalar.Middle.{Middle}
 use Rattle.detectors.specs.Diagonal.{diagonalPairs, hasDiagonalArtifact}
 use Rattle.ground.proofs.Laws.Bools.{and-taken, and-left}
 use Rattle.detectors.proofs.diagonal.has_diagonal_artifact.Statement.{statement}
@@ -9,11 +11,11 @@ returns : tie.Need-returns
 unfolding hasDiagonalArtifact diagonalPairs
 returns c =
     let g = c .before .before .before in
-    rw (← g .before .median .ensures, ← c .before .diagonal-span .ensures) (and-taken (g .guard .ensures) (c .before .before .if1 .taken) (c .some-pair .ensures))
+    rw (← ap (λ (m : Middle). m .value) (g .before .median .ensures), ← c .before .diagonal-span .ensures) (and-taken (g .guard .ensures) (c .before .before .if1 .taken) (c .some-pair .ensures))
 
 returns-2 : tie.Need-returns-2
 unfolding hasDiagonalArtifact diagonalPairs
-returns-2 c = rw (← c .before .before .median .ensures) (and-left _ (c .before .guard .ensures) (c .if1 .left))
+returns-2 c = rw (← ap (λ (m : Middle). m .value) (c .before .before .median .ensures)) (and-left _ (c .before .guard .ensures) (c .if1 .left))
 
 pub has-diagonal-artifact-spec : {M : Type 1} → statement M
 has-diagonal-artifact-spec = tie.close (tie.spec (λ c. search needs) (λ c κs. search needs) (λ c κs. search needs) (λ c κs. search needs) (λ c κs. search needs) returns returns-2)

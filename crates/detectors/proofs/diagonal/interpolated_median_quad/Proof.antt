@@ -9,7 +9,7 @@ unfolding curveMedian
 returns c =
     let z = c .before in
     let y = z .before in
-    rw (c .median .ensures, z .curve-channel3 .ensures, y .curve-channel2 .ensures, y .before .curve-channel .ensures)
+    rw (c .median-value .ensures, z .curve-channel3 .ensures, y .curve-channel2 .ensures, y .before .curve-channel .ensures)
 
 pub interpolated-median-quad-spec : {M : Type 1} → statement M
 interpolated-median-quad-spec = tie.close (tie.spec (λ c κs. search needs) (λ c κs. search needs) (λ c κs. search needs) (λ c κs. search needs) returns)

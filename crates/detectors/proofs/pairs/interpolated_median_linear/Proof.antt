@@ -9,7 +9,7 @@ unfolding mixedMedian
 returns c =
     let z = c .before in
     let y = z .before in
-    rw (c .median .ensures, z .mixed-channel3 .ensures, y .mixed-channel2 .ensures, y .before .mixed-channel .ensures)
+    rw (c .median-value .ensures, z .mixed-channel3 .ensures, y .mixed-channel2 .ensures, y .before .mixed-channel .ensures)
 
 pub interpolated-median-linear-spec : {M : Type 1} → statement M
 interpolated-median-linear-spec = tie.close (tie.spec (λ c κs. search needs) (λ c κs. search needs) (λ c κs. search needs) (λ c κs. search needs) returns)

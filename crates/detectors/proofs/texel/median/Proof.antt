@@ -1,11 +1,11 @@
 -- `detectors::texel::median` meets its contract. Assumes nothing.
-use Rattle.detectors.specs.Texel.{texelMedian}
+use Rattle.detectors.specs.Texel.{texelMiddle}
 use borrow.Author.Needs.{needs}
 use Rattle.detectors.proofs.texel.median.Statement.{statement}
 use Rattle.detectors.proofs.texel.median.Tie as tie
 
 returns : tie.Need-returns
-unfolding texelMedian
+unfolding texelMiddle
 returns c = c .median .ensures
 
 pub median-spec : {M : Type 1} → statement M

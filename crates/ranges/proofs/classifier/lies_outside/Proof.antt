@@ -6,7 +6,7 @@ use Rattle.ranges.proofs.classifier.lies_outside.Tie as tie
 
 returns : tie.Need-returns
 unfolding liesOutside
-returns c = simp (c .before .if1 .taken, c .median .ensures)
+returns c = simp (c .before .if1 .taken, c .median-value .ensures)
 
 returns-2 : tie.Need-returns-2
 unfolding liesOutside

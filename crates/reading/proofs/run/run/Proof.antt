@@ -1,8 +1,10 @@
--- `reading::run::run` meets its contract: the pass's answer is matched, and what it leaves is printed. Assumes nothing.
+-- `reading::run::run` meets its contract: the pass's answer is matched, and the stencil that it leaves and the samples that were kept are printed. Assumes nothing.
 use mathlib.Core.Path.{sym, _∙_, ap}
+use Prim.Native.Nat.{_≤_}
+use native.Mathlib.Omega.{arith}
 use denote.Ref.{now}
 use borrow.Author.Needs.{needs}
-use Rattle.ground.proofs.Laws.Write.{written-as}
+use Rattle.ground.proofs.Laws.Write.{written-as, front, front-length}
 use Rattle.ranges.specs.declared.config.Settings.{Settings}
 use Rattle.inputs.specs.Checks.{Input, input}
 use Rattle.correction.specs.Pass.{answer}
@@ -13,31 +15,48 @@ use Rattle.reading.proofs.run.Answered.{accepted-text, refused-text, ro
 use Rattle.reading.proofs.run.run.Statement.{statement}
 use Rattle.reading.proofs.run.run.Tie as tie
 
+abbrev begun : tie.After-keep → tie.Start
+begun c = c .before .before .before .before .before .before .before .before .before .before
+
+abbrev kept : tie.After-settings → tie.After-keep
+kept c = c .before .before .before .before .before
+
 abbrev start : tie.After-settings → tie.Start
-start c = c .before .before .before .before .before .before .before .before .before .before .before
+start c = begun (kept c)
+
+-- all samples are kept, and they fit
+keeps : (c : tie.After-keep) → c .keep .result ≤ 12288
+keeps c = omega (arith, c .keep .ensures .to, begun c .pre .1)
 
 -- what the pass is given, with some settings
 abbrev case : tie.After-settings → Settings → Input
 case c t = let d = start c .args in input (d .b .width) (d .b .height) (d .b .channels) (now (d .samples)) (now (d .stencil)) (modeOf (now (d .s))) t (now (d .colours)) (now (d .coords)) (now (d .ends))
+
+slice-aggregate-put-accepted : tie.Need-slice-aggregate-put-accepted
+slice-aggregate-put-accepted c =
+    let k = kept (c .before .before .before .before .before .before .before .before .before .before .before) in
+    front-length (k .keep .ensures) (keeps k)
 
 put-accepted-requires : tie.Need-put-accepted-requires
 put-accepted-requires c κs =
     let at-c = c .before .before .before .before in
     let m = at-c .before .before .before .before .before .before in
     let i = case (m .before) (m .before .settings .result) in
-    let s = start (m .before) in
+    let k = kept (m .before) in
+    let s = begun k in
     let p = m .msdf-error-correction .ensures in
-    let r = roomy i _ _ _ (sym (at-c .c .given .1) ∙ answers-fix i _ (p .0)) (s .pre .1) (p .1 .0) (p .1 .1) in
+    let r = roomy i _ _ _ (sym (at-c .c .given .1) ∙ answers-fix i _ (p .0)) (s .pre .1) (p .1 .0) (front (k .keep .ensures) (keeps k)) in
     (r .sizes, (r .cells, r .samples, s .pre .0))
 
 returns : tie.Need-returns
 returns c =
     let at-c = c .before .before .before .before .before .before .before in
     let m = at-c .before .before .before .before .before .before in
+    let k = kept (m .before) in
     let f = case (m .before) in
     let i = f (m .before .settings .result) in
     let p = m .msdf-error-correction .ensures in
-    let e = accepted-text i _ _ _ (sym (at-c .c .given .1) ∙ answers-fix i _ (p .0)) (p .1 .0) (p .1 .1) in
+    let e = accepted-text i _ _ _ (sym (at-c .c .given .1) ∙ answers-fix i _ (p .0)) (p .1 .0) (front (k .keep .ensures) (keeps k)) in
     written-as _ (e ∙ ap (λ t. answerText (f t) (answer (f t))) (m .before .settings .ensures)) (c .before .before .put-accepted .ensures)
 
 returns-2 : tie.Need-returns-2
@@ -52,5 +71,5 @@ returns-2 c =
 pub run-spec : {M : Type 1} → statement M
 run-spec =
     tie.close
-    (tie.spec (λ c. search needs) (λ c κs. search needs) (λ c κs. search needs) (λ c. search needs) put-accepted-requires (λ c. search needs) (λ c. search needs) (λ c κs. search needs) (λ c. search needs)
-    (λ c. search needs) (λ c. search needs) returns (λ c. search needs) (λ c. search needs) (λ c. search needs) returns-2)
+    (tie.spec (λ c. search needs) (λ c κs. search needs) (λ c. search needs) (λ c κs. search needs) (λ c κs. search needs) (λ c. search needs) (λ c. search needs) slice-aggregate-put-accepted put-accepted-requires (λ c. search needs) (λ c. search needs)
+    (λ c κs. search needs) (λ c. search needs) (λ c. search needs) (λ c. search needs) returns (λ c. search needs) (λ c. search needs) (λ c. search needs) returns-2)

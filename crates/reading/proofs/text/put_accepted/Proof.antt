@@ -21,15 +21,15 @@ sized c = c .before .before .before .before
 
 -- ---- the room after the size, and after the counts
 
-size-room : (c : tie.After-put-size) → c .put-size .result + 98236 ≤ length (c .put-size .last .0)
+size-room : (c : tie.After-put-size) → c .put-size .result + 131004 ≤ length (c .put-size .last .0)
 size-room c =
     let b = start c .args .b in
-    written-room 68 98236 (c .put-size .ensures) (size-length (b .width) (b .height) (b .channels) (omega arith) (omega arith) (omega arith)) (omega arith)
+    written-room 68 131004 (c .put-size .ensures) (size-length (b .width) (b .height) (b .channels) (omega arith) (omega arith) (omega arith)) (omega arith)
 
-counts-room : (c : tie.After-put-counts) → c .put-counts .result + 98178 ≤ length (c .put-counts .last .0)
+counts-room : (c : tie.After-put-counts) → c .put-counts .result + 130946 ≤ length (c .put-counts .last .0)
 counts-room c =
     let n = start (sized c) .args .c in
-    written-room 58 98178 (c .put-counts .ensures) (counts-length (n .protected) (n .error) (omega arith) (omega arith)) (omega (arith, size-room (sized c)))
+    written-room 58 130946 (c .put-counts .ensures) (counts-length (n .protected) (n .error) (omega arith) (omega arith)) (omega (arith, size-room (sized c)))
 
 -- ---- the needs
 
@@ -46,7 +46,7 @@ put-texels-requires c κs =
     let at-put-counts = at-put-rows .before .before .before .before in
     let s = start (sized at-put-counts) in
     let b = s .args .b in
-    let r = written-room (b .width * b .height + b .height) (21 * (b .width * b .height)) (at-put-rows .put-rows .ensures) (rows-length (b .width) (b .height) (now (s .args .st))) (omega (arith, counts-room at-put-counts)) in
+    let r = written-room (b .width * b .height + b .height) (26 * (b .width * b .height)) (at-put-rows .put-rows .ensures) (rows-length (b .width) (b .height) (now (s .args .st))) (omega (arith, counts-room at-put-counts)) in
     ((r, s .pre .1 .0), (s .pre .1 .1, s .pre .0 .1, s .pre .0 .0, omega arith))
 
 returns : tie.Need-returns

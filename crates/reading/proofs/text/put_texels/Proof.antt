@@ -2,8 +2,8 @@
 use mathlib.Core.Path.{_≡_, refl, _∙_}
 use Prim.Native.Nat.{_+_, _-_, _*_, _≤_}
 use native.Mathlib.Omega.{arith}
-use lib.Ieee.{nan}
-use lib.ListN.{length, getD}
+use Rattle.correction.specs.Bitmap.{cellTexel}
+use lib.ListN.{length}
 use denote.Ref.{now}
 use Rattle.ground.specs.Lists.{joined}
 use Rattle.ground.specs.Write.{Written}
@@ -15,7 +15,7 @@ use Rattle.reading.proofs.text.put_texels.Statement.{statement}
 use Rattle.reading.proofs.text.put_texels.Tie as tie
 
 abbrev Inv-loop : tie.InvT-loop
-Inv-loop out₀ at st xs b n next₀ k₀ out next k = (k ≤ n) × (length out ≡ length out₀) × (next ≤ at + 21 * k) × Written out₀ at (joined k (flaggedText (b .width) st (λ i. getD xs (i * b .channels) nan))) next out
+Inv-loop out₀ at st xs b n next₀ k₀ out next k = (k ≤ n) × (length out ≡ length out₀) × (next ≤ at + 26 * k) × Written out₀ at (joined k (flaggedText (b .width) st (cellTexel xs (b .channels)))) next out
 
 abbrev μ-loop : tie.MeasureT-loop
 μ-loop out₀ at st xs b n next₀ k₀ out next k = n - k
@@ -37,7 +37,7 @@ loop-again c =
     let k = l .loop .k in (
       omega arith,
       written-length w ∙ i .1,
-      omega (arith, w .to, i .2, flagged-length (d .b .width) (now (d .st)) (λ i. getD (now (d .xs)) (i * d .b .channels) nan) k (omega arith)),
+      omega (arith, w .to, i .2, flagged-length (d .b .width) (now (d .st)) (cellTexel (now (d .xs)) (d .b .channels)) k (omega arith)),
       joined-next k _ (i .3) w,
     )
 
