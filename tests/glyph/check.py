@@ -60,7 +60,7 @@ def there_and_back(data):
 def check_inputs(count, seed, judge):
     inputs = [data for _, data in cases.all_cases(count, seed)]
     answers = [text.decode() for text in cases.judged(judge, inputs)] if judge else [None] * len(inputs)
-    good = 0
+    good, carriers = 0, set()
     for data, says in zip(inputs, answers):
         place = there_and_back(data)
         good += place is None
@@ -68,23 +68,30 @@ def check_inputs(count, seed, judge):
             wanted = re.fullmatch(r"bad input (\d+)\n", says)
             need(place == (int(wanted[1]) if wanted else None), f"{data[:80].hex()} is bad at {place} for tools/glyph, and the judge says {says[:40]!r}")
             if says.startswith("size"):
-                check_answer(data, says)
+                carriers |= check_answer(data, says)
+    need(not judge or carriers == {0, 1, 2}, f"the inputs' medians are only in channels {carriers}")
     return len(inputs), good
 
 
 def check_answer(data, says):
-    """The corrected field has each flagged texel at its median, as Python sorts it (a zero's sign aside), and the others as they were."""
+    """The corrected field has each flagged texel at its median, as Python sorts it (a zero's sign aside), and the others as they were; the answer names the lowest
+    channel that has it. Gives the channels that are named."""
     read = glyph.from_fields("in", data)
     channels = read.size[2]
     answer = glyph.Answer("answer", says, read)
+    named = {(int(x), int(y)): int(channel) for x, y, channel in re.findall(r"^(\d+) (\d+) [0-9A-F]{8} ch (\d+)$", says, re.M)}
+    need(answer.carriers == named, f"the channels of {data[:80].hex()}")
     for y, (old, new) in enumerate(zip(read.rows, answer.corrected())):
         for x in range(read.size[0]):
             texel, after = old[x * channels:(x + 1) * channels], new[x * channels:(x + 1) * channels]
             if answer.rows[y][x] in "EB":
-                middle = sorted(map(glyph.value_of, texel[:3]))[1]
+                values = [glyph.value_of(v) for v in texel[:3]]
+                middle = sorted(values)[1]
                 need([glyph.value_of(v) for v in after[:3]] == [middle] * 3 and after[3:] == texel[3:], f"texel {x} {y} of {data[:80].hex()}")
+                need(named[x, y] == min(i for i in range(3) if values[i] == middle), f"the channel of texel {x} {y} of {data[:80].hex()}")
             else:
                 need(after == texel, f"texel {x} {y} of {data[:80].hex()}")
+    return set(named.values())
 
 
 def pixels(png):
@@ -121,8 +128,8 @@ def check_example(judge):
                 pixels(f.read())
 
 
-GOOD = "size 2 1 3\nmode 1\nratio 1\nlengths 1 1 1\ncontour\n  red 1 1\nrow 0\n  1 0 0.75\n  0 1 0.75\n"
-ANSWER = "size 2 1 3\nprotected 0 error 2\nEE\n0 0 3F400000\n1 0 3F400000\n"
+GOOD = "size 2 1 3\nmode 1\nratio 1\nlengths 1 1 1\ncontour\n  red 1 1\nrow 0\n  1 0 0.75\n  0 0.75 0.75\n"
+ANSWER = "size 2 1 3\nprotected 0 error 2\nEE\n0 0 3F400000 ch 2\n1 0 3F400000 ch 1\n"
 
 
 def bad_texts():
@@ -142,7 +149,7 @@ def bad_texts():
     yield GOOD.replace("red 1 1", "red 1"), "a:7:1: 'row' is not a segment's y"
     yield GOOD.replace("row 0", "row 1"), "a:7:5: this is row 0, not 1"
     yield GOOD.replace("0.75", "1e60", 1), "a:8:7: '1e60' is too large for channel 2 of texel 0"
-    yield GOOD.replace("  0 1 0.75\n", "  0 1\n"), "a:10:1: row 0 ends after 5 of its 2 x 3 samples"
+    yield GOOD.replace("  0 0.75 0.75\n", "  0 0.75\n"), "a:10:1: row 0 ends after 5 of its 2 x 3 samples"
     yield GOOD + "  1\n", "a:10:3: nothing should follow here, and '1' does"
     yield GOOD.replace("contour\n", "contour\n" * 65), "a:69:1: this is contour 65"
     yield GOOD.replace("  red 1 1\n", "  red 1 1\n" * 257), "a:262:3: this is segment 257"
@@ -160,7 +167,13 @@ def bad_answers():
     yield ANSWER.replace("protected 0", "protected 1"), "b:2:11: 1 are counted here"
     yield ANSWER.replace("EE", "EX"), "b:3:1: row 0, 2 letters"
     yield ANSWER.replace("1 0 3F", "0 0 3F"), "b:5:1: the next flagged texel is 1 0, not 0 0"
-    yield ANSWER.replace("1 0 3F400000\n", ""), "b:5:1: flagged texel 1 0 and its median should stand here"
+    yield ANSWER.replace("1 0 3F400000 ch 1\n", ""), "b:5:1: '1 0 BITS ch CHANNEL', a flagged texel with its median and channel 0, 1 or 2, should stand here"
+    for line in ("0 0 3F400000", "0 0 3F400000 ch", "0 0 3F400000 ch 3", "0 0 3F400000 ch 02", "0 0 3F400000 2", "0 0 3F400000 ch 2 "):
+        yield ANSWER.replace("0 0 3F400000 ch 2", line, 1), "b:4:1: '0 0 BITS ch CHANNEL'"
+    yield ANSWER.replace("ch 1", "ch 0"), "b:5:17: texel 1 0 has its median first in channel 1 in the field, not in 0"
+    yield ANSWER.replace("ch 1", "ch 2"), "b:5:17: texel 1 0 has its median first in channel 1 in the field, not in 2"
+    yield ANSWER.replace("1 0 3F400000", "1 0 3F400001"), "b:5:5: texel 1 0 has the median 3F400000 in the field, not 3F400001: this answer is for another field"
+    yield ANSWER.replace("0 0 3F400000 ch 2", "0 0 3F800000 ch 0"), "b:4:5: texel 0 0 has the median 3F400000 in the field, not 3F800000"
     yield ANSWER + "more\n", "b:6:1: nothing should follow"
 
 

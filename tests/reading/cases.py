@@ -72,7 +72,7 @@ def figures():
     def corner(*segments):
         return bitmap(2, 2, 3, settings(2, 1.0, 0.0), [contour(*segments)], GREY)
 
-    text_p = "size 2 1 3\nprotected 0 error 2\nEE\n0 0 3F400000\n1 0 3F400000\n"
+    text_p = "size 2 1 3\nprotected 0 error 2\nEE\n0 0 3F400000 ch 2\n1 0 3F400000 ch 2\n"
     hundredth, inside = [0.0, 1.0, 0.0, 99.0, 0.0, 0.0], [0.0, 1.0, 0.0, 98.0, 0.0, 0.0]
     return [
         ("P", pair(1, 0.25, P), text_p),

@@ -115,6 +115,7 @@ fn run(mut case: Case) -> String {
     let (w, h, n) = (case.input.width, case.input.height, case.input.channels);
     // With other channels check 1 answers, and width times height may be a great deal.
     let mut stencil = vec![0u8; if n == 3 || n == 4 { w * h } else { 0 }];
+    let before = case.samples.clone();
     let answer = judge::judge(&case.input, &mut case.samples, &mut stencil, &mut Seen::new());
     if answer.refusal != 0 {
         return format!("refused {} {}\n", answer.refusal, answer.place);
@@ -134,8 +135,11 @@ fn run(mut case: Case) -> String {
     for y in 0..h {
         for x in 0..w {
             if stencil[y * w + x] & ERROR != 0 {
-                // A flagged texel's first channel is its median now.
-                text.push_str(&format!("{x} {y} {:08X}\n", case.samples[(y * w + x) * n].to_bits()));
+                // A flagged texel's first channel is its median now; before the pass the lowest channel with that value carried it, a zero's sign aside.
+                let first = (y * w + x) * n;
+                let median = case.samples[first];
+                let channel = before[first..first + 3].iter().position(|&v| v == median).unwrap_or(0);
+                text.push_str(&format!("{x} {y} {:08X} ch {channel}\n", median.to_bits()));
             }
         }
     }
