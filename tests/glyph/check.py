@@ -128,6 +128,40 @@ def check_example(judge):
                 pixels(f.read())
 
 
+def whole(picture, width, height, what):
+    need(len(picture.data) == height and all(len(line) == 3 * width for line in picture.data), f"{what} runs off the picture")
+    return b"".join(picture.data)
+
+
+def answered(width, height, value, mark, channel):
+    """A field of equal texels, and an answer that marks each of them and names this channel."""
+    read = glyph.from_fields("in", cases.bitmap(width, height, 3, cases.PLAIN, [], value * (width * height)))
+    answer = glyph.Answer("in", f"size {width} {height} 3\nprotected 0 error 0\n" + ("." * width + "\n") * height, read)
+    answer.rows, answer.errors, answer.protected = [mark * width] * height, 4096, 4096
+    answer.carriers = {(x, y): channel for y in range(height) for x in range(width)} if mark in "EB" else {}
+    return read, answer
+
+
+def check_marks():
+    """At every size and on every colour one sees whether a texel is flagged, by which channel, and whether it is protected. Nothing runs off the picture."""
+    values = [[r, g, b] for r in (0.0, 0.5, 1.0) for g in (0.0, 0.5, 1.0) for b in (0.0, 0.5, 1.0)]
+    for step in range(3, 25):
+        for value in values:
+            seen = set()
+            for mark, channel in ((".", 0), ("P", 0), ("E", 0), ("E", 1), ("E", 2), ("B", 0), ("B", 1), ("B", 2)):
+                picture = glyph.Picture(step + 2, step + 2)
+                glyph.draw_field(picture, 1, 1, step, *answered(1, 1, value, mark, channel))
+                seen.add(whole(picture, step + 2, step + 2, f"a mark of {step} pixels"))
+                need(mark in ".P" or picture.data[0] == picture.data[-1] == b"\xff" * (3 * step + 6), f"a mark of {step} pixels runs over the line around it")
+            need(len(seen) == 8, f"marks of {step} pixels on {value} look alike")
+    for channel in range(3):
+        picture = glyph.Picture(glyph.LEGEND, 64)
+        glyph.draw_legend(picture, 0, 0, answered(64, 64, [0.5, 0.5, 0.5], "B", channel)[1])
+        whole(picture, glyph.LEGEND, 64, "the legend")
+    for width, height in ((1, 1), (2, 1), (1, 2), (1, 300), (300, 1)):
+        pixels(glyph.draw(*answered(width, height, [0.5, 0.5, 0.5], "B", 1), 4))
+
+
 GOOD = "size 2 1 3\nmode 1\nratio 1\nlengths 1 1 1\ncontour\n  red 1 1\nrow 0\n  1 0 0.75\n  0 0.75 0.75\n"
 ANSWER = "size 2 1 3\nprotected 0 error 2\nEE\n0 0 3F400000 ch 2\n1 0 3F400000 ch 1\n"
 
@@ -231,9 +265,10 @@ def check_bad():
 def main():
     judge = sys.argv[3] if len(sys.argv) > 3 else None
     check_example(judge)
+    check_marks()
     count, good = check_inputs(int(sys.argv[1]), int(sys.argv[2]), judge)
     bad = check_bad()
-    print(f"tests/glyph: the example, {count} inputs ({good} there and back, {count - good} refused{' where the judge says' if judge else ''}), "
+    print(f"tests/glyph: the example, the marks, {count} inputs ({good} there and back, {count - good} refused{' where the judge says' if judge else ''}), "
           f"{bad} bad files and calls")
 
 
