@@ -1,4 +1,5 @@
-/* Corrects the glyph that it reads from standard input and prints the counts, the stencil, rows from the bottom, and where the view finds two of its texels. */
+/* Corrects the glyph that it reads from standard input and prints the counts, the stencil, rows from the bottom, how many flagged texels each channel
+ * carries, and where the view finds two of its texels. */
 #include <stdio.h>
 #include <stdlib.h>
 #include <string.h>
@@ -28,6 +29,18 @@ static void rows(size_t width, size_t height, const uint8_t *stencil)
         if ((i + 1) % width == 0)
             putchar('\n');
     }
+}
+
+/* Prints how many flagged texels have their median in each channel, judged on the original. */
+static void carriers(size_t cells, size_t channels, const float *original, const uint8_t *stencil)
+{
+    size_t carried[3] = {0, 0, 0};
+    for (size_t k = 0; k < cells; k++) {
+        const float *texel = original + k * channels;
+        if (stencil[k] & RUNGTWINE_ERROR)
+            carried[rungtwine_texel_channel(texel[0], texel[1], texel[2])]++;
+    }
+    printf("medians in channels: %zu %zu %zu\n", carried[0], carried[1], carried[2]);
 }
 
 /* Prints where the view finds the first texel that is flagged, or that is not. */
@@ -76,6 +89,7 @@ int main(void)
     }
     printf("protected %zu error %zu\n", protected_cells, error_cells);
     rows(width, height, stencil);
+    carriers(cells, channels, original, stencil);
     show(width, height, channels, original, samples, stencil, RUNGTWINE_ERROR);
     show(width, height, channels, original, samples, stencil, 0);
     free(stencil);

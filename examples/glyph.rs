@@ -1,9 +1,10 @@
-//! Corrects the glyph that it reads from standard input and prints the counts, the stencil, rows from the bottom, and where the view finds two of its texels.
+//! Corrects the glyph that it reads from standard input and prints the counts, the stencil, rows from the bottom, how many flagged texels each channel
+//! carries, and where the view finds two of its texels.
 
 #[path = "../include/rungtwine.rs"]
 mod rungtwine;
 
-use rungtwine::{error_correction, texel_view, Bitmap, Mode, Outlines, Settings};
+use rungtwine::{error_correction, texel_channel, texel_view, Bitmap, Mode, Outlines, Settings};
 use std::io::Read;
 use std::str::{FromStr, SplitWhitespace};
 
@@ -13,6 +14,15 @@ fn next<T: FromStr>(words: &mut SplitWhitespace) -> T {
 
 fn list<T: FromStr>(words: &mut SplitWhitespace, count: usize) -> Vec<T> {
     (0..count).map(|_| next(words)).collect()
+}
+
+/// Prints how many flagged texels have their median in each channel, judged on the original.
+fn carriers(channels: usize, original: &[f32], stencil: &[u8]) {
+    let mut carried = [0; 3];
+    for (texel, _) in original.chunks(channels).zip(stencil).filter(|(_, s)| **s & 1 == 1) {
+        carried[texel_channel([texel[0], texel[1], texel[2]])] += 1;
+    }
+    println!("medians in channels: {} {} {}", carried[0], carried[1], carried[2]);
 }
 
 /// Prints where the view finds the first texel that is flagged, or that is not.
@@ -52,6 +62,7 @@ fn main() {
             for row in stencil.chunks(width) {
                 println!("{}", row.iter().map(|s| [".", "E", "P", "B"][usize::from(s & 3)]).collect::<String>());
             }
+            carriers(channels, &original, &stencil);
             show((width, height, channels), &original, &samples, &stencil, true);
             show((width, height, channels), &original, &samples, &stencil, false);
         }

@@ -1,4 +1,4 @@
-/* The error-correction pass of a multi-channel distance field and a view of its texels, proved against their definitions. */
+/* The error-correction pass of a multi-channel distance field, a view of its texels and the channel of a texel's median, proved against their definitions. */
 #ifndef RUNGTWINE_H
 #define RUNGTWINE_H
 
@@ -74,6 +74,13 @@ void rungtwine_texel_view(
     const uint8_t *stencil, size_t stencil_len,
     size_t x, size_t y,
     rungtwine_texel *texel);
+
+/*
+ * Answers which channel carries a texel's median: the lowest of 0, 1 and 2, whose values are `red`, `green` and `blue`, whose value compares equal to
+ * the median of the three (-0 equals 0), and 0 if all three are NaN. Of a flagged texel ask before the correction, or of the original: afterwards
+ * its three channels are equal, and it is 0. There is no demand on the numbers.
+ */
+size_t rungtwine_texel_channel(float red, float green, float blue);
 
 #ifdef __cplusplus
 }

@@ -49,6 +49,8 @@ pub mod raw {
             y: usize,
             texel: *mut Texel,
         );
+
+        pub fn rungtwine_texel_channel(red: f32, green: f32, blue: f32) -> usize;
     }
 }
 
@@ -168,4 +170,11 @@ pub fn texel_view<'a>(
     };
     let of_corrected = !samples.is_empty() && samples.as_ptr() == corrected[(y * width + x) * channels..].as_ptr();
     (if of_corrected { Bitmap::Corrected } else { Bitmap::Original }, samples)
+}
+
+/// The lowest of a texel's first three channels whose value compares equal to their median, 0 if all three are NaN. Of a flagged texel ask before
+/// the correction, or of the original: afterwards its three channels are equal, and it is 0.
+pub fn texel_channel([red, green, blue]: [f32; 3]) -> usize {
+    // The function takes any three numbers and touches no memory.
+    unsafe { raw::rungtwine_texel_channel(red, green, blue) }
 }

@@ -6,6 +6,7 @@ pub mod raw {
         pub fn rungtwine_min(x: f32, y: f32) -> f32;
         pub fn rungtwine_max(x: f32, y: f32) -> f32;
         pub fn rungtwine_median(a: f32, b: f32, c: f32) -> f32;
+        pub fn rungtwine_median_channel(a: f32, b: f32, c: f32) -> usize;
         pub fn rungtwine_abs32(x: f32) -> f32;
         pub fn rungtwine_abs64(x: f64) -> f64;
         pub fn rungtwine_mix(a: f32, b: f32, w: f64) -> f32;
@@ -28,6 +29,11 @@ pub fn max(x: f32, y: f32) -> f32 {
 
 pub fn median(a: f32, b: f32, c: f32) -> f32 {
     unsafe { raw::rungtwine_median(a, b, c) }
+}
+
+/// The lowest of the channels 0, 1 and 2, with these values, whose value compares equal to their median, 0 if all three are NaN.
+pub fn median_channel(a: f32, b: f32, c: f32) -> usize {
+    unsafe { raw::rungtwine_median_channel(a, b, c) }
 }
 
 pub fn abs32(x: f32) -> f32 {

@@ -27,6 +27,11 @@ mod machine {
         all.sort_by(f32::total_cmp);
         all[1]
     }
+    /// The first of the three that `==` finds equal to the median.
+    pub fn median_channel(a: f32, b: f32, c: f32) -> usize {
+        let m = median(a, b, c);
+        [a, b, c].iter().position(|&v| v == m).unwrap_or(0)
+    }
     pub fn mix(a: f32, b: f32, w: f64) -> f32 {
         ((1.0 - w) * a as f64 + w * b as f64) as f32
     }
@@ -185,7 +190,7 @@ fn special() -> Vec<f32> {
     all
 }
 
-/// Every two and every three of these in every order: minimum, maximum and median, and that of three numbers the order does not matter to a bit.
+/// Every two and every three of these in every order: minimum, maximum, median and its channel, and that of three numbers the order does not matter to a bit.
 fn orders(t: &mut Tally) {
     let all = special();
     let (mut count, mut bad) = (0, 0);
@@ -205,6 +210,7 @@ fn orders(t: &mut Tally) {
             for &c in &all {
                 let m = proved::median(a, b, c);
                 hold(same32(m, machine::median(a, b, c)), &|| format!("median of {a:?} {b:?} {c:?}"));
+                hold(proved::median_channel(a, b, c) == machine::median_channel(a, b, c), &|| format!("channel of the median of {a:?} {b:?} {c:?}"));
                 if !(a.is_nan() || b.is_nan() || c.is_nan()) {
                     for (x, y, z) in [(a, c, b), (b, a, c), (b, c, a), (c, a, b), (c, b, a)] {
                         hold(proved::median(x, y, z).to_bits() == m.to_bits(), &|| format!("median of {x:?} {y:?} {z:?} and of {a:?} {b:?} {c:?}"));
@@ -248,6 +254,15 @@ fn compare(count: u64) -> bool {
     t.run("median", count, |r| {
         let (a, b, c) = (r.narrow(), r.narrow(), r.narrow());
         (!same32(proved::median(a, b, c), machine::median(a, b, c))).then(|| format!("{a:?} {b:?} {c:?}"))
+    });
+    t.run("median's channel", count, |r| {
+        let mut v = [r.narrow(), r.narrow(), r.narrow()];
+        // at times two or three are equal
+        for _ in 0..r.below(3) {
+            v[r.below(3) as usize] = v[r.below(3) as usize];
+        }
+        let [a, b, c] = v;
+        (proved::median_channel(a, b, c) != machine::median_channel(a, b, c)).then(|| format!("{a:?} {b:?} {c:?}"))
     });
     t.run("mix", count, |r| {
         let (a, b, w) = (r.narrow(), r.narrow(), r.wide());

@@ -1,4 +1,5 @@
-//! Runs the texel view over all its cases and holds each answer, the pointer too, to a plain reading of docs/RULES.md.
+//! Runs the texel view over all its cases and holds each answer, the pointer too, to a plain reading of docs/RULES.md; and the channel of a texel's median
+//! over every three of some values.
 
 #[path = "../../include/rungtwine.rs"]
 mod rungtwine;
@@ -161,8 +162,44 @@ fn largest(tally: &mut Tally) {
     }
 }
 
+/// The value that is the median of three, a zero's sign aside: by a sort, and with a NaN as docs/RULES.md says.
+fn median([a, b, c]: [f32; 3]) -> f32 {
+    match (a.is_nan(), b.is_nan(), c.is_nan()) {
+        (true, true, _) => c,
+        (true, false, _) => b,
+        (false, true, _) => a,
+        (false, false, true) => if a < b { b } else { a },
+        (false, false, false) => {
+            let mut all = [a, b, c];
+            all.sort_by(f32::total_cmp);
+            all[1]
+        }
+    }
+}
+
+/// Every three of these values as a texel.
+fn carriers(tally: &mut Tally) {
+    let values = [0.0, -0.0, 1e-45, -1e-45, 0.5, 0.50000006, -0.5, 1.0, 1048576.0, f32::MAX, f32::INFINITY, f32::NEG_INFINITY, f32::NAN];
+    for a in values {
+        for b in values {
+            for c in values {
+                let texel = [a, b, c];
+                let m = median(texel);
+                let lowest = (0..3).find(|&i| texel[i] == m).unwrap_or(0);
+                let found = rungtwine::texel_channel(texel);
+                tally.cases += 1;
+                if found != lowest {
+                    tally.differ += 1;
+                    println!("texel {texel:?}: channel {lowest} expected, {found} found");
+                }
+            }
+        }
+    }
+}
+
 fn main() {
     let mut tally = Tally::default();
+    carriers(&mut tally);
     bytes(&mut tally);
     refusals(&mut tally);
     largest(&mut tally);
