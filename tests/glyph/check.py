@@ -239,6 +239,9 @@ def check_bad():
         put("good", glyph.to_fields(glyph.from_text("good", GOOD), "good"))
         put("wide", cases.bitmap(4096, 1, 3, cases.settings(0, 1.0, 1.0), [], [0.0] * 12288))
         put("plain", "size 4096 1 3\nprotected 0 error 0\n" + "." * 4096 + "\n")
+        for name, size in (("single", (1, 1, 1)), ("rowless", (2, 0, 3)), ("narrow", (0, 2, 3))):
+            put(name, cases.bitmap(*size, cases.PLAIN, [], [0.0] * (size[0] * size[1] * size[2])))
+            put(name + ".txt", "size {} {} {}\nprotected 0 error 0\n".format(*size) + ("." * size[0] + "\n") * size[1])
         put("settings", "mode 1\nratio 1\nlengths 1 1 1\n")
         put("more", cases.figures()[0][1] + bytes(3))
         put("four", cases.bitmap(1, 1, 4, cases.PLAIN, [], [0.0] * 4))
@@ -251,6 +254,7 @@ def check_bad():
         for status, says, words in (
                 (1, "none: cannot be read: No such file", ["unpack", "none", "out"]), (1, "more: byte 74: 3 more bytes follow the end", ["unpack", "more", "out"]),
                 (1, "four: a PFM has three channels, and this field has 4", ["to-pfm", "four", "out", "out"]),
+                *((1, f"{name}.txt:1:6: the program refuses a field of this size", ["draw", name, name + ".txt", "out"]) for name in ("single", "rowless", "narrow")),
                 (1, "wide: drawn 32 pixels high it would be 131072 wide", ["draw", "wide", "plain", "out"]),
                 (1, "nowhere/out: cannot be written", ["unpack", "good", "nowhere/out"]),
                 (2, "a command is missing", []), (2, "there is no command 'fold'", ["fold"]), (2, "pack takes TEXT FIELDS, and 1 words", ["pack", "a"]),
