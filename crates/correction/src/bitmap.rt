@@ -14,7 +14,7 @@ pub struct Visit {
     pub number: usize,
 }
 
-// A texel among its neighbours: its first three channels, their median, its column and its row.
+// A texel among its neighbours: its first three channels, their median's value, its column and its row.
 pub struct Centre {
     pub texel: [f32; 3],
     pub median: f32,

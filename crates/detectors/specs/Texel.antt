@@ -10,7 +10,7 @@ use Rattle.numbers.specs.declared.scalar.Middle.{Middle}
 abbrev pub channel : List Float → ℕ → Float
 channel a i = getD a i nan
 
--- the median of a texel's three channels: its value and the lowest channel that carries it
+-- the median of a texel's three channels: its value and the lowest channel whose value compares equal to it
 unfoldable pub texelMiddle : List Float → Middle
 texelMiddle a = middleOf (channel a 0) (channel a 1) (channel a 2)
 

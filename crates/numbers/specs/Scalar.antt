@@ -29,7 +29,7 @@ maxOf x y = cond (isNan x || isBelow x y) y x
 unfoldable pub medianOf : Float → Float → Float → Float
 medianOf a b c = maxOf (minOf a b) (minOf (maxOf a b) c)
 
--- the lowest of the channels 0, 1 and 2, whose values are a, b and c, whose value compares equal to m; 0 where none does
+-- of the channels 0, 1 and 2, which hold a, b and c, the lowest whose value compares equal to m; 0 where none does
 unfoldable pub lowestEqual : Float → Float → Float → Float → ℕ
 lowestEqual m a b c = cond (eq a m) 0 (cond (eq b m) 1 (cond (eq c m) 2 0))
 

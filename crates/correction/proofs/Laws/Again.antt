@@ -16,8 +16,8 @@ use denote.Ref.{now}
 use contract.Lifetimes.{Lfts}
 use borrow.Fn.Kinds.{Dens}
 use borrow.Author.Tests.{le-ltb, eq-eqb}
-use Rattle.numbers.proofs.Laws.Scalar.{median-keeps}
-use Rattle.detectors.specs.Texel.{texelMiddle}
+use Rattle.detectors.proofs.Laws.Texel.{texel-median-keeps}
+use Rattle.correction.specs.Bitmap.{cellTexel}
 use Rattle.inputs.specs.Checks.{Input, oversize, samplesPlace, badSamples, refusalNumber, accepted}
 use Rattle.correction.specs.Collapse.{cellMedian, collapsedSample, collapsed}
 use Rattle.correction.specs.Pass.{flags, passSamples, stencilAfter, samplesAfter, fedBack, numberOf}
@@ -48,8 +48,7 @@ collapsed-keeps P xs ch n flag few long all j l = go (flag (j / ch) && ltb (j % 
 
     go : (b : Bool) → P (cond b (cellMedian xs ch (j / ch)) (getD xs j nan))
     go true =
-        unfold texelMiddle in median-keeps P (getD xs (j / ch * ch + 0) nan) (getD xs (j / ch * ch + 1) nan) (getD xs (j / ch * ch + 2) nan) (all (j / ch * ch + 0) (in-texel 0 (omega arith))) (all (j / ch * ch + 1) (in-texel 1 (omega arith)))
-        (all (j / ch * ch + 2) (in-texel 2 (omega arith)))
+        texel-median-keeps P (cellTexel xs ch (j / ch)) (all (j / ch * ch + 0) (in-texel 0 (omega arith))) (all (j / ch * ch + 1) (in-texel 1 (omega arith))) (all (j / ch * ch + 2) (in-texel 2 (omega arith)))
     go false = all j l
 
 -- After an accepted pass every sample is within check 6's limit.

@@ -18,7 +18,8 @@ use contract.Lifetimes.{Lfts}
 use borrow.Fn.Kinds.{Dens}
 use borrow.Author.Tests.{lt-ltb}
 use Rattle.numbers.specs.Scalar.{medianOf}
-use Rattle.detectors.specs.Texel.{texelMiddle}
+use Rattle.detectors.proofs.Laws.Texel.{texel-median-is}
+use Rattle.correction.specs.Bitmap.{cellTexel}
 use Rattle.numbers.specs.Orders.{Number}
 use Rattle.numbers.proofs.Laws.Scalar.{median-order}
 use Rattle.numbers.proofs.Laws.Bounds.{within-no-nan}
@@ -45,8 +46,7 @@ reordered brg v p q r = median-order binary32 (v 0) (v 1) (v 2) p q r .3
 reordered bgr v p q r = median-order binary32 (v 0) (v 1) (v 2) p q r .4
 
 cell-is : (xs : List Float) (ch k : ℕ) → cellMedian xs ch k ≡ medianOf (getD xs (k * ch + 0) nan) (getD xs (k * ch + 1) nan) (getD xs (k * ch + 2) nan)
-unfolding texelMiddle
-cell-is xs ch k = refl
+cell-is xs ch k = texel-median-is (cellTexel xs ch k)
 
 module _ (order : Wiring) (xs ys : List Float) (ch n : ℕ) (same : Rewired order ch xs ys) (three : 3 ≤ ch) (long : length xs ≡ n * ch) (all : (j : ℕ) → j < length xs → Number binary32 (getD xs j nan)) where
   at : (k r : ℕ) → k < n → r < 3 → k * ch + r < length xs

@@ -10,7 +10,7 @@ use lib.Dec.{ltb}
 use lib.Arith.{digits-div, digits-mod}
 use lib.Ieee.{Float, nan}
 use borrow.Author.Tests.{lt-ltb, le-ltb}
-use Rattle.detectors.specs.Texel.{texelMiddle, texelMedian}
+use Rattle.detectors.specs.Texel.{texelMedian}
 use Rattle.ground.proofs.Laws.Fill.{Filled, filled-none, filled-more, filled-run, filled-at, filled-all}
 use Rattle.correction.specs.declared.bitmap.Visit.{Visit}
 use Rattle.correction.specs.Bitmap.{place}
@@ -43,7 +43,7 @@ module _ (flag : ℕ → Bool) (xs₀ : List Float) (ch : ℕ) (xs : List Float)
     m = texelMedian (getD xs at nan ∷ getD xs (at + 1) nan ∷ getD xs (at + 2) nan ∷ [])
 
     same : m ≡ cellMedian xs₀ ch k
-    unfolding m texelMiddle
+    unfolding m
     same = rw (i .rest at (omega arith), i .rest (at + 1) (omega arith), i .rest (at + 2) (omega arith), here, add-zero (k * ch))
 
     value : (r : ℕ) → r < 3 → m ≡ collapsedSample xs₀ ch flag (at + r)

@@ -5,6 +5,7 @@
 --     channel-carries                           where the median is a number, that channel's value compares equal to it
 --     channel-lowest                            and no lower one's does
 --     channel-only                              there is no other such channel
+--     channel-flat                              of three times the same number it is 0
 --     channel-nan                               for three NaNs it is 0
 --     channel-zeros                             of −0, 5 and +0 the median is +0, and the channel 0, whose own value is −0
 use mathlib.Core.Path.{_≡_, refl, sym, subst}
@@ -15,9 +16,10 @@ use mathlib.Core.Bool.{Bool, true, false, not, cond}
 use lib.Dec.{T}
 use lib.IntN.{pos}
 use lib.Ieee.{Float, nan, fin, lt, eq, isNan}
+use lib.Ieee.Bits.{is-true}
 use Rattle.numbers.specs.Scalar.{minOf, maxOf, medianOf, lowestEqual, middleOf}
-use Rattle.numbers.proofs.Laws.Order.{nought, minus-nought, number-left, number-right, le-of-eq, eq-refl}
-use Rattle.numbers.proofs.Laws.Scalar.{min-first, min-second, max-first, max-second, median-either}
+use Rattle.numbers.proofs.Laws.Order.{nought, minus-nought, number-left, number-right, le-of-eq, eq-refl, eq-sym}
+use Rattle.numbers.proofs.Laws.Scalar.{min-first, min-second, max-first, max-second, median-either, median-twice}
 
 -- ---- the value
 pub median-number-first : (a b c : Float) → T (not (isNan a)) → T (not (isNan (medianOf a b c)))
@@ -109,6 +111,10 @@ channel-only v i h l =
     let not-lower : i < m .channel → ⊥ = λ k. subst T (channel-lowest v i k) h in
     let not-higher : m .channel < i → ⊥ = λ k. subst T (l (m .channel) k) (channel-carries v (number-right (v i) (m .value) (le-of-eq (v i) (m .value) h))) in
     omega (arith, not-lower, not-higher)
+
+pub channel-flat : (v : Float) → T (not (isNan v)) → middleOf v v v .channel ≡ 0
+unfolding lowestEqual
+channel-flat v n = rw (is-true (eq v (medianOf v v v)) (eq-sym (medianOf v v v) v (median-twice v v n n)))
 
 pub channel-nan : middleOf nan nan nan ≡ record { value = nan; channel = 0 }
 unfolding medianOf minOf maxOf lowestEqual isNan eq
