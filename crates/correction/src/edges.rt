@@ -117,7 +117,7 @@ fn protected_byte(xs: &[f32], b: Bitmap, r: Radii, v: u8, x: usize, y: usize) ->
 pub fn protect_edges(stencil: &mut [u8], xs: &[f32], b: Bitmap, s: Settings)
     requires { ⌜ Sized (b .width) (b .height) (b .channels) (now xs) ⌝ }
     requires { ⌜ length (now stencil) ≡ b .height * b .width ⌝ }
-    ensures { λ _. ⌜ now (stencil .exit) ≡ painted (λ k. Edges.edgesProtect (texel (now (xs .entry)) (b .width) (b .channels)) (b .width) (b .height) s (k % b .width) (k / b .width)) (now (stencil .entry)) ⌝ }
+    ensures { λ _. ⌜ now (stencil .exit) ≡ painted setProtected (λ k. Edges.edgesProtect (texel (now (xs .entry)) (b .width) (b .channels)) (b .width) (b .height) s (k % b .width) (k / b .width)) (now (stencil .entry)) ⌝ }
 {
     let r = Radii {
         horizontal: edge::radius(s.horizontal),

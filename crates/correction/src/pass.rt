@@ -1,9 +1,10 @@
 // The pass: checks, protection, finding, collapsing.
 ghost use mathlib.Core.Path.{_≡_};
 ghost use Prim.Native.Nat.{_*_, _/_, _%_};
-ghost use mathlib.Core.Bool.{cond};
+ghost use mathlib.Core.Bool.{false};
 ghost use lib.ListN.{length};
 ghost use Rattle.inputs.specs.Checks.{input};
+ghost use Rattle.inputs.specs.Stencil.{stencilByte};
 ghost use Rattle.ground.specs.Lists.{tab};
 ghost use Rattle.correction.specs.Pass as Pass;
 ghost use Rattle.correction.specs.Inner.{Sized};
@@ -39,7 +40,7 @@ fn protect(
     requires { ⌜ Sized (b .width) (b .height) (b .channels) (now xs) ⌝ }
     requires { ⌜ length (now stencil) ≡ b .height * b .width ⌝ }
     requires { ⌜ Outlined (now colours) (now coords) (now ends) ⌝ }
-    ensures { λ _. ⌜ now (stencil .exit) ≡ tab (length (now (stencil .entry))) (λ k. cond (Pass.protects (input (b .width) (b .height) (b .channels) (now (xs .entry)) (now (stencil .entry)) mode s (now (colours .entry)) (now (coords .entry)) (now (ends .entry))) (k % b .width) (k / b .width)) 2 0) ⌝ }
+    ensures { λ _. ⌜ now (stencil .exit) ≡ tab (length (now (stencil .entry))) (λ k. stencilByte (Pass.protects (input (b .width) (b .height) (b .channels) (now (xs .entry)) (now (stencil .entry)) mode s (now (colours .entry)) (now (coords .entry)) (now (ends .entry))) (k % b .width) (k / b .width)) false) ⌝ }
 {
     if mode == config::EDGE_ONLY {
         stencil::fill(stencil, stencil::PROTECTED);

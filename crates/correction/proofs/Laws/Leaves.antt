@@ -17,7 +17,7 @@ use Rattle.inputs.specs.Stencil.{isProtected, isError}
 use Rattle.inputs.specs.Checks.{Input, input, refusalNumber, accepted}
 use Rattle.correction.specs.Pass.{protects, flags, byteAt, passStencil, passSamples, stencilAfter, samplesAfter}
 use Rattle.ground.proofs.Laws.Fill.{tab-length, tab-at}
-use Rattle.correction.proofs.pass.Staged.{protected-staged, error-staged}
+use Rattle.inputs.proofs.Laws.Stencil.{byte-protected, byte-error}
 use Rattle.correction.proofs.pass.msdf_error_correction.Kinds.{ps}
 
 pub number-zero : (i : Input) → accepted i ≡ true → refusalNumber i ≡ 0
@@ -37,12 +37,12 @@ cell-byte i p k l = ap (λ (st : List ℕ). getD st k 0) (accepted-leaves i p .0
 -- The error bit of a cell says whether its texel is flagged.
 pub cell-error : (i : Input) → accepted i ≡ true → (k : ℕ) → k < i .width * i .height → isError (getD (stencilAfter i) k 0) ≡ flags i (k % i .width) (k / i .width)
 unfolding byteAt
-cell-error i p k l = ap isError (cell-byte i p k l) ∙ error-staged (protects i (k % i .width) (k / i .width)) (flags i (k % i .width) (k / i .width))
+cell-error i p k l = ap isError (cell-byte i p k l) ∙ byte-error (protects i (k % i .width) (k / i .width)) (flags i (k % i .width) (k / i .width))
 
 -- The protected bit says whether it is protected.
 pub cell-protected : (i : Input) → accepted i ≡ true → (k : ℕ) → k < i .width * i .height → isProtected (getD (stencilAfter i) k 0) ≡ protects i (k % i .width) (k / i .width)
 unfolding byteAt
-cell-protected i p k l = ap isProtected (cell-byte i p k l) ∙ protected-staged (protects i (k % i .width) (k / i .width)) (flags i (k % i .width) (k / i .width))
+cell-protected i p k l = ap isProtected (cell-byte i p k l) ∙ byte-protected (protects i (k % i .width) (k / i .width)) (flags i (k % i .width) (k / i .width))
 
 -- The stencil has a cell for each texel.
 pub stencil-length : (i : Input) → accepted i ≡ true → length (stencilAfter i) ≡ i .width * i .height

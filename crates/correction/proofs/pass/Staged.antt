@@ -1,7 +1,5 @@
 -- What the stages of the pass leave for each other, over plain lists. Assumes nothing.
---     found-staged       finding over a stencil of 2 and 0 leaves the byte of each cell: protected or not, with an error or not
---     protected-staged   what that byte says of protection
---     error-staged       and of an error
+--     found-staged       finding over a stencil without an error leaves the byte of each cell, with an error or not
 --     collapsed-same     collapsing rests on the flags of the n texels alone
 --     collapsed-none     with no texel flagged it leaves all as it was
 use mathlib.Core.Path.{_≡_, refl, _∙_, ap, subst}
@@ -16,47 +14,32 @@ use lib.Ieee.{Float, nan}
 use Rattle.ranges.specs.declared.config.Settings.{Settings}
 use Rattle.ground.specs.Lists.{tab}
 use Rattle.correction.specs.Bitmap.{texel}
-use Rattle.inputs.specs.Stencil.{stencilByte, isProtected, isError, setError}
+use Rattle.inputs.specs.Stencil.{stencilByte, setError}
 use Rattle.correction.specs.Errors.{hasArtifact}
 use Rattle.correction.specs.Collapse.{cellMedian, collapsedSample, collapsed}
 use Rattle.correction.specs.Inner.{marked, found}
+use Rattle.inputs.proofs.Laws.Stencil.{byte-protected, byte-set-error}
 use Rattle.ground.proofs.Laws.Fill.{tab-length, tab-at, tab-same}
 
-added : (p e : Bool) → cond e (setError (cond p 2 0)) (cond p 2 0) ≡ stencilByte p e
-unfolding setError isError stencilByte
-added true true = refl
-added true false = refl
-added false true = refl
-added false false = refl
+added : (p e : Bool) → cond e (setError (stencilByte p false)) (stencilByte p false) ≡ stencilByte p e
+added p true = byte-set-error p false
+added p false = refl
 
-marked-staged : (xs : List Float) (w h ch : ℕ) (s : Settings) (p : Bool) (x y : ℕ) → marked xs w h ch s (cond p 2 0) x y ≡ stencilByte p (hasArtifact (texel xs w ch) w h s p x y)
-unfolding marked isProtected
-marked-staged xs w h ch s true x y = added true (hasArtifact (texel xs w ch) w h s true x y)
-marked-staged xs w h ch s false x y = added false (hasArtifact (texel xs w ch) w h s false x y)
+marked-staged : (xs : List Float) (w h ch : ℕ) (s : Settings) (p : Bool) (x y : ℕ) → marked xs w h ch s (stencilByte p false) x y ≡ stencilByte p (hasArtifact (texel xs w ch) w h s p x y)
+unfolding marked
+marked-staged xs w h ch s p x y =
+    ap (λ (b : Bool). cond (hasArtifact (texel xs w ch) w h s b x y) (setError (stencilByte p false)) (stencilByte p false)) (byte-protected p false)
+    ∙ added p (hasArtifact (texel xs w ch) w h s p x y)
 
-pub found-staged : (xs : List Float) (w h ch : ℕ) (s : Settings) (n : ℕ) (p : ℕ → Bool) (st : List ℕ) → st ≡ tab n (λ k. cond (p k) 2 0) → found xs w h ch s st ≡ tab n (λ k. stencilByte (p k) (hasArtifact (texel xs w ch) w h s (p k) (k % w) (k / w)))
+pub found-staged : (xs : List Float) (w h ch : ℕ) (s : Settings) (n : ℕ) (p : ℕ → Bool) (st : List ℕ) → st ≡ tab n (λ k. stencilByte (p k) false) → found xs w h ch s st ≡ tab n (λ k. stencilByte (p k) (hasArtifact (texel xs w ch) w h s (p k) (k % w) (k / w)))
 unfolding found
 found-staged xs w h ch s n p st e =
-    let q : ℕ → ℕ = λ k. cond (p k) 2 0 in
+    let q : ℕ → ℕ = λ k. stencilByte (p k) false in
     let f : List ℕ → ℕ → ℕ = λ z k. marked xs w h ch s (getD z k 0) (k % w) (k / w) in
     ap (λ (z : List ℕ). tab (length z) (f z)) e
     ∙ ap (λ (m : ℕ). tab m (f (tab n q))) (tab-length n q)
     ∙ tab-same n (f (tab n q)) (λ k. stencilByte (p k) (hasArtifact (texel xs w ch) w h s (p k) (k % w) (k / w)))
     (λ k l. ap (λ (v : ℕ). marked xs w h ch s v (k % w) (k / w)) (tab-at n q k 0 l) ∙ marked-staged xs w h ch s (p k) (k % w) (k / w))
-
-pub protected-staged : (p e : Bool) → isProtected (stencilByte p e) ≡ p
-unfolding stencilByte isProtected
-protected-staged true true = refl
-protected-staged true false = refl
-protected-staged false true = refl
-protected-staged false false = refl
-
-pub error-staged : (p e : Bool) → isError (stencilByte p e) ≡ e
-unfolding stencilByte isError
-error-staged true true = refl
-error-staged true false = refl
-error-staged false true = refl
-error-staged false false = refl
 
 -- sample j is one of a texel below n
 texel-lt : (ch n j : ℕ) → j < n * ch → j / ch < n

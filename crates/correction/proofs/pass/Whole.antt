@@ -2,7 +2,7 @@
 --     protects-all, protects-none, protects-some   the protected cells of each mode, as protection leaves them
 --     switched-off, done                           what all stages leave, in mode Disabled and in the others
 --     refused, answered                            the answer and what is left, of a refusal and of an accepted input
-use mathlib.Core.Path.{_≡_, refl, sym, _∙_, ap}
+use mathlib.Core.Path.{_≡_, refl, sym, _∙_, ap, subst}
 use mathlib.Core.Bool.{Bool, true, false, cond, _||_}
 use mathlib.Core.List.{List}
 use Prim.Native.Nat.{ℕ, _*_, _/_, _%_, _<_}
@@ -15,7 +15,7 @@ use Rattle.correction.specs.declared.pass.Answer.the-variants.{Accepted,
 use Rattle.inputs.specs.declared.stencil.Counts.{Counts}
 use Rattle.ground.specs.Lists.{tab}
 use Rattle.correction.specs.Bitmap.{texel}
-use Rattle.inputs.specs.Stencil.{stencilByte, isProtected, isError, setProtected, countsOf}
+use Rattle.inputs.specs.Stencil.{stencilByte, isError, setProtected, countsOf}
 use Rattle.inputs.specs.Checks.{Input, accepted, refusalNumber, refusalPlace}
 use Rattle.correction.specs.Corners.{contours, cornersProtect}
 use Rattle.correction.specs.Edges.{edgesProtect}
@@ -25,18 +25,31 @@ use Rattle.correction.specs.Inner.{Sized, painted, found}
 use Rattle.inputs.specs.Inner.{Outlined}
 use Rattle.correction.specs.Pass.{texels, edgePriorityProtects, protects, flags, byteAt, passStencil, passSamples, Answers, answer, stencilAfter, samplesAfter}
 use Rattle.ground.proofs.Laws.Fill.{tab-length, tab-at, tab-same}
-use Rattle.correction.proofs.loops.Painted.{painted-then}
-use Rattle.correction.proofs.pass.Staged.{found-staged, error-staged, collapsed-same, collapsed-none}
+use Rattle.correction.proofs.loops.Painted.{painted-length, painted-at, is-painted}
+use Rattle.correction.proofs.pass.Staged.{found-staged, collapsed-same, collapsed-none}
 use Rattle.correction.proofs.bitmap.Sizes.{sized, cells}
 use Rattle.inputs.proofs.Laws.Checks.{sizes, passed}
+use Rattle.inputs.proofs.Laws.Stencil.{byte-error, byte-set-protected, byte-clear, byte-only-protected}
 use Rattle.correction.proofs.Laws.Answer.{as-answered}
 
--- painting zeros
-painted-zeros : (n : ℕ) (p : ℕ → Bool) → painted p (tab n (λ k. 0)) ≡ tab n (λ k. cond (p k) 2 0)
-unfolding painted setProtected isProtected
-painted-zeros n p =
-    ap (λ (m : ℕ). tab m (λ k. cond (p k) (setProtected (getD (tab n (λ j. 0)) k 0)) (getD (tab n (λ j. 0)) k 0))) (tab-length n (λ k. 0))
-    ∙ tab-same n _ _ (λ k l. ap (λ (v : ℕ). cond (p k) (setProtected v) v) (tab-at n (λ j. 0) k 0 l))
+-- what two paintings leave of zeros
+painted-twice : (n : ℕ) (f g : ℕ → ℕ) (c d : ℕ → Bool) → painted g d (painted f c (tab n (λ k. 0))) ≡ tab n (λ k. cond (d k) (g (cond (c k) (f 0) 0)) (cond (c k) (f 0) 0))
+painted-twice n f g c d =
+    let z : List ℕ = tab n (λ k. 0) in
+    let long : length (painted f c z) ≡ n = painted-length f c z ∙ tab-length n (λ k. 0) in
+    sym (is-painted g d (painted f c z) _ (tab-length n _ ∙ sym long)
+    (λ k l. let b : k < n = subst (λ (m : ℕ). k < m) long l in
+    tab-at n _ k 0 b ∙ sym (ap (λ (v : ℕ). cond (d k) (g v) v) (painted-at f c z k (subst (λ (m : ℕ). k < m) (sym (tab-length n (λ k. 0))) b) ∙ ap (λ (v : ℕ). cond (c k) (f v) v) (tab-at n (λ k. 0) k 0 b)))))
+
+-- the byte that the two kinds of protection leave of 0
+both : (c d : Bool) → cond d (setProtected (cond c (setProtected 0) 0)) (cond c (setProtected 0) 0) ≡ stencilByte (c || d) false
+both c d = rw byte-clear (go c d)
+  where
+    go : (c d : Bool) → let z = stencilByte false false in cond d (setProtected (cond c (setProtected z) z)) (cond c (setProtected z) z) ≡ stencilByte (c || d) false
+    go true true = ap setProtected (byte-set-protected false false) ∙ byte-set-protected true false
+    go true false = byte-set-protected false false
+    go false true = byte-set-protected false false
+    go false false = refl
 
 module _ (i : Input) where
   -- the cells that the mode protects, and the flagged ones
@@ -47,27 +60,27 @@ module _ (i : Input) where
   flagged k = flags i (k % i .width) (k / i .width)
 
   -- EdgeOnly
-  pub protects-all : (n : ℕ) → i .mode ≡ 3 → tab {A = ℕ} n (λ k. 2) ≡ tab n (λ k. cond (protects i (k % i .width) (k / i .width)) 2 0)
+  pub protects-all : (n : ℕ) → i .mode ≡ 3 → tab {A = ℕ} n (λ k. 2) ≡ tab n (λ k. stencilByte (protects i (k % i .width) (k / i .width)) false)
   unfolding protects
-  protects-all n e = tab-same n _ _ (λ k l. simp (eq-eqb _ 3 e))
+  protects-all n e = tab-same n _ _ (λ k l. simp (eq-eqb _ 3 e) byte-only-protected)
 
   -- neither EdgeOnly nor EdgePriority
-  pub protects-none : (n : ℕ) → (i .mode ≡ 3 → ⊥) → (i .mode ≡ 2 → ⊥) → tab {A = ℕ} n (λ k. 0) ≡ tab n (λ k. cond (protects i (k % i .width) (k / i .width)) 2 0)
+  pub protects-none : (n : ℕ) → (i .mode ≡ 3 → ⊥) → (i .mode ≡ 2 → ⊥) → tab {A = ℕ} n (λ k. 0) ≡ tab n (λ k. stencilByte (protects i (k % i .width) (k / i .width)) false)
   unfolding protects
-  protects-none n e f = tab-same n _ _ (λ k l. simp (ne-eqb _ 3 e, ne-eqb _ 2 f))
+  protects-none n e f = tab-same n _ _ (λ k l. simp (ne-eqb _ 3 e, ne-eqb _ 2 f) byte-clear)
 
   -- EdgePriority: zeros, then corners, then edges
   pub protects-some : (n : ℕ) (st₀ st₁ st₂ : List ℕ) → i .mode ≡ 2
       → st₀ ≡ tab n (λ k. 0)
-      → st₁ ≡ painted (λ k. cornersProtect (contours (i .colours) (i .coords) (i .ends)) (k % i .width) (k / i .width)) st₀
-      → st₂ ≡ painted (λ k. edgesProtect (texel (i .samples) (i .width) (i .channels)) (i .width) (i .height) (i .settings) (k % i .width) (k / i .width)) st₁
-      → st₂ ≡ tab n (λ k. cond (protects i (k % i .width) (k / i .width)) 2 0)
+      → st₁ ≡ painted setProtected (λ k. cornersProtect (contours (i .colours) (i .coords) (i .ends)) (k % i .width) (k / i .width)) st₀
+      → st₂ ≡ painted setProtected (λ k. edgesProtect (texel (i .samples) (i .width) (i .channels)) (i .width) (i .height) (i .settings) (k % i .width) (k / i .width)) st₁
+      → st₂ ≡ tab n (λ k. stencilByte (protects i (k % i .width) (k / i .width)) false)
   unfolding protects edgePriorityProtects texels
   protects-some n st₀ st₁ st₂ e p q r =
       let c : ℕ → Bool = λ k. cornersProtect (contours (i .colours) (i .coords) (i .ends)) (k % i .width) (k / i .width) in
       let d : ℕ → Bool = λ k. edgesProtect (texel (i .samples) (i .width) (i .channels)) (i .width) (i .height) (i .settings) (k % i .width) (k / i .width) in
-      r ∙ ap (painted d) (q ∙ ap (painted c) p) ∙ painted-then c d (tab n (λ k. 0)) ∙ painted-zeros n (λ k. c k || d k)
-      ∙ tab-same n _ _ (λ k l. simp (eq-eqb (i .mode) 2 e, ap (λ (m : ℕ). eqb m 3) e))
+      r ∙ ap (painted setProtected d) (q ∙ ap (painted setProtected c) p) ∙ painted-twice n setProtected setProtected c d
+      ∙ tab-same n _ _ (λ k l. simp (eq-eqb (i .mode) 2 e, ap (λ (m : ℕ). eqb m 3) e) (both (c k) (d k)))
 
   module _ (s : Sized (i .width) (i .height) (i .channels) (i .samples)) (m : length (i .stencil) ≡ i .height * i .width) where
     area : length (i .stencil) ≡ i .width * i .height
@@ -75,16 +88,16 @@ module _ (i : Input) where
 
     -- Disabled
     pub switched-off : (st : List ℕ) → i .mode ≡ 0 → st ≡ tab (length (i .stencil)) (λ k. 0) → (st ≡ passStencil i) × (i .samples ≡ passSamples i)
-    unfolding passStencil passSamples byteAt flags protects stencilByte
+    unfolding passStencil passSamples byteAt flags protects
     switched-off st e p =
         let t : eqb (i .mode) 0 ≡ true = eq-eqb (i .mode) 0 e in
         let u : eqb (i .mode) 2 ≡ false = ap (λ (k : ℕ). eqb k 2) e in
         let v : eqb (i .mode) 3 ≡ false = ap (λ (k : ℕ). eqb k 3) e in (
-          p ∙ ap (λ (n : ℕ). tab n (λ k. 0)) area ∙ tab-same (i .width * i .height) _ _ (λ k l. simp (t, u, v)),
+          p ∙ ap (λ (n : ℕ). tab n (λ k. 0)) area ∙ tab-same (i .width * i .height) _ _ (λ k l. simp (t, u, v) byte-clear),
           sym (collapsed-none (i .samples) (i .channels)) ∙ simp t refl,
         )
 
-    module _ (st₁ : List ℕ) (p : st₁ ≡ tab (length (i .stencil)) (λ k. cond (protects i (k % i .width) (k / i .width)) 2 0)) where
+    module _ (st₁ : List ℕ) (p : st₁ ≡ tab (length (i .stencil)) (λ k. stencilByte (protects i (k % i .width) (k / i .width)) false)) where
       module _ (st₂ : List ℕ) (q : st₂ ≡ found (i .samples) (i .width) (i .height) (i .channels) (i .settings) st₁) where
         found-as : st₂ ≡ tab (length (i .stencil)) (λ k. stencilByte (covers k) (hasArtifact (texel (i .samples) (i .width) (i .channels)) (i .width) (i .height) (i .settings) (covers k) (k % i .width) (k / i .width)))
         unfolding covers
@@ -97,7 +110,7 @@ module _ (i : Input) where
 
           error-at : (k : ℕ) → k < length (i .stencil) → isError (getD st₂ k 0) ≡ flags i (k % i .width) (k / i .width)
           unfolding byteAt
-          error-at k l = ap (λ (z : List ℕ). isError (getD z k 0)) staged ∙ ap isError (tab-at (length (i .stencil)) (byteAt i) k 0 l) ∙ error-staged (protects i (k % i .width) (k / i .width)) (flags i (k % i .width) (k / i .width))
+          error-at k l = ap (λ (z : List ℕ). isError (getD z k 0)) staged ∙ ap isError (tab-at (length (i .stencil)) (byteAt i) k 0 l) ∙ byte-error (protects i (k % i .width) (k / i .width)) (flags i (k % i .width) (k / i .width))
 
           pub done : (xs : List Float) → xs ≡ collapsed (i .samples) (i .channels) (λ k. isError (getD st₂ k 0)) → (st₂ ≡ passStencil i) × (xs ≡ passSamples i)
           unfolding passStencil passSamples

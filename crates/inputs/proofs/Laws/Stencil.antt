@@ -1,13 +1,59 @@
--- Setting one bit of a byte: the bit is set, all others are as they were, and setting it again changes nothing. Assumes nothing.
-use mathlib.Core.Path.{_≡_}
-use mathlib.Core.Bool.{true, false}
+-- What is known of a stencil's byte. Assumes nothing.
+--     byte-*      the byte of a cell says what it was made of, and setting one of its bits makes the byte of a cell that has it
+--     *-set       setting one bit of any byte: the bit is set,
+--     *-leaves    all others are as they were,
+--     *-again     and setting it again changes nothing
+use mathlib.Core.Path.{_≡_, refl}
+use mathlib.Core.Bool.{Bool, true, false}
 use mathlib.Core.Logic.{dite}
 use Prim.Native.Nat.{ℕ, _+_, _/_, _%_}
 use native.Mathlib.Decide.{ℕ-discrete}
 use native.Mathlib.Omega.{arith}
 use lib.Dec.{eqb}
 use borrow.Author.Tests.{eq-eqb, ne-eqb}
-use Rattle.inputs.specs.Stencil.{isProtected, isError, setProtected, setError}
+use Rattle.inputs.specs.Stencil.{stencilByte, isProtected, isError, setProtected, setError}
+
+-- ---- the byte of a cell
+
+pub byte-protected : (p e : Bool) → isProtected (stencilByte p e) ≡ p
+unfolding stencilByte isProtected
+byte-protected true true = refl
+byte-protected true false = refl
+byte-protected false true = refl
+byte-protected false false = refl
+
+pub byte-error : (p e : Bool) → isError (stencilByte p e) ≡ e
+unfolding stencilByte isError
+byte-error true true = refl
+byte-error true false = refl
+byte-error false true = refl
+byte-error false false = refl
+
+pub byte-set-protected : (p e : Bool) → setProtected (stencilByte p e) ≡ stencilByte true e
+unfolding stencilByte setProtected isProtected
+byte-set-protected true true = refl
+byte-set-protected true false = refl
+byte-set-protected false true = refl
+byte-set-protected false false = refl
+
+pub byte-set-error : (p e : Bool) → setError (stencilByte p e) ≡ stencilByte p true
+unfolding stencilByte setError isError
+byte-set-error true true = refl
+byte-set-error true false = refl
+byte-set-error false true = refl
+byte-set-error false false = refl
+
+-- The byte 0 says nothing.
+pub byte-clear : 0 ≡ stencilByte false false
+unfolding stencilByte
+byte-clear = refl
+
+-- The byte 2 says that the cell is protected.
+pub byte-only-protected : 2 ≡ stencilByte true false
+unfolding stencilByte
+byte-only-protected = refl
+
+-- ---- setting a bit
 
 -- a bit is 1 or it is 0, and the code's test says which
 by-bit : {P : Type 0} (b : ℕ) → (eqb (b % 2) 1 ≡ true → b % 2 ≡ 1 → P) → (eqb (b % 2) 1 ≡ false → b % 2 ≡ 0 → P) → P

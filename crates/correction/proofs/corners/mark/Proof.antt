@@ -26,11 +26,11 @@ unfolding spot
 returns c =
     let k = c .before .before in
     let t = k .before in
-    painted-set _ _ _ _ (held k) (c .set-protected .ensures) (λ j. simp (sym (t .before .in-bounds .ensures) ∙ t .if1 .taken, k .cell .ensures))
+    painted-set _ _ _ _ _ (held k) (c .set-protected .ensures) (λ j. simp (sym (t .before .in-bounds .ensures) ∙ t .if1 .taken, k .cell .ensures))
 
 returns-2 : tie.Need-returns-2
 unfolding spot
-returns-2 c = painted-none _ _ (λ k. simp (sym (c .before .in-bounds .ensures) ∙ c .if1 .left))
+returns-2 c = painted-none _ _ _ (λ k. simp (sym (c .before .in-bounds .ensures) ∙ c .if1 .left))
 
 pub mark-spec : {M : Type 1} → statement M
 mark-spec = tie.close (tie.spec (λ c κs. search needs) (λ c. at c .from-left) (λ c. at c .from-low) cell-requires (λ c. held (c .before)) (λ c κs. search needs) (λ c. held (c .before .before)) (λ c. search needs) returns returns-2)

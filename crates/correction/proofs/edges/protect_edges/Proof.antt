@@ -24,7 +24,7 @@ abbrev byte : List Float → Bitmap → Radii → ℕ → ℕ → ℕ → ℕ
 byte xs b r v x y = cond (someEdge (texel xs (b .width) (b .channels)) (b .width) (b .height) (r .horizontal) (r .vertical) (r .diagonal) x y) (setProtected v) v
 
 -- the sweep leaves the stencil painted where an edge protects, r being the radii of the three lengths
-ends : (xs : List Float) (b : Bitmap) (s : Settings) (st₀ st : List ℕ) (rh rv rd : Float) → rh ≡ radius (s .horizontal) → rv ≡ radius (s .vertical) → rd ≡ radius (s .diagonal) → st ≡ tab (length st₀) (swept (byte xs b (record { horizontal = rh; vertical = rv; diagonal = rd })) (b .width) st₀) → st ≡ painted (λ k. edgesProtect (texel xs (b .width) (b .channels)) (b .width) (b .height) s (k % b .width) (k / b .width)) st₀
+ends : (xs : List Float) (b : Bitmap) (s : Settings) (st₀ st : List ℕ) (rh rv rd : Float) → rh ≡ radius (s .horizontal) → rv ≡ radius (s .vertical) → rd ≡ radius (s .diagonal) → st ≡ tab (length st₀) (swept (byte xs b (record { horizontal = rh; vertical = rv; diagonal = rd })) (b .width) st₀) → st ≡ painted setProtected (λ k. edgesProtect (texel xs (b .width) (b .channels)) (b .width) (b .height) s (k % b .width) (k / b .width)) st₀
 unfolding painted edgesProtect
 ends xs b s st₀ st rh rv rd p q r e = rw (p, q, r) at e
 
