@@ -25,12 +25,16 @@ setProtected v = cond (isProtected v) v (v + 2)
 unfoldable pub setError : ℕ → ℕ
 setError v = cond (isError v) v (v + 1)
 
+-- the number of stencil cells whose byte says so
+abbrev pub cellCount : (ℕ → Bool) → List ℕ → ℕ
+cellCount says st = count (length st) (λ k. says (getD st k 0))
+
 -- the number of stencil cells with bit 2, and with bit 1
 unfoldable pub protectedCount : List ℕ → ℕ
-protectedCount st = count (length st) (λ k. isProtected (getD st k 0))
+protectedCount st = cellCount isProtected st
 
 unfoldable pub errorCount : List ℕ → ℕ
-errorCount st = count (length st) (λ k. isError (getD st k 0))
+errorCount st = cellCount isError st
 
 abbrev pub countsOf : List ℕ → Counts
 countsOf st = record { protected = protectedCount st; error = errorCount st }

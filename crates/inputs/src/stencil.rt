@@ -1,5 +1,7 @@
 // The stencil: what the byte of a cell says, and how one of its bits is set.
 ghost use mathlib.Core.Path.{_≡_};
+ghost use mathlib.Core.Bool.{false, cond};
+ghost use Prim.Native.Nat.{_+_, _<_};
 ghost use lib.ListN.{length};
 ghost use Rattle.ground.specs.Lists.{tab};
 ghost use Rattle.inputs.specs.Stencil as Stencil;
@@ -27,18 +29,26 @@ pub fn is_protected(v: u8) -> bool
     v / PROTECTED % 2 == 1
 }
 
+// The byte with the bit b added, unless it has it.
+fn with_bit(v: u8, has: bool, b: u8) -> u8
+    requires { ⌜ (has ≡ false → v + b < 256) ⌝ }
+    ensures { λ r. ⌜ r ≡ cond has v (v + b) ⌝ }
+{
+    if has { v } else { v + b }
+}
+
 // The byte with its error bit set and all others as they were.
 pub fn set_error(v: u8) -> u8
     ensures { λ r. ⌜ r ≡ Stencil.setError v ⌝ }
 {
-    if is_error(v) { v } else { v + ERROR }
+    with_bit(v, is_error(v), ERROR)
 }
 
 // The same of its protected bit.
 pub fn set_protected(v: u8) -> u8
     ensures { λ r. ⌜ r ≡ Stencil.setProtected v ⌝ }
 {
-    if is_protected(v) { v } else { v + PROTECTED }
+    with_bit(v, is_protected(v), PROTECTED)
 }
 
 // The same byte in every cell.

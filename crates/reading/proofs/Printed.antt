@@ -21,7 +21,8 @@ use Rattle.reading.specs.Grammar.{breach, width, height, channels, rowAt
 use Rattle.reading.specs.Text.{badText, refusedText}
 use Rattle.reading.proofs.run.Answered.{sized, stencil-length}
 use Rattle.reading.proofs.decode.Decoded.{row-length}
-use Rattle.reading.proofs.Laws.Bounds.{breach-short, breach-le, refusal-number-le, refusal-place-le, protected-le, error-le, ends-le, colours-le}
+use Rattle.reading.proofs.Laws.Bounds.{breach-short, breach-le, refusal-number-le, refusal-place-le, ends-le, colours-le}
+use Rattle.inputs.proofs.Laws.Stencil.{protected-le, error-le}
 use Rattle.reading.proofs.fields.Layouts.{breach-small, samples-by-rows}
 use Rattle.reading.proofs.text.Lengths.{bad-length, refused-length, accepted-length}
 

@@ -52,12 +52,9 @@ both c d = rw byte-clear (go c d)
     go false false = refl
 
 module _ (i : Input) where
-  -- the cells that the mode protects, and the flagged ones
+  -- the cells that the mode protects
   covers : ℕ → Bool
   covers k = protects i (k % i .width) (k / i .width)
-
-  flagged : ℕ → Bool
-  flagged k = flags i (k % i .width) (k / i .width)
 
   -- EdgeOnly
   pub protects-all : (n : ℕ) → i .mode ≡ 3 → tab {A = ℕ} n (λ k. 2) ≡ tab n (λ k. stencilByte (protects i (k % i .width) (k / i .width)) false)

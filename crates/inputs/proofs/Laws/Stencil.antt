@@ -3,15 +3,19 @@
 --     *-set       setting one bit of any byte: the bit is set,
 --     *-leaves    all others are as they were,
 --     *-again     and setting it again changes nothing
+--     *-le        no more cells are counted than there are
 use mathlib.Core.Path.{_≡_, refl}
 use mathlib.Core.Bool.{Bool, true, false}
+use mathlib.Core.List.{List}
 use mathlib.Core.Logic.{dite}
-use Prim.Native.Nat.{ℕ, _+_, _/_, _%_}
+use Prim.Native.Nat.{ℕ, _+_, _/_, _%_, _≤_}
 use native.Mathlib.Decide.{ℕ-discrete}
 use native.Mathlib.Omega.{arith}
 use lib.Dec.{eqb}
+use lib.ListN.{length}
 use borrow.Author.Tests.{eq-eqb, ne-eqb}
-use Rattle.inputs.specs.Stencil.{stencilByte, isProtected, isError, setProtected, setError}
+use Rattle.inputs.specs.Stencil.{stencilByte, isProtected, isError, setProtected, setError, protectedCount, errorCount}
+use Rattle.ground.proofs.Laws.Count.{count-small}
 
 -- ---- the byte of a cell
 
@@ -82,3 +86,13 @@ protected-again v = simp (protected-set v)
 pub error-again : (v : ℕ) → setError (setError v) ≡ setError v
 unfolding setError
 error-again v = simp (error-set v)
+
+-- ---- the counts
+
+pub protected-le : (st : List ℕ) → protectedCount st ≤ length st
+unfolding protectedCount
+protected-le st = count-small _ (length st)
+
+pub error-le : (st : List ℕ) → errorCount st ≤ length st
+unfolding errorCount
+error-le st = count-small _ (length st)

@@ -10,13 +10,11 @@ use lib.Ieee.{Float}
 use lib.ListN.{length, getD, length-append}
 use borrow.Author.Tests.{eqb-true, ltb-true, ltb-false, leb-false}
 use Rattle.ground.specs.Lists.{joined}
-use Rattle.ground.proofs.Laws.Count.{count-small}
 use Rattle.ground.proofs.Laws.Fill.{tab-length}
 use Rattle.ground.proofs.Laws.Refuse.{answer-is}
 use Rattle.ground.proofs.Laws.Search.{first-le}
 use Rattle.inputs.specs.Checks.{Input, badLength, settingsPlace, samplesPlace, endsPlace, segmentsPlace, outlinePlace, placeOf, checks, refusalNumber, refusalPlace}
 use Rattle.ranges.specs.declared.config.Settings.{Settings}
-use Rattle.inputs.specs.Stencil.{protectedCount, errorCount}
 use Rattle.reading.specs.Case.{segments, contourColours, coloursOf, endsOf}
 use Rattle.reading.specs.Grammar.{fine, orElse, lengthAt, headBreach, bodyBreach, fieldBreach, sizeBreach, settingsBreach, contourBreach, start, before, goodContour, contoursFrom, contours, isContour, rowsAt, outlineBreach, rowSize, rowsBreach, endAt, endBreach, breach, width, height, channels}
 use Rattle.reading.proofs.fields.Breaches.{test-fine, both-fine}
@@ -124,17 +122,6 @@ refusal-place-le i m l p q r =
     let n : ℕ = refusalNumber i in
     cond-le m (eqb n 5) _ _ (λ a. le-trans (settings-place-le (i .mode) (i .settings)) l)
     (λ a. cond-le m (eqb n 6) _ _ (λ b. le-trans (samples-place-le (i .samples)) p) (λ b. cond-le m (eqb n 8) _ _ (λ c. le-trans (ends-place-le (i .ends) (length (i .colours))) q) (λ c. cond-le m (eqb n 9) _ _ (λ d. le-trans (segments-place-le (i .colours) (i .coords)) r) (λ d. omega arith))))
-
--- ---- the counts
-
--- no more cells are protected, or have an error, than there are
-pub protected-le : (st : List ℕ) → protectedCount st ≤ length st
-unfolding protectedCount
-protected-le st = count-small _ (length st)
-
-pub error-le : (st : List ℕ) → errorCount st ≤ length st
-unfolding errorCount
-error-le st = count-small _ (length st)
 
 -- ---- the contours and the segments of an input
 

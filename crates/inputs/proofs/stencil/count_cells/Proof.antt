@@ -1,26 +1,38 @@
 -- `inputs::stencil::count_cells` meets its contract: before cell i both numbers count the cells below it. Assumes nothing.
 use mathlib.Core.Path.{_≡_, refl, sym, _∙_, ap}
+use mathlib.Core.Bool.{Bool}
 use mathlib.Core.List.{List}
 use Prim.Native.Nat.{ℕ, _+_, _-_, _/_, _%_, _≤_}
 use native.Mathlib.Nat.{le-antisymm, div-one}
 use native.Mathlib.Omega.{arith}
 use lib.ListN.{length, getD}
 use Rattle.ground.specs.Lists.{count}
-use Rattle.inputs.specs.Stencil.{isProtected, isError, protectedCount, errorCount}
+use Rattle.inputs.specs.Stencil.{isProtected, isError, cellCount, protectedCount, errorCount}
 use Rattle.ground.proofs.Laws.Count.{none-counted, one-more, count-small}
 use Rattle.inputs.proofs.stencil.count_cells.Statement.{statement}
 use Rattle.inputs.proofs.stencil.count_cells.Tie as tie
 
+-- a number that counts the cells below i whose byte says so
+module _ (says : ℕ → Bool) (st : List ℕ) where
+  abbrev Counted : ℕ → ℕ → Type 0
+  Counted n i = n ≡ count i (λ k. says (getD st k 0))
+
+  few : (n i : ℕ) → Counted n i → n ≤ i
+  few n i e = omega (arith, e, count-small (λ k. says (getD st k 0)) i)
+
+  all : (n i : ℕ) → Counted n i → i ≡ length st → n ≡ cellCount says st
+  all n i e q = e ∙ ap (λ (m : ℕ). count m (λ k. says (getD st k 0))) q
+
 record Inv (st : List ℕ) (p e i : ℕ) : Type 0 where
   in-range : i ≤ length st
-  protected : p ≡ count i (λ k. isProtected (getD st k 0))
-  error : e ≡ count i (λ k. isError (getD st k 0))
+  protected : Counted isProtected st p i
+  error : Counted isError st e i
 
 begins : (st : List ℕ) → Inv st 0 0 0
 begins st = record { in-range = omega arith; protected = sym (none-counted _); error = sym (none-counted _) }
 
-few : (st : List ℕ) (p e i : ℕ) → Inv st p e i → (p ≤ i) × (e ≤ i)
-few st p e i v = (omega (arith, v .protected, count-small (λ k. isProtected (getD st k 0)) i), omega (arith, v .error, count-small (λ k. isError (getD st k 0)) i))
+short : (st : List ℕ) (p e i : ℕ) → Inv st p e i → (p ≤ i) × (e ≤ i)
+short st p e i v = (few isProtected st p i (v .protected), few isError st e i (v .error))
 
 turns : (st : List ℕ) (p e i : ℕ) → Inv st p e i → i + 1 ≤ length st → Inv st (p + getD st i 0 / 2 % 2) (e + getD st i 0 / 1 % 2) (i + 1)
 unfolding isProtected isError
@@ -35,7 +47,7 @@ ends : (st : List ℕ) (p e i : ℕ) → Inv st p e i → length st ≤ i → (p
 unfolding protectedCount errorCount
 ends st p e i v l =
     let q : i ≡ length st = le-antisymm (v .in-range) l in
-    (v .protected ∙ ap (λ (n : ℕ). count n (λ k. isProtected (getD st k 0))) q, v .error ∙ ap (λ (n : ℕ). count n (λ k. isError (getD st k 0))) q)
+    (all isProtected st p i (v .protected) q, all isError st e i (v .error) q)
 
 abbrev Inv-loop : tie.InvT-loop
 Inv-loop stencil p₀ e₀ i₀ p e i = Inv stencil p e i
@@ -44,10 +56,10 @@ abbrev μ-loop : tie.MeasureT-loop
 μ-loop stencil p₀ e₀ i₀ p e i = length stencil - i
 
 add-p : tie.Need-add-p Inv-loop μ-loop
-add-p c = omega (arith, few _ _ _ _ (c .before .before .loop .inv) .0)
+add-p c = omega (arith, short _ _ _ _ (c .before .before .loop .inv) .0)
 
 add-e : tie.Need-add-e Inv-loop μ-loop
-add-e c = omega (arith, few _ _ _ _ (c .before .before .before .loop .inv) .1)
+add-e c = omega (arith, short _ _ _ _ (c .before .before .before .loop .inv) .1)
 
 loop-again : tie.Need-loop-again Inv-loop μ-loop
 loop-again c = turns _ _ _ _ (c .before .before .before .loop .inv) (omega arith)

@@ -8,17 +8,13 @@ use Rattle.inputs.specs.Stencil.{isError, setError}
 use Rattle.inputs.proofs.stencil.set_error.Statement.{statement}
 use Rattle.inputs.proofs.stencil.set_error.Tie as tie
 
-add-result : tie.Need-add-result
+with-bit-requires : tie.Need-with-bit-requires
 unfolding isError
-add-result c = let n = eqb-false (c .before .before .args .v % 2) 1 (sym (c .before .is-error .ensures) ∙ c .if1 .left) in omega (arith, n)
+with-bit-requires c κs = λ f. let n = eqb-false (c .before .args .v % 2) 1 (sym (c .is-error .ensures) ∙ f) in omega (arith, n)
 
 returns : tie.Need-returns
 unfolding setError
-returns c = simp (sym (c .before .is-error .ensures) ∙ c .if1 .taken)
-
-returns-2 : tie.Need-returns-2
-unfolding setError
-returns-2 c = simp (sym (c .before .is-error .ensures) ∙ c .if1 .left)
+returns c = c .with-bit .ensures ∙ rw (c .before .is-error .ensures)
 
 pub set-error-spec : {M : Type 1} → statement M
-set-error-spec = tie.close (tie.spec (λ c κs. search needs) add-result returns returns-2)
+set-error-spec = tie.close (tie.spec (λ c κs. search needs) with-bit-requires returns)

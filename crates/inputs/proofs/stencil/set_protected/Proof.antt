@@ -8,17 +8,13 @@ use Rattle.inputs.specs.Stencil.{isProtected, setProtected}
 use Rattle.inputs.proofs.stencil.set_protected.Statement.{statement}
 use Rattle.inputs.proofs.stencil.set_protected.Tie as tie
 
-add-result : tie.Need-add-result
+with-bit-requires : tie.Need-with-bit-requires
 unfolding isProtected
-add-result c = let n = eqb-false (c .before .before .args .v / 2 % 2) 1 (sym (c .before .is-protected .ensures) ∙ c .if1 .left) in omega (arith, n)
+with-bit-requires c κs = λ f. let n = eqb-false (c .before .args .v / 2 % 2) 1 (sym (c .is-protected .ensures) ∙ f) in omega (arith, n)
 
 returns : tie.Need-returns
 unfolding setProtected
-returns c = simp (sym (c .before .is-protected .ensures) ∙ c .if1 .taken)
-
-returns-2 : tie.Need-returns-2
-unfolding setProtected
-returns-2 c = simp (sym (c .before .is-protected .ensures) ∙ c .if1 .left)
+returns c = c .with-bit .ensures ∙ rw (c .before .is-protected .ensures)
 
 pub set-protected-spec : {M : Type 1} → statement M
-set-protected-spec = tie.close (tie.spec (λ c κs. search needs) add-result returns returns-2)
+set-protected-spec = tie.close (tie.spec (λ c κs. search needs) with-bit-requires returns)
