@@ -9,5 +9,6 @@ pub mod Alike
 pub mod Grows
 pub mod Falls
 pub mod Monotony
+pub mod Corners
 pub mod Channel
 pub mod Figures

@@ -1,7 +1,7 @@
 -- The figures to check against, as one table. Definitions only.
 use mathlib.Core.Path.{_≡_}
 use mathlib.Core.Bool.{true, false}
-use mathlib.Core.List.{List, [], _∷_}
+use mathlib.Core.List.{List, [], _∷_, _++_}
 use Prim.Native.Nat.{ℕ}
 use lib.Ieee.{Float, nan, binary32, binary64, ofBits}
 use Rattle.ranges.specs.Constants.{epsilon, oneLessEpsilon}
@@ -79,9 +79,9 @@ slanted =
     f32 0x3f80_0000 ∷ f32 0 ∷ f32 0x3f40_0000 ∷ f32 0x3f00_0000 ∷ f32 0x3f00_0000 ∷ f32 0x3f40_0000
     ∷ f32 0x3f00_0000 ∷ f32 0x3f00_0000 ∷ f32 0x3f40_0000 ∷ f32 0 ∷ f32 0x3f80_0000 ∷ f32 0x3f40_0000 ∷ []
 
--- the pass accepts, counts p protected and e errors, and leaves the stencil st
-abbrev pub Leaves : Input → ℕ → ℕ → List ℕ → Type 0
-Leaves i p e st = (answer i ≡ Accepted (record { protected = p; error = e })) × (stencilAfter i ≡ st)
+-- the pass accepts, counts p protected cells, e errors and k corner cells, and leaves the stencil st
+abbrev pub Leaves : Input → ℕ → ℕ → ℕ → List ℕ → Type 0
+Leaves i p e k st = (answer i ≡ Accepted (record { protected = p; error = e; corner = k })) × (stencilAfter i ≡ st)
 
 -- ---- outlines
 
@@ -89,23 +89,39 @@ Leaves i p e st = (answer i ≡ Accepted (record { protected = p; error = e })) 
 abbrev pub twoColours : ℕ → ℕ → List Segment
 twoColours a b = record { colour = a; x = nan; y = nan } ∷ record { colour = b; x = nan; y = nan } ∷ []
 
+-- C5's two texels and two of (0, 0, 0) in a row, with a corner at (2, .5), between the second and the third
+abbrev pub beside : ℕ → Input
+beside mode =
+    record {
+      width = 4;
+      height = 1;
+      channels = 3;
+      samples = edge ++ (f32 0 ∷ f32 0 ∷ f32 0 ∷ f32 0 ∷ f32 0 ∷ f32 0 ∷ []);
+      stencil = 9 ∷ 9 ∷ 9 ∷ 9 ∷ [];
+      mode = mode;
+      settings = record { ratio = f64 0x3ff0_0000_0000_0000; horizontal = quarter; vertical = quarter; diagonal = quarter };
+      colours = 3 ∷ 6 ∷ [];
+      coords = f64 0x4000_0000_0000_0000 ∷ f64 0x3fe0_0000_0000_0000 ∷ f64 0x4022_0000_0000_0000 ∷ f64 0x4022_0000_0000_0000 ∷ [];
+      ends = 2 ∷ [];
+    }
+
 -- ---- the table
 
 pub record Figures : Type 0 where
   -- case P's texels in EdgeOnly: both still flagged
-  pub c1 : Leaves (pair caseP edgeOnly quarter) 2 2 (3 ∷ 3 ∷ [])
+  pub c1 : Leaves (pair caseP edgeOnly quarter) 2 2 0 (3 ∷ 3 ∷ [])
   -- Indiscriminate, lengths .0625: both flagged
-  pub c2 : Leaves (pair crossed indiscriminate sixteenth) 0 2 (1 ∷ 1 ∷ [])
+  pub c2 : Leaves (pair crossed indiscriminate sixteenth) 0 2 0 (1 ∷ 1 ∷ [])
   -- lengths .125: none
-  pub c3 : Leaves (pair crossed indiscriminate eighth) 0 0 (0 ∷ 0 ∷ [])
+  pub c3 : Leaves (pair crossed indiscriminate eighth) 0 0 0 (0 ∷ 0 ∷ [])
   -- lengths .0625, EdgeOnly: none
-  pub c4 : Leaves (pair crossed edgeOnly sixteenth) 2 0 (2 ∷ 2 ∷ [])
+  pub c4 : Leaves (pair crossed edgeOnly sixteenth) 2 0 0 (2 ∷ 2 ∷ [])
   -- EdgePriority, all lengths .25: both protected
-  pub c5 : Leaves (pair edge edgePriority quarter) 2 0 (2 ∷ 2 ∷ [])
+  pub c5 : Leaves (pair edge edgePriority quarter) 2 0 0 (2 ∷ 2 ∷ [])
   -- all lengths .249: neither
-  pub c6 : Leaves (pair edge edgePriority underQuarter) 0 0 (0 ∷ 0 ∷ [])
+  pub c6 : Leaves (pair edge edgePriority underQuarter) 0 0 0 (0 ∷ 0 ∷ [])
   -- 2 × 2, lengths .25, Indiscriminate: rows `E.` and `.E`
-  pub c7 : Leaves (square slanted indiscriminate quarter) 0 2 (1 ∷ 0 ∷ 0 ∷ 1 ∷ [])
+  pub c7 : Leaves (square slanted indiscriminate quarter) 0 2 0 (1 ∷ 0 ∷ 0 ∷ 1 ∷ [])
   -- the quotients 1 / 100 of differences 1 and -99, and 99 / 100 of 99 and -1, are the f64 0.01 and 1 - 0.01, and are excluded
   pub c8 : (crossing (f32 0x3f80_0000) (f32 0xc2c6_0000) ≡ epsilon) × (inside epsilon ≡ false) × (crossing (f32 0x42c6_0000) (f32 0xbf80_0000) ≡ oneLessEpsilon) × (inside oneLessEpsilon ≡ false)
   -- colours 3 and 6 make a corner, 7 and 3 don't
@@ -114,3 +130,5 @@ pub record Figures : Type 0 where
   pub c10 : (rootsOf (f64 0x3ff0_0000_0000_0000) (f64 0xc008_0000_0000_0000) (f64 0x4000_0000_0000_0000) ≡ f64 0x4000_0000_0000_0000 ∷ f64 0x3ff0_0000_0000_0000 ∷ []) × (rootsOf (f64 0x3ff0_0000_0000_0000) (f64 0x4000_0000_0000_0000) (f64 0x3ff0_0000_0000_0000) ≡ f64 0xbff0_0000_0000_0000 ∷ []) × (rootsOf (f64 0) (f64 0) (f64 0) ≡ [])
   -- root of 2
   pub c11 : sqrtOf (f64 0x4000_0000_0000_0000) ≡ f64 0x3ff6_a09e_667f_3bcd
+  -- an edge, both, a corner, neither: rows `PCC.`; in EdgeOnly `PPPP`
+  pub c12 : Leaves (beside edgePriority) 3 0 2 (2 ∷ 6 ∷ 6 ∷ 0 ∷ []) × Leaves (beside edgeOnly) 4 0 0 (2 ∷ 2 ∷ 2 ∷ 2 ∷ [])

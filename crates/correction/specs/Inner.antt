@@ -14,7 +14,7 @@ use Rattle.correction.specs.declared.bitmap.Visit.{Visit}
 use Rattle.correction.specs.declared.bitmap.Centre.{Centre}
 use Rattle.ground.specs.Lists.{tab, any}
 use Rattle.correction.specs.Bitmap.{cell, texel, inBounds}
-use Rattle.inputs.specs.Stencil.{isProtected, setError}
+use Rattle.inputs.specs.Stencil.{isProtected, setCorner, setProtected, setError}
 use Rattle.correction.specs.Corners.{shared, lower, beside}
 use Rattle.correction.specs.Errors.{hasArtifact}
 
@@ -54,6 +54,10 @@ pub record Centred (xs : List Float) (w h ch : ℕ) (t : Centre) : Type 0 where
 -- a stencil with what a brush makes of its byte in each cell for which a test holds, and the others as they were
 unfoldable pub painted : (ℕ → ℕ) → (ℕ → Bool) → List ℕ → List ℕ
 painted brush p st = tab (length st) (λ k. cond (p k) (brush (getD st k 0)) (getD st k 0))
+
+-- what a corner leaves of a byte: bit 4 beside bit 2
+abbrev pub atCorner : ℕ → ℕ
+atCorner v = setCorner (setProtected v)
 
 -- cell k is that of column nx and row ny, counted from 1, which are inside
 unfoldable pub spot : ℕ → ℕ → ℕ → ℕ → ℕ → Bool

@@ -9,7 +9,7 @@ use Rattle.correction.specs.declared.pass.Answer.{Answer}
 use Rattle.correction.specs.declared.pass.Answer.the-variants.{Accepted, Refused}
 use Rattle.ground.specs.Lists.{tab}
 use Rattle.correction.specs.Bitmap.{texel}
-use Rattle.inputs.specs.Stencil.{stencilByte, protectedCount, errorCount, countsOf}
+use Rattle.inputs.specs.Stencil.{stencilByte, protectedCount, errorCount, cornerCount, countsOf}
 use Rattle.ranges.specs.Config.{disabled, edgePriority, edgeOnly}
 use Rattle.inputs.specs.Checks.{Input, input, accepted, refusalNumber, refusalPlace}
 use Rattle.correction.specs.Corners.{contours, cornersProtect}
@@ -20,6 +20,10 @@ use Rattle.correction.specs.Collapse.{collapsed}
 -- the texels of the bitmap
 unfoldable pub texels : Input → ℕ → ℕ → List Float
 texels i x y = texel (i .samples) (i .width) (i .channels) x y
+
+-- EdgePriority: a corner protects texel x, y, whether an edge does or not; in no other mode does one.
+unfoldable pub cornered : Input → ℕ → ℕ → Bool
+cornered i x y = eqb (i .mode) edgePriority && cornersProtect (contours (i .colours) (i .coords) (i .ends)) x y
 
 -- EdgePriority: corners and edges
 unfoldable pub edgePriorityProtects : Input → ℕ → ℕ → Bool
@@ -35,7 +39,7 @@ flags i x y = not (eqb (i .mode) disabled) && hasArtifact (texels i) (i .width) 
 
 -- the byte of cell k, whose texel is k % width, k / width
 unfoldable pub byteAt : Input → ℕ → ℕ
-byteAt i k = stencilByte (protects i (k % i .width) (k / i .width)) (flags i (k % i .width) (k / i .width))
+byteAt i k = stencilByte (cornered i (k % i .width) (k / i .width)) (protects i (k % i .width) (k / i .width)) (flags i (k % i .width) (k / i .width))
 
 -- the stencil of an accepted pass
 unfoldable pub passStencil : Input → List ℕ
@@ -62,7 +66,7 @@ unfoldable pub placeIn : Answer → ℕ
 placeIn (Accepted c) = 0
 placeIn (Refused n p) = p
 
--- its counts of protected cells and of errors, 0 where it refuses
+-- its counts of protected cells, of errors and of corner cells, 0 where it refuses
 unfoldable pub protectedIn : Answer → ℕ
 protectedIn (Accepted c) = c .protected
 protectedIn (Refused n p) = 0
@@ -70,6 +74,10 @@ protectedIn (Refused n p) = 0
 unfoldable pub errorsIn : Answer → ℕ
 errorsIn (Accepted c) = c .error
 errorsIn (Refused n p) = 0
+
+unfoldable pub cornersIn : Answer → ℕ
+cornersIn (Accepted c) = c .corner
+cornersIn (Refused n p) = 0
 
 -- ---- what the pass answers, and leaves
 
@@ -80,6 +88,9 @@ protectedCells i = cond (accepted i) (protectedCount (passStencil i)) 0
 unfoldable pub errorCells : Input → ℕ
 errorCells i = cond (accepted i) (errorCount (passStencil i)) 0
 
+unfoldable pub cornerCells : Input → ℕ
+cornerCells i = cond (accepted i) (cornerCount (passStencil i)) 0
+
 -- The answer accepts where no check fails, and has the number and the place of the first that does, and the counts.
 pub record Answers (i : Input) (r : Answer) : Type 0 where
   pub accepts : isAccepted r ≡ accepted i
@@ -87,6 +98,7 @@ pub record Answers (i : Input) (r : Answer) : Type 0 where
   pub place : placeIn r ≡ refusalPlace i
   pub protected : protectedIn r ≡ protectedCells i
   pub errors : errorsIn r ≡ errorCells i
+  pub corners : cornersIn r ≡ cornerCells i
 
 -- the one such answer
 unfoldable pub answer : Input → Answer

@@ -1,11 +1,11 @@
--- When a second pass is asked to be stricter than a first one: the relation of demand 3. Definitions only.
+-- When a second pass is asked to be stricter than a first one, the relation of demand 3; and when it has more outlines. Definitions only.
 use mathlib.Core.Path.{_≡_}
 use Prim.Native.Nat.{_≤_}
 use mathlib.Core.List.{List, [], _∷_}
 use lib.Dec.{T}
 use lib.Ieee.{Float, le}
 use Rattle.ranges.specs.declared.config.Settings.{Settings}
-use Rattle.ranges.specs.Config.{disabled}
+use Rattle.ranges.specs.Config.{disabled, edgePriority}
 use Rattle.inputs.specs.Checks.{Input}
 use Rattle.correction.specs.Corners.{Segment, contours}
 
@@ -33,6 +33,12 @@ pub record Stricter (i j : Input) : Type 0 where
   pub mode : i .mode ≤ j .mode
   pub outlines : Outlines (contours (i .colours) (i .coords) (i .ends)) (contours (j .colours) (j .coords) (j .ends))
   pub settings : NoSmaller (i .settings) (j .settings)
+
+-- Both inputs are EdgePriority, and the second has every outline of the first: all that decides on the cells that a corner protects.
+pub record MoreOutlines (i j : Input) : Type 0 where
+  pub first : i .mode ≡ edgePriority
+  pub second : j .mode ≡ edgePriority
+  pub outlines : Outlines (contours (i .colours) (i .coords) (i .ends)) (contours (j .colours) (j .coords) (j .ends))
 
 -- an input with another ratio
 abbrev pub withRatio : Input → Float → Input

@@ -1,4 +1,4 @@
--- The texel view: all channels of texel x, y, of the corrected bitmap where the error flag is set, otherwise of the original. Definitions only.
+-- The texel view: all channels of texel x, y, of the corrected bitmap where the error flag is set, which is bit 1 whatever else is, otherwise of the original. Definitions only.
 use Prim.Native.Nat.{ℕ, _+_, _*_}
 use mathlib.Core.Bool.{Bool, false, cond, _&&_}
 use mathlib.Core.List.{List}

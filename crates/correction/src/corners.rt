@@ -5,9 +5,8 @@ ghost use mathlib.Core.Bool.{cond, _&&_};
 ghost use lib.Dec.{eqb, ltb};
 ghost use lib.ListN.{length};
 ghost use Rattle.correction.specs.Corners as Corners;
-ghost use Rattle.correction.specs.Inner.{Celled, painted, spot, clip, cornerHits, contourHits};
+ghost use Rattle.correction.specs.Inner.{Celled, painted, atCorner, spot, clip, cornerHits, contourHits};
 ghost use Rattle.inputs.specs.Inner.{Outlined};
-ghost use Rattle.inputs.specs.Stencil.{setProtected};
 use crate::bitmap;
 use inputs::sizes::Bitmap;
 use inputs::stencil;
@@ -43,21 +42,21 @@ fn lower(x: f64, n: usize) -> usize
     clipped(rounding::floor_to_i64(x - constants::HALF_WIDE), n)
 }
 
-// The cell at column nx and row ny, counted from 1, where they are inside.
+// Sets the corner and the protected bit of the cell at column nx and row ny, counted from 1, where they are inside.
 fn mark(stencil: &mut [u8], b: Bitmap, nx: usize, ny: usize)
     requires { ⌜ Celled (b .width) (b .height) (now stencil) ⌝ }
-    ensures { λ _. ⌜ now (stencil .exit) ≡ painted setProtected (spot (b .width) (b .height) nx ny) (now (stencil .entry)) ⌝ }
+    ensures { λ _. ⌜ now (stencil .exit) ≡ painted atCorner (spot (b .width) (b .height) nx ny) (now (stencil .entry)) ⌝ }
 {
     if bitmap::in_bounds(b, nx, ny) {
         let k = bitmap::cell(b, nx - 1, ny - 1);
-        stencil[k] = stencil::set_protected(stencil[k]);
+        stencil[k] = stencil::set_both(stencil[k]);
     }
 }
 
 // The four cells around a point.
 fn mark_around(stencil: &mut [u8], b: Bitmap, px: f64, py: f64)
     requires { ⌜ Celled (b .width) (b .height) (now stencil) ⌝ }
-    ensures { λ _. ⌜ now (stencil .exit) ≡ painted setProtected (λ k. Corners.beside (Corners.lower px) (k % b .width) && Corners.beside (Corners.lower py) (k / b .width)) (now (stencil .entry)) ⌝ }
+    ensures { λ _. ⌜ now (stencil .exit) ≡ painted atCorner (λ k. Corners.beside (Corners.lower px) (k % b .width) && Corners.beside (Corners.lower py) (k / b .width)) (now (stencil .entry)) ⌝ }
 {
     let left = lower(px, b.width);
     let bottom = lower(py, b.height);
@@ -103,7 +102,7 @@ fn protect_corner(
     requires { ⌜ Celled (b .width) (b .height) (now stencil) ⌝ }
     requires { ⌜ (length (now coords) ≡ 2 * length (now colours)) × (length (now colours) ≤ 65536) ⌝ }
     requires { ⌜ (c .from ≤ i) × (i < c .end) × (c .end ≤ length (now colours)) ⌝ }
-    ensures { λ _. ⌜ now (stencil .exit) ≡ painted setProtected (cornerHits (b .width) (now (colours .entry)) (now (coords .entry)) (c .from) (c .end) i) (now (stencil .entry)) ⌝ }
+    ensures { λ _. ⌜ now (stencil .exit) ≡ painted atCorner (cornerHits (b .width) (now (colours .entry)) (now (coords .entry)) (c .from) (c .end) i) (now (stencil .entry)) ⌝ }
 {
     let j = previous(c, i);
     if is_corner(colours[j], colours[i]) {
@@ -116,7 +115,7 @@ fn protect_contour(stencil: &mut [u8], b: Bitmap, colours: &[u8], coords: &[f64]
     requires { ⌜ Celled (b .width) (b .height) (now stencil) ⌝ }
     requires { ⌜ (length (now coords) ≡ 2 * length (now colours)) × (length (now colours) ≤ 65536) ⌝ }
     requires { ⌜ (c .from ≤ c .end) × (c .end ≤ length (now colours)) ⌝ }
-    ensures { λ _. ⌜ now (stencil .exit) ≡ painted setProtected (contourHits (b .width) (now (colours .entry)) (now (coords .entry)) (c .from) (c .end)) (now (stencil .entry)) ⌝ }
+    ensures { λ _. ⌜ now (stencil .exit) ≡ painted atCorner (contourHits (b .width) (now (colours .entry)) (now (coords .entry)) (c .from) (c .end)) (now (stencil .entry)) ⌝ }
 {
     let mut i = c.from;
     while i < c.end {
@@ -135,7 +134,7 @@ pub fn protect_corners(
 )
     requires { ⌜ Celled (b .width) (b .height) (now stencil) ⌝ }
     requires { ⌜ Outlined (now colours) (now coords) (now ends) ⌝ }
-    ensures { λ _. ⌜ now (stencil .exit) ≡ painted setProtected (λ k. Corners.cornersProtect (Corners.contours (now (colours .entry)) (now (coords .entry)) (now (ends .entry))) (k % b .width) (k / b .width)) (now (stencil .entry)) ⌝ }
+    ensures { λ _. ⌜ now (stencil .exit) ≡ painted atCorner (λ k. Corners.cornersProtect (Corners.contours (now (colours .entry)) (now (coords .entry)) (now (ends .entry))) (k % b .width) (k / b .width)) (now (stencil .entry)) ⌝ }
 {
     let mut from = 0usize;
     let mut c = 0usize;

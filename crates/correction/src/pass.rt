@@ -26,7 +26,7 @@ pub enum Answer {
     Refused(u8, usize),
 }
 
-// Sets the protected bit as the mode wants it, and clears the rest.
+// Sets the corner and the protected bit as the mode wants them, and clears the rest.
 fn protect(
     stencil: &mut [u8],
     xs: &[f32],
@@ -40,7 +40,7 @@ fn protect(
     requires { ⌜ Sized (b .width) (b .height) (b .channels) (now xs) ⌝ }
     requires { ⌜ length (now stencil) ≡ b .height * b .width ⌝ }
     requires { ⌜ Outlined (now colours) (now coords) (now ends) ⌝ }
-    ensures { λ _. ⌜ now (stencil .exit) ≡ tab (length (now (stencil .entry))) (λ k. stencilByte (Pass.protects (input (b .width) (b .height) (b .channels) (now (xs .entry)) (now (stencil .entry)) mode s (now (colours .entry)) (now (coords .entry)) (now (ends .entry))) (k % b .width) (k / b .width)) false) ⌝ }
+    ensures { λ _. ⌜ now (stencil .exit) ≡ tab (length (now (stencil .entry))) (λ k. stencilByte (Pass.cornered (input (b .width) (b .height) (b .channels) (now (xs .entry)) (now (stencil .entry)) mode s (now (colours .entry)) (now (coords .entry)) (now (ends .entry))) (k % b .width) (k / b .width)) (Pass.protects (input (b .width) (b .height) (b .channels) (now (xs .entry)) (now (stencil .entry)) mode s (now (colours .entry)) (now (coords .entry)) (now (ends .entry))) (k % b .width) (k / b .width)) false) ⌝ }
 {
     if mode == config::EDGE_ONLY {
         stencil::fill(stencil, stencil::PROTECTED);

@@ -6,16 +6,19 @@ ghost use lib.ListN.{length};
 ghost use Rattle.ground.specs.Lists.{tab};
 ghost use Rattle.inputs.specs.Stencil as Stencil;
 
-// The stencil cells that are protected, and those with an error.
+// The stencil cells that are protected, those with an error, and those that a corner protects.
 pub struct Counts {
     pub protected: usize,
     pub error: usize,
+    pub corner: usize,
 }
 
 // The bits' values.
 pub const ERROR: u8 = 1;
 
 pub const PROTECTED: u8 = 2;
+
+pub const CORNER: u8 = 4;
 
 pub fn is_error(v: u8) -> bool
     ensures { λ r. ⌜ r ≡ Stencil.isError v ⌝ }
@@ -27,6 +30,12 @@ pub fn is_protected(v: u8) -> bool
     ensures { λ r. ⌜ r ≡ Stencil.isProtected v ⌝ }
 {
     v / PROTECTED % 2 == 1
+}
+
+pub fn has_corner(v: u8) -> bool
+    ensures { λ r. ⌜ r ≡ Stencil.hasCorner v ⌝ }
+{
+    v / CORNER % 2 == 1
 }
 
 // The byte with the bit b added, unless it has it.
@@ -51,6 +60,21 @@ pub fn set_protected(v: u8) -> u8
     with_bit(v, is_protected(v), PROTECTED)
 }
 
+// The same of its corner bit.
+pub fn set_corner(v: u8) -> u8
+    ensures { λ r. ⌜ r ≡ Stencil.setCorner v ⌝ }
+{
+    with_bit(v, has_corner(v), CORNER)
+}
+
+// What a corner leaves of a byte: the corner bit beside the protected one.
+pub fn set_both(v: u8) -> u8
+    ensures { λ r. ⌜ r ≡ Stencil.setCorner (Stencil.setProtected v) ⌝ }
+{
+    let u = set_protected(v);
+    set_corner(u)
+}
+
 // The same byte in every cell.
 pub fn fill(stencil: &mut [u8], v: u8)
     ensures { λ _. ⌜ now (stencil .exit) ≡ tab (length (now (stencil .entry))) (λ k. v) ⌝ }
@@ -68,14 +92,17 @@ pub fn count_cells(stencil: &[u8]) -> Counts
 {
     let mut p = 0usize;
     let mut e = 0usize;
+    let mut c = 0usize;
     let mut i = 0usize;
     while i < stencil.len() {
         p += (stencil[i] / PROTECTED % 2) as usize;
         e += (stencil[i] / ERROR % 2) as usize;
+        c += (stencil[i] / CORNER % 2) as usize;
         i += 1;
     }
     Counts {
         protected: p,
         error: e,
+        corner: c,
     }
 }

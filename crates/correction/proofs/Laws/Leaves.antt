@@ -3,6 +3,7 @@
 --     accepted-leaves  the stencil and the samples of an accepted pass are those that are defined
 --     cell-error       the error bit of a cell says whether its texel is flagged
 --     cell-protected   the protected bit says whether it is protected
+--     cell-corner      the corner bit says whether a corner protects it
 --     given            what comes in with a run's arguments
 use mathlib.Core.Path.{_≡_, _∙_, ap}
 use mathlib.Core.Bool.{Bool, true, cond}
@@ -13,11 +14,11 @@ use denote.Ref.{now}
 use contract.Lifetimes.{Lfts}
 use borrow.Fn.Kinds.{Dens}
 use borrow.Author.Tests.{eqb-true}
-use Rattle.inputs.specs.Stencil.{isProtected, isError}
+use Rattle.inputs.specs.Stencil.{hasCorner, isProtected, isError}
 use Rattle.inputs.specs.Checks.{Input, input, refusalNumber, accepted}
-use Rattle.correction.specs.Pass.{protects, flags, byteAt, passStencil, passSamples, stencilAfter, samplesAfter}
+use Rattle.correction.specs.Pass.{cornered, protects, flags, byteAt, passStencil, passSamples, stencilAfter, samplesAfter}
 use Rattle.ground.proofs.Laws.Fill.{tab-length, tab-at}
-use Rattle.inputs.proofs.Laws.Stencil.{byte-protected, byte-error}
+use Rattle.inputs.proofs.Laws.Stencil.{byte-says}
 use Rattle.correction.proofs.pass.msdf_error_correction.Kinds.{ps}
 
 pub number-zero : (i : Input) → accepted i ≡ true → refusalNumber i ≡ 0
@@ -37,12 +38,17 @@ cell-byte i p k l = ap (λ (st : List ℕ). getD st k 0) (accepted-leaves i p .0
 -- The error bit of a cell says whether its texel is flagged.
 pub cell-error : (i : Input) → accepted i ≡ true → (k : ℕ) → k < i .width * i .height → isError (getD (stencilAfter i) k 0) ≡ flags i (k % i .width) (k / i .width)
 unfolding byteAt
-cell-error i p k l = ap isError (cell-byte i p k l) ∙ byte-error (protects i (k % i .width) (k / i .width)) (flags i (k % i .width) (k / i .width))
+cell-error i p k l = ap isError (cell-byte i p k l) ∙ byte-says (cornered i (k % i .width) (k / i .width)) (protects i (k % i .width) (k / i .width)) (flags i (k % i .width) (k / i .width)) .2
 
 -- The protected bit says whether it is protected.
 pub cell-protected : (i : Input) → accepted i ≡ true → (k : ℕ) → k < i .width * i .height → isProtected (getD (stencilAfter i) k 0) ≡ protects i (k % i .width) (k / i .width)
 unfolding byteAt
-cell-protected i p k l = ap isProtected (cell-byte i p k l) ∙ byte-protected (protects i (k % i .width) (k / i .width)) (flags i (k % i .width) (k / i .width))
+cell-protected i p k l = ap isProtected (cell-byte i p k l) ∙ byte-says (cornered i (k % i .width) (k / i .width)) (protects i (k % i .width) (k / i .width)) (flags i (k % i .width) (k / i .width)) .1
+
+-- The corner bit says whether a corner protects it.
+pub cell-corner : (i : Input) → accepted i ≡ true → (k : ℕ) → k < i .width * i .height → hasCorner (getD (stencilAfter i) k 0) ≡ cornered i (k % i .width) (k / i .width)
+unfolding byteAt
+cell-corner i p k l = ap hasCorner (cell-byte i p k l) ∙ byte-says (cornered i (k % i .width) (k / i .width)) (protects i (k % i .width) (k / i .width)) (flags i (k % i .width) (k / i .width)) .0
 
 -- The stencil has a cell for each texel.
 pub stencil-length : (i : Input) → accepted i ≡ true → length (stencilAfter i) ≡ i .width * i .height

@@ -7,11 +7,11 @@
 --     errors-fall         of the number of errors
 --     ratio-monotony      where the ratio alone is raised
 use mathlib.Core.Path.{_≡_, refl, sym, _∙_, ap, subst}
-use mathlib.Core.Bool.{Bool, true, false, cond, not, true≢false}
+use mathlib.Core.Bool.{Bool, true, false, not, true≢false}
 use mathlib.Core.List.{List, [], _∷_}
 use mathlib.Core.Logic.{dite}
-use Prim.Native.Nat.{ℕ, zero, suc, _+_, _*_, _/_, _%_, _≤_, _<_}
-use native.Mathlib.Nat.{le-refl, le-of-eq, add-le-add, lt-of-lt-of-le}
+use Prim.Native.Nat.{ℕ, _+_, _*_, _/_, _%_, _≤_, _<_}
+use native.Mathlib.Nat.{le-refl, lt-of-lt-of-le}
 use native.Mathlib.Decide.{decLt}
 use native.Mathlib.Omega.{arith}
 use lib.Arith.{digits-lt, digits-div, digits-mod}
@@ -37,7 +37,9 @@ use Rattle.correction.specs.Pass.{texels, protects, flags, passSamples, 
 use Rattle.correction.specs.Stricter.{Outlines, Stricter, withRatio}
 use Rattle.correction.specs.Stricter.Outlines.{none, kept}
 use Rattle.ground.proofs.Laws.Bools.{and-implies}
+use Rattle.ground.proofs.Laws.Count.{count-falls}
 use Rattle.ground.proofs.Laws.Fill.{tab-at}
+use Rattle.inputs.proofs.Laws.Stencil.{clear-says}
 use Rattle.inputs.proofs.Laws.Checks.{sizes, passed}
 use Rattle.correction.proofs.pass.msdf_error_correction.Kinds.{ps}
 use Rattle.correction.proofs.pass.msdf_error_correction.Reads as entry
@@ -76,8 +78,7 @@ flags-fall i j s p q x y =
 
 -- beyond the last cell there is no error
 no-error : (st : List ℕ) (k : ℕ) → length st ≤ k → isError (getD st k 0) ≡ false
-unfolding isError
-no-error st k l = rw (List·getD-eq-default st 0 l)
+no-error st k l = ap isError (List·getD-eq-default st 0 l) ∙ clear-says .2
 
 same-area : (i j : Input) → Stricter i j → i .width * i .height ≡ j .width * j .height
 same-area i j s = rw (s .width, s .height)
@@ -123,15 +124,6 @@ flagged-collapses i p k c l m e =
 -- The first three samples of a texel that a stricter pass collapses are collapsed by the other, too.
 pub collapse-monotony : (i j : Input) → Stricter i j → accepted i ≡ true → accepted j ≡ true → (k c : ℕ) → k < i .width * i .height → c < 3 → isError (getD (stencilAfter j) k 0) ≡ true → getD (samplesAfter i) (k * i .channels + c) nan ≡ cellMedian (i .samples) (i .channels) k
 collapse-monotony i j s p q k c l m e = flagged-collapses i p k c l m (monotony i j s p q k e)
-
-count-falls : (n : ℕ) (f g : ℕ → Bool) → ((k : ℕ) → f k ≡ true → g k ≡ true) → count n f ≤ count n g
-unfolding count
-count-falls zero f g h = le-refl 0
-count-falls (suc n) f g h = add-le-add (count-falls n f g h) (one-more (f n) (g n) (h n))
-  where
-    one-more : (a b : Bool) → (a ≡ true → b ≡ true) → cond a 1 0 ≤ cond b 1 0
-    one-more true b f = le-of-eq (ap (λ (t : Bool). cond t 1 0) (sym (f refl)))
-    one-more false b f = omega arith
 
 -- A stricter pass counts no more errors.
 pub errors-fall : (i j : Input) → Stricter i j → accepted i ≡ true → accepted j ≡ true → errorCount (stencilAfter j) ≤ errorCount (stencilAfter i)

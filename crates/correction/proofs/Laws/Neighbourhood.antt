@@ -20,18 +20,18 @@ use borrow.Author.Tests.{lt-ltb, le-leb}
 use Rattle.ground.proofs.Laws.Bools.{guarded}
 use Rattle.ranges.specs.declared.config.Settings.{Settings}
 use Rattle.correction.specs.Bitmap.{cell, inBounds}
-use Rattle.inputs.specs.Stencil.{isProtected, isError}
+use Rattle.inputs.specs.Stencil.{hasCorner, isProtected, isError}
 use Rattle.ranges.specs.Config.{disabled}
 use Rattle.inputs.specs.Checks.{Input, accepted}
 use Rattle.detectors.specs.Linear.{hasLinearArtifact}
 use Rattle.correction.specs.Errors.{sideArtifact, someSide, diagonalArtifact, someDiagonal, someArtifact, hasArtifact}
 use Rattle.correction.specs.Neighbourhood.{SameAround, SameSpans}
-use Rattle.correction.specs.Pass.{texels, protects, flags, numberOf, stencilAfter}
+use Rattle.correction.specs.Pass.{texels, cornered, protects, flags, numberOf, stencilAfter}
 use Rattle.correction.proofs.bitmap.Places.{inside}
 use Rattle.correction.proofs.pass.msdf_error_correction.Kinds.{ps}
 use Rattle.correction.proofs.pass.msdf_error_correction.Reads as entry
 use Rattle.correction.proofs.Laws.Answer.{zero-accepts}
-use Rattle.correction.proofs.Laws.Leaves.{cell-error, cell-protected, given}
+use Rattle.correction.proofs.Laws.Leaves.{cell-error, cell-protected, cell-corner, given}
 
 within : (w h nx ny : ℕ) → 0 < nx → nx ≤ w → 0 < ny → ny ≤ h → inBounds w h nx ny ≡ true
 unfolding inBounds
@@ -100,6 +100,10 @@ pub texel-bits : (i : Input) → accepted i ≡ true → (x y : ℕ) → x < i .
 texel-bits i p x y inX inY =
     let l = cell-in (i .width) (i .height) x y inX inY in
     (cell-error i p (cell (i .width) x y) l ∙ rw (digits-mod y inX, digits-div y inX), cell-protected i p (cell (i .width) x y) l ∙ rw (digits-mod y inX, digits-div y inX))
+
+-- Its corner bit says whether a corner protects it.
+pub texel-corner : (i : Input) → accepted i ≡ true → (x y : ℕ) → x < i .width → y < i .height → hasCorner (getD (stencilAfter i) (cell (i .width) x y) 0) ≡ cornered i x y
+texel-corner i p x y inX inY = cell-corner i p (cell (i .width) x y) (cell-in (i .width) (i .height) x y inX inY) ∙ rw (digits-mod y inX, digits-div y inX)
 
 -- Two accepted passes, neither of which or both of which are Disabled, leave the same error bit at two places with the same neighbourhood, the same protected bit and the same spans.
 pub errors-alike : (i j : Input) → accepted i ≡ true → accepted j ≡ true → (x y x' y' : ℕ) → x < i .width → y < i .height → x' < j .width → y' < j .height → SameAround (texels i) (i .width) (i .height) x y (texels j) (j .width) (j .height) x' y' → SameSpans (i .settings) (j .settings) → eqb (i .mode) disabled ≡ eqb (j .mode) disabled

@@ -19,10 +19,9 @@ use borrow.Author.Tests.{eqb-true, lt-ltb, le-ltb, le-leb, eq-eqb, ne-eqb}
 use Rattle.ground.proofs.Laws.Bools.{both-hold, both-ways}
 use Rattle.correction.specs.Bitmap.{inBounds}
 use Rattle.correction.specs.Corners.{beside}
-use Rattle.correction.specs.Inner.{painted, spot, clip}
+use Rattle.correction.specs.Inner.{painted, atCorner, spot, clip}
 use Rattle.correction.proofs.bitmap.Places.{inside, row-lt}
-use Rattle.inputs.specs.Stencil.{setProtected}
-use Rattle.inputs.proofs.Laws.Stencil.{protected-again}
+use Rattle.inputs.proofs.Laws.Stencil.{both-again}
 use Rattle.correction.proofs.loops.Painted.{painted-four, painted-same-below}
 
 -- a row and a column test, four times
@@ -111,8 +110,8 @@ around-at w h l b k o p =
     (four w h (clip l w) (clip b h) (k % w) (k / w) x y ∙ rw (beside-clip l w (k % w) x, beside-clip b h (k / w) y))
 
 pub marked-around : (w h : ℕ) (l b : ℤ) (r s : ℕ) (st st₁ st₂ st₃ st₄ : List ℕ) → 1 ≤ w → length st ≡ h * w → r ≡ clip l w → s ≡ clip b h
-    → st₁ ≡ painted setProtected (spot w h r s) st → st₂ ≡ painted setProtected (spot w h (r + 1) s) st₁ → st₃ ≡ painted setProtected (spot w h r (s + 1)) st₂ → st₄ ≡ painted setProtected (spot w h (r + 1) (s + 1)) st₃
-    → st₄ ≡ painted setProtected (λ k. beside l (k % w) && beside b (k / w)) st
+    → st₁ ≡ painted atCorner (spot w h r s) st → st₂ ≡ painted atCorner (spot w h (r + 1) s) st₁ → st₃ ≡ painted atCorner (spot w h r (s + 1)) st₂ → st₄ ≡ painted atCorner (spot w h (r + 1) (s + 1)) st₃
+    → st₄ ≡ painted atCorner (λ k. beside l (k % w) && beside b (k / w)) st
 marked-around w h l b r s st st₁ st₂ st₃ st₄ o n e f e₁ e₂ e₃ e₄ =
-    painted-four setProtected protected-again (spot w h r s) (spot w h (r + 1) s) (spot w h r (s + 1)) (spot w h (r + 1) (s + 1)) st st₁ st₂ st₃ st₄ e₁ e₂ e₃ e₄
-    ∙ painted-same-below setProtected _ _ st (λ k p. rw (e, f) (around-at w h l b k o (subst (λ (m : ℕ). k < m) n p)))
+    painted-four atCorner both-again (spot w h r s) (spot w h (r + 1) s) (spot w h r (s + 1)) (spot w h (r + 1) (s + 1)) st st₁ st₂ st₃ st₄ e₁ e₂ e₃ e₄
+    ∙ painted-same-below atCorner _ _ st (λ k p. rw (e, f) (around-at w h l b k o (subst (λ (m : ℕ). k < m) n p)))

@@ -18,38 +18,37 @@ use lib.Ieee.{Float, nan}
 use borrow.Author.Tests.{eq-eqb, ne-eqb}
 use Rattle.ground.specs.Lists.{tab, any, some}
 use Rattle.correction.specs.Corners.{Segment, segmentAt, between, split, contours, before, shared, noSegment, lower, beside, isCorner, around, cornerAt, contourProtects, cornersProtect}
-use Rattle.correction.specs.Inner.{Celled, painted, cornerHits, contourHits}
+use Rattle.correction.specs.Inner.{Celled, painted, atCorner, cornerHits, contourHits}
 use Rattle.inputs.specs.Inner.{Outlined}
-use Rattle.inputs.specs.Stencil.{setProtected}
-use Rattle.inputs.proofs.Laws.Stencil.{protected-again}
+use Rattle.inputs.proofs.Laws.Stencil.{both-again}
 use Rattle.ground.proofs.Laws.Fill.{tab-length, tab-at}
 use Rattle.ground.proofs.Laws.Search.{any-first, any-same}
 use Rattle.correction.proofs.loops.Painted.{painted-length, painted-same, painted-none, painted-more}
 
 -- a loop whose turn i paints where f i holds, and has left st of st₀
-module _ (f : ℕ → ℕ → Bool) (st₀ st : List ℕ) (i : ℕ) (p : st ≡ painted setProtected (λ k. any i (λ j. f j k)) st₀) where
+module _ (f : ℕ → ℕ → Bool) (st₀ st : List ℕ) (i : ℕ) (p : st ≡ painted atCorner (λ k. any i (λ j. f j k)) st₀) where
   pub painted-long : length st ≡ length st₀
-  painted-long = ap length p ∙ painted-length setProtected _ st₀
+  painted-long = ap length p ∙ painted-length atCorner _ st₀
 
   pub painted-celled : {w h : ℕ} → Celled w h st₀ → Celled w h st
   painted-celled r = record { any = r .any; wide = r .wide; high = r .high; long = painted-long ∙ r .long }
 
-  pub painted-turn : (st' : List ℕ) (g : ℕ → Bool) → ((k : ℕ) → g k ≡ f i k) → st' ≡ painted setProtected g st → st' ≡ painted setProtected (λ k. any (i + 1) (λ j. f j k)) st₀
-  painted-turn st' g h e = e ∙ painted-same setProtected g (f i) st h ∙ ap (painted setProtected (f i)) p ∙ painted-more setProtected protected-again f st₀ i
+  pub painted-turn : (st' : List ℕ) (g : ℕ → Bool) → ((k : ℕ) → g k ≡ f i k) → st' ≡ painted atCorner g st → st' ≡ painted atCorner (λ k. any (i + 1) (λ j. f j k)) st₀
+  painted-turn st' g h e = e ∙ painted-same atCorner g (f i) st h ∙ ap (painted atCorner (f i)) p ∙ painted-more atCorner both-again f st₀ i
 
 module _ (w : ℕ) (colours : List ℕ) (coords : List Float) (from end i j : ℕ) (b : Bool) (e : j ≡ cond (eqb i from) (end - 1) (i - 1)) (f : b ≡ ltb (shared (getD colours j 0) (getD colours i 0)) 2) where
   corner : b ≡ ltb (shared (getD colours (cond (eqb i from) (end - 1) (i - 1)) 0) (getD colours i 0)) 2
   corner = f ∙ ap (λ (m : ℕ). ltb (shared (getD colours m 0) (getD colours i 0)) 2) e
 
   pub hit : b ≡ true → (st st' : List ℕ)
-      → st' ≡ painted setProtected (λ k. beside (lower (getD coords (2 * i) nan)) (k % w) && beside (lower (getD coords (2 * i + 1) nan)) (k / w)) st
-      → st' ≡ painted setProtected (cornerHits w colours coords from end i) st
+      → st' ≡ painted atCorner (λ k. beside (lower (getD coords (2 * i) nan)) (k % w) && beside (lower (getD coords (2 * i + 1) nan)) (k / w)) st
+      → st' ≡ painted atCorner (cornerHits w colours coords from end i) st
   unfolding cornerHits
-  hit l st st' p = p ∙ painted-same setProtected _ _ st (λ k. simp (sym corner ∙ l))
+  hit l st st' p = p ∙ painted-same atCorner _ _ st (λ k. simp (sym corner ∙ l))
 
-  pub miss : b ≡ false → (st : List ℕ) → st ≡ painted setProtected (cornerHits w colours coords from end i) st
+  pub miss : b ≡ false → (st : List ℕ) → st ≡ painted atCorner (cornerHits w colours coords from end i) st
   unfolding cornerHits
-  miss l st = painted-none setProtected _ st (λ k. simp (sym corner ∙ l))
+  miss l st = painted-none atCorner _ st (λ k. simp (sym corner ∙ l))
 
 -- where contour i starts: at the end before it
 abbrev pub startAt : List ℕ → ℕ → ℕ

@@ -18,28 +18,28 @@ use Rattle.inputs.specs.Stencil.{stencilByte, setError}
 use Rattle.correction.specs.Errors.{hasArtifact}
 use Rattle.correction.specs.Collapse.{cellMedian, collapsedSample, collapsed}
 use Rattle.correction.specs.Inner.{marked, found}
-use Rattle.inputs.proofs.Laws.Stencil.{byte-protected, byte-set-error}
+use Rattle.inputs.proofs.Laws.Stencil.{byte-says, byte-sets}
 use Rattle.ground.proofs.Laws.Fill.{tab-length, tab-at, tab-same}
 
-added : (p e : Bool) → cond e (setError (stencilByte p false)) (stencilByte p false) ≡ stencilByte p e
-added p true = byte-set-error p false
-added p false = refl
+added : (c p e : Bool) → cond e (setError (stencilByte c p false)) (stencilByte c p false) ≡ stencilByte c p e
+added c p true = byte-sets c p false .2
+added c p false = refl
 
-marked-staged : (xs : List Float) (w h ch : ℕ) (s : Settings) (p : Bool) (x y : ℕ) → marked xs w h ch s (stencilByte p false) x y ≡ stencilByte p (hasArtifact (texel xs w ch) w h s p x y)
+marked-staged : (xs : List Float) (w h ch : ℕ) (s : Settings) (c p : Bool) (x y : ℕ) → marked xs w h ch s (stencilByte c p false) x y ≡ stencilByte c p (hasArtifact (texel xs w ch) w h s p x y)
 unfolding marked
-marked-staged xs w h ch s p x y =
-    ap (λ (b : Bool). cond (hasArtifact (texel xs w ch) w h s b x y) (setError (stencilByte p false)) (stencilByte p false)) (byte-protected p false)
-    ∙ added p (hasArtifact (texel xs w ch) w h s p x y)
+marked-staged xs w h ch s c p x y =
+    ap (λ (b : Bool). cond (hasArtifact (texel xs w ch) w h s b x y) (setError (stencilByte c p false)) (stencilByte c p false)) (byte-says c p false .1)
+    ∙ added c p (hasArtifact (texel xs w ch) w h s p x y)
 
-pub found-staged : (xs : List Float) (w h ch : ℕ) (s : Settings) (n : ℕ) (p : ℕ → Bool) (st : List ℕ) → st ≡ tab n (λ k. stencilByte (p k) false) → found xs w h ch s st ≡ tab n (λ k. stencilByte (p k) (hasArtifact (texel xs w ch) w h s (p k) (k % w) (k / w)))
+pub found-staged : (xs : List Float) (w h ch : ℕ) (s : Settings) (n : ℕ) (c p : ℕ → Bool) (st : List ℕ) → st ≡ tab n (λ k. stencilByte (c k) (p k) false) → found xs w h ch s st ≡ tab n (λ k. stencilByte (c k) (p k) (hasArtifact (texel xs w ch) w h s (p k) (k % w) (k / w)))
 unfolding found
-found-staged xs w h ch s n p st e =
-    let q : ℕ → ℕ = λ k. stencilByte (p k) false in
+found-staged xs w h ch s n c p st e =
+    let q : ℕ → ℕ = λ k. stencilByte (c k) (p k) false in
     let f : List ℕ → ℕ → ℕ = λ z k. marked xs w h ch s (getD z k 0) (k % w) (k / w) in
     ap (λ (z : List ℕ). tab (length z) (f z)) e
     ∙ ap (λ (m : ℕ). tab m (f (tab n q))) (tab-length n q)
-    ∙ tab-same n (f (tab n q)) (λ k. stencilByte (p k) (hasArtifact (texel xs w ch) w h s (p k) (k % w) (k / w)))
-    (λ k l. ap (λ (v : ℕ). marked xs w h ch s v (k % w) (k / w)) (tab-at n q k 0 l) ∙ marked-staged xs w h ch s (p k) (k % w) (k / w))
+    ∙ tab-same n (f (tab n q)) (λ k. stencilByte (c k) (p k) (hasArtifact (texel xs w ch) w h s (p k) (k % w) (k / w)))
+    (λ k l. ap (λ (v : ℕ). marked xs w h ch s v (k % w) (k / w)) (tab-at n q k 0 l) ∙ marked-staged xs w h ch s (c k) (p k) (k % w) (k / w))
 
 -- sample j is one of a texel below n
 texel-lt : (ch n j : ℕ) → j < n * ch → j / ch < n

@@ -1,5 +1,5 @@
 -- The stages of the pass put together, over plain lists. Assumes nothing.
---     protects-all, protects-none, protects-some   the protected cells of each mode, as protection leaves them
+--     protects-all, protects-none, protects-some   the bytes of each mode, as protection leaves them
 --     switched-off, done                           what all stages leave, in mode Disabled and in the others
 --     refused, answered                            the answer and what is left, of a refusal and of an accepted input
 use mathlib.Core.Path.{_≡_, refl, sym, _∙_, ap, subst}
@@ -15,21 +15,21 @@ use Rattle.correction.specs.declared.pass.Answer.the-variants.{Accepted,
 use Rattle.inputs.specs.declared.stencil.Counts.{Counts}
 use Rattle.ground.specs.Lists.{tab}
 use Rattle.correction.specs.Bitmap.{texel}
-use Rattle.inputs.specs.Stencil.{stencilByte, isError, setProtected, countsOf}
+use Rattle.inputs.specs.Stencil.{stencilByte, isError, setCorner, setProtected, countsOf}
 use Rattle.inputs.specs.Checks.{Input, accepted, refusalNumber, refusalPlace}
 use Rattle.correction.specs.Corners.{contours, cornersProtect}
 use Rattle.correction.specs.Edges.{edgesProtect}
 use Rattle.correction.specs.Errors.{hasArtifact}
 use Rattle.correction.specs.Collapse.{collapsed}
-use Rattle.correction.specs.Inner.{Sized, painted, found}
+use Rattle.correction.specs.Inner.{Sized, painted, atCorner, found}
 use Rattle.inputs.specs.Inner.{Outlined}
-use Rattle.correction.specs.Pass.{texels, edgePriorityProtects, protects, flags, byteAt, passStencil, passSamples, Answers, answer, stencilAfter, samplesAfter}
+use Rattle.correction.specs.Pass.{texels, cornered, edgePriorityProtects, protects, flags, byteAt, passStencil, passSamples, Answers, answer, stencilAfter, samplesAfter}
 use Rattle.ground.proofs.Laws.Fill.{tab-length, tab-at, tab-same}
 use Rattle.correction.proofs.loops.Painted.{painted-length, painted-at, is-painted}
 use Rattle.correction.proofs.pass.Staged.{found-staged, collapsed-same, collapsed-none}
 use Rattle.correction.proofs.bitmap.Sizes.{sized, cells}
 use Rattle.inputs.proofs.Laws.Checks.{sizes, passed}
-use Rattle.inputs.proofs.Laws.Stencil.{byte-error, byte-set-protected, byte-clear, byte-only-protected}
+use Rattle.inputs.proofs.Laws.Stencil.{byte-says, byte-sets, byte-clear, byte-only-protected}
 use Rattle.correction.proofs.Laws.Answer.{as-answered}
 
 -- what two paintings leave of zeros
@@ -41,42 +41,51 @@ painted-twice n f g c d =
     (λ k l. let b : k < n = subst (λ (m : ℕ). k < m) long l in
     tab-at n _ k 0 b ∙ sym (ap (λ (v : ℕ). cond (d k) (g v) v) (painted-at f c z k (subst (λ (m : ℕ). k < m) (sym (tab-length n (λ k. 0))) b) ∙ ap (λ (v : ℕ). cond (c k) (f v) v) (tab-at n (λ k. 0) k 0 b)))))
 
--- the byte that the two kinds of protection leave of 0
-both : (c d : Bool) → cond d (setProtected (cond c (setProtected 0) 0)) (cond c (setProtected 0) 0) ≡ stencilByte (c || d) false
+-- the byte that a corner and an edge leave of 0
+both : (c d : Bool) → cond d (setProtected (cond c (atCorner 0) 0)) (cond c (atCorner 0) 0) ≡ stencilByte c (c || d) false
 both c d = rw byte-clear (go c d)
   where
-    go : (c d : Bool) → let z = stencilByte false false in cond d (setProtected (cond c (setProtected z) z)) (cond c (setProtected z) z) ≡ stencilByte (c || d) false
-    go true true = ap setProtected (byte-set-protected false false) ∙ byte-set-protected true false
-    go true false = byte-set-protected false false
-    go false true = byte-set-protected false false
+    corner : atCorner (stencilByte false false false) ≡ stencilByte true true false
+    corner = ap setCorner (byte-sets false false false .1) ∙ byte-sets false true false .0
+
+    go : (c d : Bool) → let z = stencilByte false false false in cond d (setProtected (cond c (atCorner z) z)) (cond c (atCorner z) z) ≡ stencilByte c (c || d) false
+    go true true = ap setProtected corner ∙ byte-sets true true false .1
+    go true false = corner
+    go false true = byte-sets false false false .1
     go false false = refl
 
 module _ (i : Input) where
-  -- the cells that the mode protects
+  -- the cells that a corner protects, those that the mode protects, and the bytes that protection leaves of them
+  corners : ℕ → Bool
+  corners k = cornered i (k % i .width) (k / i .width)
+
   covers : ℕ → Bool
   covers k = protects i (k % i .width) (k / i .width)
 
+  abbrev shielded : ℕ → ℕ
+  shielded k = stencilByte (cornered i (k % i .width) (k / i .width)) (protects i (k % i .width) (k / i .width)) false
+
   -- EdgeOnly
-  pub protects-all : (n : ℕ) → i .mode ≡ 3 → tab {A = ℕ} n (λ k. 2) ≡ tab n (λ k. stencilByte (protects i (k % i .width) (k / i .width)) false)
-  unfolding protects
-  protects-all n e = tab-same n _ _ (λ k l. simp (eq-eqb _ 3 e) byte-only-protected)
+  pub protects-all : (n : ℕ) → i .mode ≡ 3 → tab {A = ℕ} n (λ k. 2) ≡ tab n shielded
+  unfolding cornered protects
+  protects-all n e = tab-same n _ _ (λ k l. simp (eq-eqb (i .mode) 3 e, ap (λ (m : ℕ). eqb m 2) e) byte-only-protected)
 
   -- neither EdgeOnly nor EdgePriority
-  pub protects-none : (n : ℕ) → (i .mode ≡ 3 → ⊥) → (i .mode ≡ 2 → ⊥) → tab {A = ℕ} n (λ k. 0) ≡ tab n (λ k. stencilByte (protects i (k % i .width) (k / i .width)) false)
-  unfolding protects
+  pub protects-none : (n : ℕ) → (i .mode ≡ 3 → ⊥) → (i .mode ≡ 2 → ⊥) → tab {A = ℕ} n (λ k. 0) ≡ tab n shielded
+  unfolding cornered protects
   protects-none n e f = tab-same n _ _ (λ k l. simp (ne-eqb _ 3 e, ne-eqb _ 2 f) byte-clear)
 
   -- EdgePriority: zeros, then corners, then edges
   pub protects-some : (n : ℕ) (st₀ st₁ st₂ : List ℕ) → i .mode ≡ 2
       → st₀ ≡ tab n (λ k. 0)
-      → st₁ ≡ painted setProtected (λ k. cornersProtect (contours (i .colours) (i .coords) (i .ends)) (k % i .width) (k / i .width)) st₀
+      → st₁ ≡ painted atCorner (λ k. cornersProtect (contours (i .colours) (i .coords) (i .ends)) (k % i .width) (k / i .width)) st₀
       → st₂ ≡ painted setProtected (λ k. edgesProtect (texel (i .samples) (i .width) (i .channels)) (i .width) (i .height) (i .settings) (k % i .width) (k / i .width)) st₁
-      → st₂ ≡ tab n (λ k. stencilByte (protects i (k % i .width) (k / i .width)) false)
-  unfolding protects edgePriorityProtects texels
+      → st₂ ≡ tab n shielded
+  unfolding cornered protects edgePriorityProtects texels
   protects-some n st₀ st₁ st₂ e p q r =
       let c : ℕ → Bool = λ k. cornersProtect (contours (i .colours) (i .coords) (i .ends)) (k % i .width) (k / i .width) in
       let d : ℕ → Bool = λ k. edgesProtect (texel (i .samples) (i .width) (i .channels)) (i .width) (i .height) (i .settings) (k % i .width) (k / i .width) in
-      r ∙ ap (painted setProtected d) (q ∙ ap (painted setProtected c) p) ∙ painted-twice n setProtected setProtected c d
+      r ∙ ap (painted setProtected d) (q ∙ ap (painted atCorner c) p) ∙ painted-twice n atCorner setProtected c d
       ∙ tab-same n _ _ (λ k l. simp (eq-eqb (i .mode) 2 e, ap (λ (m : ℕ). eqb m 3) e) (both (c k) (d k)))
 
   module _ (s : Sized (i .width) (i .height) (i .channels) (i .samples)) (m : length (i .stencil) ≡ i .height * i .width) where
@@ -85,7 +94,7 @@ module _ (i : Input) where
 
     -- Disabled
     pub switched-off : (st : List ℕ) → i .mode ≡ 0 → st ≡ tab (length (i .stencil)) (λ k. 0) → (st ≡ passStencil i) × (i .samples ≡ passSamples i)
-    unfolding passStencil passSamples byteAt flags protects
+    unfolding passStencil passSamples byteAt flags cornered protects
     switched-off st e p =
         let t : eqb (i .mode) 0 ≡ true = eq-eqb (i .mode) 0 e in
         let u : eqb (i .mode) 2 ≡ false = ap (λ (k : ℕ). eqb k 2) e in
@@ -94,20 +103,20 @@ module _ (i : Input) where
           sym (collapsed-none (i .samples) (i .channels)) ∙ simp t refl,
         )
 
-    module _ (st₁ : List ℕ) (p : st₁ ≡ tab (length (i .stencil)) (λ k. stencilByte (protects i (k % i .width) (k / i .width)) false)) where
+    module _ (st₁ : List ℕ) (p : st₁ ≡ tab (length (i .stencil)) shielded) where
       module _ (st₂ : List ℕ) (q : st₂ ≡ found (i .samples) (i .width) (i .height) (i .channels) (i .settings) st₁) where
-        found-as : st₂ ≡ tab (length (i .stencil)) (λ k. stencilByte (covers k) (hasArtifact (texel (i .samples) (i .width) (i .channels)) (i .width) (i .height) (i .settings) (covers k) (k % i .width) (k / i .width)))
-        unfolding covers
-        found-as = q ∙ found-staged (i .samples) (i .width) (i .height) (i .channels) (i .settings) (length (i .stencil)) covers st₁ p
+        found-as : st₂ ≡ tab (length (i .stencil)) (λ k. stencilByte (corners k) (covers k) (hasArtifact (texel (i .samples) (i .width) (i .channels)) (i .width) (i .height) (i .settings) (covers k) (k % i .width) (k / i .width)))
+        unfolding corners covers
+        found-as = q ∙ found-staged (i .samples) (i .width) (i .height) (i .channels) (i .settings) (length (i .stencil)) corners covers st₁ p
 
         module _ (e : i .mode ≡ 0 → ⊥) where
           staged : st₂ ≡ tab (length (i .stencil)) (byteAt i)
-          unfolding covers byteAt flags texels
+          unfolding corners covers byteAt flags texels
           staged = found-as ∙ tab-same (length (i .stencil)) _ _ (λ k l. simp (ne-eqb (i .mode) 0 e))
 
           error-at : (k : ℕ) → k < length (i .stencil) → isError (getD st₂ k 0) ≡ flags i (k % i .width) (k / i .width)
           unfolding byteAt
-          error-at k l = ap (λ (z : List ℕ). isError (getD z k 0)) staged ∙ ap isError (tab-at (length (i .stencil)) (byteAt i) k 0 l) ∙ byte-error (protects i (k % i .width) (k / i .width)) (flags i (k % i .width) (k / i .width))
+          error-at k l = ap (λ (z : List ℕ). isError (getD z k 0)) staged ∙ ap isError (tab-at (length (i .stencil)) (byteAt i) k 0 l) ∙ byte-says (cornered i (k % i .width) (k / i .width)) (protects i (k % i .width) (k / i .width)) (flags i (k % i .width) (k / i .width)) .2
 
           pub done : (xs : List Float) → xs ≡ collapsed (i .samples) (i .channels) (λ k. isError (getD st₂ k 0)) → (st₂ ≡ passStencil i) × (xs ≡ passSamples i)
           unfolding passStencil passSamples

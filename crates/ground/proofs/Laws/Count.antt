@@ -2,9 +2,11 @@
 --     none-counted   before the first turn
 --     one-more       after a turn that adds a bit
 --     count-small    so many at most
-use mathlib.Core.Path.{_≡_, refl, ap}
+--     count-falls    a test that holds only where another does counts no more
+use mathlib.Core.Path.{_≡_, refl, sym, ap}
 use mathlib.Core.Bool.{Bool, true, false, cond}
 use Prim.Native.Nat.{ℕ, zero, suc, _+_, _<_, _≤_}
+use native.Mathlib.Nat.{le-refl, le-of-eq, add-le-add}
 use native.Mathlib.Omega.{arith}
 use native.Mathlib.Numerals.{add-one}
 use lib.Dec.{eqb}
@@ -32,3 +34,12 @@ pub count-small : (f : ℕ → Bool) (k : ℕ) → count k f ≤ k
 unfolding count
 count-small f zero = omega arith
 count-small f (suc k) = omega (arith, count-small f k, bit-small (f k))
+
+bit-falls : (a b : Bool) → (a ≡ true → b ≡ true) → cond a 1 0 ≤ cond b 1 0
+bit-falls true b f = le-of-eq (ap (λ (t : Bool). cond t 1 0) (sym (f refl)))
+bit-falls false b f = omega arith
+
+pub count-falls : (n : ℕ) (f g : ℕ → Bool) → ((k : ℕ) → f k ≡ true → g k ≡ true) → count n f ≤ count n g
+unfolding count
+count-falls zero f g h = le-refl 0
+count-falls (suc n) f g h = add-le-add (count-falls n f g h) (bit-falls (f n) (g n) (h n))

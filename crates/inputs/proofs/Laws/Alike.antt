@@ -7,10 +7,16 @@ use Rattle.inputs.proofs.stencil.is_error.Kinds as is-error-kinds
 use Rattle.inputs.proofs.stencil.is_error.Reads as is-error
 use Rattle.inputs.proofs.stencil.is_protected.Kinds as is-protected-kinds
 use Rattle.inputs.proofs.stencil.is_protected.Reads as is-protected
+use Rattle.inputs.proofs.stencil.has_corner.Kinds as has-corner-kinds
+use Rattle.inputs.proofs.stencil.has_corner.Reads as has-corner
 use Rattle.inputs.proofs.stencil.set_error.Kinds as set-error-kinds
 use Rattle.inputs.proofs.stencil.set_error.Reads as set-error
 use Rattle.inputs.proofs.stencil.set_protected.Kinds as set-protected-kinds
 use Rattle.inputs.proofs.stencil.set_protected.Reads as set-protected
+use Rattle.inputs.proofs.stencil.set_corner.Kinds as set-corner-kinds
+use Rattle.inputs.proofs.stencil.set_corner.Reads as set-corner
+use Rattle.inputs.proofs.stencil.set_both.Kinds as set-both-kinds
+use Rattle.inputs.proofs.stencil.set_both.Reads as set-both
 use Rattle.inputs.proofs.stencil.fill.Reads as fill
 use Rattle.inputs.proofs.stencil.count_cells.Kinds as count-cells-kinds
 use Rattle.inputs.proofs.stencil.count_cells.Reads as count-cells
@@ -26,12 +32,21 @@ is-error-alike κs a r s e f = alike
 pub is-protected-alike : Alike 0 is-protected-kinds.ps is-protected-kinds.r is-protected.Post
 is-protected-alike κs a r s e f = alike
 
--- A byte with one of them set.
+pub has-corner-alike : Alike 0 has-corner-kinds.ps has-corner-kinds.r has-corner.Post
+has-corner-alike κs a r s e f = alike
+
+-- A byte with one of them set, and with the corner's and the protected bit.
 pub set-error-alike : Alike 0 set-error-kinds.ps set-error-kinds.r set-error.Post
 set-error-alike κs a r s e f = alike
 
 pub set-protected-alike : Alike 0 set-protected-kinds.ps set-protected-kinds.r set-protected.Post
 set-protected-alike κs a r s e f = alike
+
+pub set-corner-alike : Alike 0 set-corner-kinds.ps set-corner-kinds.r set-corner.Post
+set-corner-alike κs a r s e f = alike
+
+pub set-both-alike : Alike 0 set-both-kinds.ps set-both-kinds.r set-both.Post
+set-both-alike κs a r s e f = alike
 
 -- A stencil with one byte in every cell: it answers nothing.
 pub filled-alike : (κs : _) (a : _) (z z' : _) (e e' : _) → fill.Post κs a z e → fill.Post κs a z' e' → now (e .0) ≡ now (e' .0)

@@ -1,10 +1,10 @@
 -- What is known of a stencil's byte. Assumes nothing.
---     byte-*      the byte of a cell says what it was made of, and setting one of its bits makes the byte of a cell that has it
+--     byte-*      the byte of a cell says the three facts that it was made of, and setting a bit makes the byte of a cell with that fact
 --     *-set       setting one bit of any byte: the bit is set,
 --     *-leaves    all others are as they were,
 --     *-again     and setting it again changes nothing
 --     *-le        no more cells are counted than there are
-use mathlib.Core.Path.{_≡_, refl}
+use mathlib.Core.Path.{_≡_, refl, _∙_, ap}
 use mathlib.Core.Bool.{Bool, true, false}
 use mathlib.Core.List.{List}
 use mathlib.Core.Logic.{dite}
@@ -13,47 +13,47 @@ use native.Mathlib.Decide.{ℕ-discrete}
 use native.Mathlib.Omega.{arith}
 use lib.Dec.{eqb}
 use lib.ListN.{length}
-use borrow.Author.Tests.{eq-eqb, ne-eqb}
-use Rattle.inputs.specs.Stencil.{stencilByte, isProtected, isError, setProtected, setError, protectedCount, errorCount}
+use borrow.Author.Tests.{eqb-true, eq-eqb, ne-eqb}
+use Rattle.inputs.specs.Stencil.{stencilByte, hasCorner, isProtected, isError, setCorner, setProtected, setError, protectedCount, errorCount, cornerCount}
 use Rattle.ground.proofs.Laws.Count.{count-small}
 
 -- ---- the byte of a cell
 
-pub byte-protected : (p e : Bool) → isProtected (stencilByte p e) ≡ p
-unfolding stencilByte isProtected
-byte-protected true true = refl
-byte-protected true false = refl
-byte-protected false true = refl
-byte-protected false false = refl
+-- The byte says each of the three facts that it was made of, whatever the other two are.
+pub byte-says : (c p e : Bool) → (hasCorner (stencilByte c p e) ≡ c) × (isProtected (stencilByte c p e) ≡ p) × (isError (stencilByte c p e) ≡ e)
+unfolding stencilByte hasCorner isProtected isError
+byte-says true true true = (refl, refl, refl)
+byte-says true true false = (refl, refl, refl)
+byte-says true false true = (refl, refl, refl)
+byte-says true false false = (refl, refl, refl)
+byte-says false true true = (refl, refl, refl)
+byte-says false true false = (refl, refl, refl)
+byte-says false false true = (refl, refl, refl)
+byte-says false false false = (refl, refl, refl)
 
-pub byte-error : (p e : Bool) → isError (stencilByte p e) ≡ e
-unfolding stencilByte isError
-byte-error true true = refl
-byte-error true false = refl
-byte-error false true = refl
-byte-error false false = refl
-
-pub byte-set-protected : (p e : Bool) → setProtected (stencilByte p e) ≡ stencilByte true e
-unfolding stencilByte setProtected isProtected
-byte-set-protected true true = refl
-byte-set-protected true false = refl
-byte-set-protected false true = refl
-byte-set-protected false false = refl
-
-pub byte-set-error : (p e : Bool) → setError (stencilByte p e) ≡ stencilByte p true
-unfolding stencilByte setError isError
-byte-set-error true true = refl
-byte-set-error true false = refl
-byte-set-error false true = refl
-byte-set-error false false = refl
+-- Setting a bit makes the byte of a cell with that fact and the other two as they were.
+pub byte-sets : (c p e : Bool) → (setCorner (stencilByte c p e) ≡ stencilByte true p e) × (setProtected (stencilByte c p e) ≡ stencilByte c true e) × (setError (stencilByte c p e) ≡ stencilByte c p true)
+unfolding stencilByte hasCorner isProtected isError setCorner setProtected setError
+byte-sets true true true = (refl, refl, refl)
+byte-sets true true false = (refl, refl, refl)
+byte-sets true false true = (refl, refl, refl)
+byte-sets true false false = (refl, refl, refl)
+byte-sets false true true = (refl, refl, refl)
+byte-sets false true false = (refl, refl, refl)
+byte-sets false false true = (refl, refl, refl)
+byte-sets false false false = (refl, refl, refl)
 
 -- The byte 0 says nothing.
-pub byte-clear : 0 ≡ stencilByte false false
+pub byte-clear : 0 ≡ stencilByte false false false
 unfolding stencilByte
 byte-clear = refl
 
--- The byte 2 says that the cell is protected.
-pub byte-only-protected : 2 ≡ stencilByte true false
+pub clear-says : (hasCorner 0 ≡ false) × (isProtected 0 ≡ false) × (isError 0 ≡ false)
+unfolding hasCorner isProtected isError
+clear-says = (refl, refl, refl)
+
+-- The byte 2 says that the cell is protected, and no more.
+pub byte-only-protected : 2 ≡ stencilByte false true false
 unfolding stencilByte
 byte-only-protected = refl
 
@@ -63,6 +63,10 @@ byte-only-protected = refl
 by-bit : {P : Type 0} (b : ℕ) → (eqb (b % 2) 1 ≡ true → b % 2 ≡ 1 → P) → (eqb (b % 2) 1 ≡ false → b % 2 ≡ 0 → P) → P
 by-bit b f g = dite (ℕ-discrete (b % 2) 1) (λ e. f (eq-eqb (b % 2) 1 e) e) (λ n. g (ne-eqb (b % 2) 1 n) (omega arith))
 
+pub corner-set : (v : ℕ) → hasCorner (setCorner v) ≡ true
+unfolding hasCorner setCorner
+corner-set v = by-bit (v / 4) (λ t e. simp t) (λ t e. simp t (eq-eqb ((v + 4) / 4 % 2) 1 (omega arith)))
+
 pub protected-set : (v : ℕ) → isProtected (setProtected v) ≡ true
 unfolding isProtected setProtected
 protected-set v = by-bit (v / 2) (λ t e. simp t) (λ t e. simp t (eq-eqb ((v + 2) / 2 % 2) 1 (omega arith)))
@@ -70,6 +74,10 @@ protected-set v = by-bit (v / 2) (λ t e. simp t) (λ t e. simp t (eq-eqb ((v + 
 pub error-set : (v : ℕ) → isError (setError v) ≡ true
 unfolding isError setError
 error-set v = by-bit v (λ t e. simp t) (λ t e. simp t (eq-eqb ((v + 1) % 2) 1 (omega arith)))
+
+pub corner-leaves : (v : ℕ) → (setCorner v % 4 ≡ v % 4) × (setCorner v / 8 ≡ v / 8)
+unfolding hasCorner setCorner
+corner-leaves v = by-bit (v / 4) (λ t e. (simp t, simp t)) (λ t e. (simp t (omega arith), simp t (omega arith)))
 
 pub protected-leaves : (v : ℕ) → (setProtected v % 2 ≡ v % 2) × (setProtected v / 4 ≡ v / 4)
 unfolding isProtected setProtected
@@ -79,6 +87,10 @@ pub error-leaves : (v : ℕ) → setError v / 2 ≡ v / 2
 unfolding isError setError
 error-leaves v = by-bit v (λ t e. simp t) (λ t e. simp t (omega arith))
 
+pub corner-again : (v : ℕ) → setCorner (setCorner v) ≡ setCorner v
+unfolding setCorner
+corner-again v = simp (corner-set v)
+
 pub protected-again : (v : ℕ) → setProtected (setProtected v) ≡ setProtected v
 unfolding setProtected
 protected-again v = simp (protected-set v)
@@ -86,6 +98,21 @@ protected-again v = simp (protected-set v)
 pub error-again : (v : ℕ) → setError (setError v) ≡ setError v
 unfolding setError
 error-again v = simp (error-set v)
+
+-- What a corner leaves of a byte: both bits are set, and setting both again changes nothing.
+corner-protected : (v : ℕ) → isProtected (setCorner (setProtected v)) ≡ true
+unfolding isProtected
+corner-protected v =
+    let l = corner-leaves (setProtected v) .0 in
+    let p : setProtected v / 2 % 2 ≡ 1 = eqb-true _ 1 (protected-set v) in
+    eq-eqb (setCorner (setProtected v) / 2 % 2) 1 (omega (arith, l, p))
+
+kept : (u : ℕ) → isProtected u ≡ true → setProtected u ≡ u
+unfolding setProtected
+kept u p = simp p
+
+pub both-again : (v : ℕ) → setCorner (setProtected (setCorner (setProtected v))) ≡ setCorner (setProtected v)
+both-again v = ap setCorner (kept (setCorner (setProtected v)) (corner-protected v)) ∙ corner-again (setProtected v)
 
 -- ---- the counts
 
@@ -96,3 +123,7 @@ protected-le st = count-small _ (length st)
 pub error-le : (st : List ℕ) → errorCount st ≤ length st
 unfolding errorCount
 error-le st = count-small _ (length st)
+
+pub corner-le : (st : List ℕ) → cornerCount st ≤ length st
+unfolding cornerCount
+corner-le st = count-small _ (length st)

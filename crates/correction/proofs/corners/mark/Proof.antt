@@ -26,7 +26,7 @@ unfolding spot
 returns c =
     let k = c .before .before in
     let t = k .before in
-    painted-set _ _ _ _ _ (held k) (c .set-protected .ensures) (λ j. simp (sym (t .before .in-bounds .ensures) ∙ t .if1 .taken, k .cell .ensures))
+    painted-set _ _ _ _ _ (held k) (c .set-both .ensures) (λ j. simp (sym (t .before .in-bounds .ensures) ∙ t .if1 .taken, k .cell .ensures))
 
 returns-2 : tie.Need-returns-2
 unfolding spot

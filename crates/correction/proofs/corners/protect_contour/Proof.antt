@@ -8,8 +8,7 @@ use native.Mathlib.Omega.{arith}
 use lib.Ieee.{Float}
 use denote.Ref.{now}
 use Rattle.ground.specs.Lists.{any}
-use Rattle.correction.specs.Inner.{painted, cornerHits, contourHits}
-use Rattle.inputs.specs.Stencil.{setProtected}
+use Rattle.correction.specs.Inner.{painted, atCorner, cornerHits, contourHits}
 use Rattle.correction.proofs.loops.Painted.{painted-zero}
 use Rattle.correction.proofs.corners.Contours.{painted-long, painted-celled, painted-turn}
 use Rattle.correction.proofs.corners.protect_contour.Statement.{statement}
@@ -22,7 +21,7 @@ nth w colours coords from end j k = cornerHits w colours coords from end (from +
 record Inv (st₀ : List ℕ) (w : ℕ) (colours : List ℕ) (coords : List Float) (from end : ℕ) (st : List ℕ) (i : ℕ) : Type 0 where
   low : from ≤ i
   high : i ≤ end
-  done : st ≡ painted setProtected (λ k. any (i - from) (λ j. nth w colours coords from end j k)) st₀
+  done : st ≡ painted atCorner (λ k. any (i - from) (λ j. nth w colours coords from end j k)) st₀
 
 abbrev Inv-loop : tie.InvT-loop
 Inv-loop stencil₀ b colours coords c i₀ stencil i = Inv stencil₀ (b .width) colours coords (c .from) (c .end) stencil i
@@ -35,7 +34,7 @@ loop-holds c =
     let s = c .before .before .before in
     let a = s .args in
     let f : ℕ → ℕ → Bool = nth (a .b .width) (now (a .colours)) (now (a .coords)) (a .c .from) (a .c .end) in
-    record { low = omega arith; high = s .pre .1 .1 .0; done = rw (sub-self (a .c .from)) (painted-zero setProtected f (now (a .stencil))) }
+    record { low = omega arith; high = s .pre .1 .1 .0; done = rw (sub-self (a .c .from)) (painted-zero atCorner f (now (a .stencil))) }
 
 protect-corner-requires : tie.Need-protect-corner-requires Inv-loop μ-loop
 protect-corner-requires c κs =

@@ -8,8 +8,7 @@ use lib.ListN.{length, getD}
 use lib.Ieee.{Float}
 use denote.Ref.{now}
 use Rattle.ground.specs.Lists.{any}
-use Rattle.correction.specs.Inner.{painted, contourHits}
-use Rattle.inputs.specs.Stencil.{setProtected}
+use Rattle.correction.specs.Inner.{painted, atCorner, contourHits}
 use Rattle.correction.proofs.loops.Painted.{painted-zero, painted-same}
 use Rattle.correction.proofs.corners.Contours.{painted-long, painted-celled, painted-turn, startAt, start-next, start-le, corners-at}
 use Rattle.correction.proofs.corners.protect_corners.Statement.{statement}
@@ -22,7 +21,7 @@ nth w colours coords ends j k = contourHits w colours coords (startAt ends j) (g
 record Inv (st₀ : List ℕ) (w : ℕ) (colours : List ℕ) (coords : List Float) (ends st : List ℕ) (from c : ℕ) : Type 0 where
   high : c ≤ length ends
   start : from ≡ startAt ends c
-  done : st ≡ painted setProtected (λ k. any c (λ j. nth w colours coords ends j k)) st₀
+  done : st ≡ painted atCorner (λ k. any c (λ j. nth w colours coords ends j k)) st₀
 
 abbrev Inv-loop : tie.InvT-loop
 Inv-loop stencil₀ b colours coords ends from₀ c₀ stencil from c = Inv stencil₀ (b .width) colours coords ends stencil from c
@@ -33,7 +32,7 @@ abbrev μ-loop : tie.MeasureT-loop
 loop-holds : tie.Need-loop-holds Inv-loop μ-loop
 loop-holds c =
     let a = c .before .before .before .before .args in
-    record { high = omega arith; start = refl; done = painted-zero setProtected (nth (a .b .width) (now (a .colours)) (now (a .coords)) (now (a .ends))) (now (a .stencil)) }
+    record { high = omega arith; start = refl; done = painted-zero atCorner (nth (a .b .width) (now (a .colours)) (now (a .coords)) (now (a .ends))) (now (a .stencil)) }
 
 protect-contour-requires : tie.Need-protect-contour-requires Inv-loop μ-loop
 protect-contour-requires c κs =
@@ -63,7 +62,7 @@ returns c =
     let v = c .before .loop .inv in
     let e : c .before .loop .c ≡ length (now (s .args .ends)) = omega (arith, v .high) in
     rw e at (v .done)
-    ∙ painted-same setProtected _ _ _ (corners-at _ _ _ _ (s .pre .1))
+    ∙ painted-same atCorner _ _ _ (corners-at _ _ _ _ (s .pre .1))
 
 pub protect-corners-spec : {M : Type 1} → statement M
 protect-corners-spec =
