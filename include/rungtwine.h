@@ -15,9 +15,11 @@ extern "C" {
 #define RUNGTWINE_EDGE_PRIORITY 2
 #define RUNGTWINE_EDGE_ONLY 3
 
-/* Bits of a stencil cell. */
+/* Bits of a stencil cell. A cell with RUNGTWINE_CORNER has RUNGTWINE_PROTECTED too: a corner protects its texel in mode EdgePriority, whether or not an
+ * edge does as well. One that has RUNGTWINE_PROTECTED alone of the two is protected by an edge, or by the mode EdgeOnly. */
 #define RUNGTWINE_ERROR 1
 #define RUNGTWINE_PROTECTED 2
+#define RUNGTWINE_CORNER 4
 
 /*
  * Corrects `samples` in place: width x height texels, row 0 at the bottom, `channels` (3 or 4) interleaved. The old contents of `stencil`, one byte
@@ -25,8 +27,9 @@ extern "C" {
  * in units of the samples. `colours` has a byte for each segment, bits 0 to 2 its channels; `coords` the x and y of each segment's start in pixel
  * units; `ends` for each contour the number of segments up to its end.
  *
- * Answers 0 and writes the stencil, the samples of flagged texels, and how many cells are protected and how many have an error. Otherwise it answers
- * the number of the first check that fails, writes its place and two zero counts, and leaves samples and stencil as they were:
+ * Answers 0 and writes the stencil, the samples of flagged texels, place 0, and three counts, each of the cells that have one bit: `protected_cells`,
+ * `error_cells` and `corner_cells`. Otherwise it answers the number of the first check that fails, writes its place and three zero counts, and leaves
+ * samples and stencil as they were:
  *
  *   1 channels not 3 or 4
  *   2 width or height outside 1 to 4096
@@ -38,7 +41,7 @@ extern "C" {
  *   8 an end below the one before or above the number of segments (its index), or the last end not that number (ends_len)
  *   9 a colour above 7, or a coordinate NaN, infinite or of size above 1048576 (the segment)
  *
- * There is no further demand on the numbers. Each pointer has to be good for the length beside it (`place`, `protected` and `error` for one), not null and
+ * There is no further demand on the numbers. Each pointer has to be good for the length beside it (`place` and the three counts for one), not null and
  * aligned for its type, also where the length is 0; what is written must overlap nothing else.
  */
 uint8_t rungtwine_error_correction(
@@ -49,7 +52,7 @@ uint8_t rungtwine_error_correction(
     const uint8_t *colours, size_t colours_len,
     const double *coords, size_t coords_len,
     const size_t *ends, size_t ends_len,
-    size_t *place, size_t *protected_cells, size_t *error_cells);
+    size_t *place, size_t *protected_cells, size_t *error_cells, size_t *corner_cells);
 
 /* A part of a bitmap: `length` samples from `samples` on. */
 typedef struct {
@@ -58,10 +61,10 @@ typedef struct {
 } rungtwine_texel;
 
 /*
- * Leaves in `texel` all channels of texel x, y: of `corrected` where bit RUNGTWINE_ERROR of the texel's stencil cell is set, otherwise of `original`,
- * whatever the samples are. It is a part of that bitmap and no copy: `samples` points at the bitmap's sample (y * width + x) * channels, and `length`
- * is `channels`. Where one of the checks 1 to 4 above fails for either bitmap, or x >= width, or y >= height, it is an empty part of `original`:
- * `samples` is `original` and `length` is 0.
+ * Leaves in `texel` all channels of texel x, y: of `corrected` where bit RUNGTWINE_ERROR of the texel's stencil cell is set, whatever else is set there,
+ * otherwise of `original`, whatever the samples are. It is a part of that bitmap and no copy: `samples` points at the bitmap's sample
+ * (y * width + x) * channels, and `length` is `channels`. Where one of the checks 1 to 4 above fails for either bitmap, or x >= width, or y >= height,
+ * it is an empty part of `original`: `samples` is `original` and `length` is 0.
  *
  * There is no further demand on the numbers. Each pointer has to be good for the length beside it (`texel` for one), not null and aligned for its type,
  * also where the length is 0; the two bitmaps may be one. `texel` overlaps nothing else and holds a part before the call, such as { original, 0 },

@@ -33,6 +33,7 @@ pub mod raw {
             place: *mut usize,
             protected: *mut usize,
             error: *mut usize,
+            corner: *mut usize,
         ) -> u8;
 
         pub fn rungtwine_texel_view(
@@ -53,6 +54,12 @@ pub mod raw {
         pub fn rungtwine_texel_channel(red: f32, green: f32, blue: f32) -> usize;
     }
 }
+
+/// Bits of a stencil cell. CORNER stands beside PROTECTED on the texels that a corner protects in EdgePriority, also where an edge protects them too;
+/// it is never there without PROTECTED, and in no other mode.
+pub const ERROR: u8 = 1;
+pub const PROTECTED: u8 = 2;
+pub const CORNER: u8 = 4;
 
 #[derive(Clone, Copy, PartialEq, Eq, Debug)]
 #[repr(u8)]
@@ -80,11 +87,12 @@ pub struct Outlines<'a> {
     pub ends: &'a [usize],
 }
 
-/// How many stencil cells are protected, and how many have an error.
+/// How many stencil cells have each bit: are protected, have an error, are protected by a corner.
 #[derive(Clone, Copy, PartialEq, Eq, Debug)]
 pub struct Counts {
     pub protected: usize,
     pub error: usize,
+    pub corner: usize,
 }
 
 /// The bitmap that a view is a part of.
@@ -110,7 +118,7 @@ pub fn error_correction(
     settings: Settings,
     outlines: Outlines,
 ) -> Result<Counts, Refusal> {
-    let (mut place, mut protected, mut error) = (0, 0, 0);
+    let (mut place, mut protected, mut error, mut corner) = (0, 0, 0, 0);
     // Every pointer comes from a slice with its own length or from a local, the mutable ones overlap nothing, and the function demands nothing else.
     let number = unsafe {
         raw::rungtwine_error_correction(
@@ -135,12 +143,13 @@ pub fn error_correction(
             &mut place,
             &mut protected,
             &mut error,
+            &mut corner,
         )
     };
-    if number == 0 { Ok(Counts { protected, error }) } else { Err(Refusal { number, place }) }
+    if number == 0 { Ok(Counts { protected, error, corner }) } else { Err(Refusal { number, place }) }
 }
 
-/// All channels of texel x, y, lent from `corrected` where its cell of `stencil` has an error and from `original` otherwise.
+/// All channels of texel x, y, lent from `corrected` where its cell of `stencil` has the bit ERROR, whatever else is set, and from `original` otherwise.
 /// An empty part of `original` where a bitmap or the stencil does not have that size, or the texel lies outside.
 pub fn texel_view<'a>(
     (width, height, channels): (usize, usize, usize),
