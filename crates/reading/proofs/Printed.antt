@@ -13,7 +13,7 @@ use Rattle.ground.specs.Refuse.{firstFailing}
 use Rattle.inputs.specs.Checks.{Input, accepted, refusalNumber, refusalPlace, placeOf, outlinePlace, badChannels}
 use Rattle.correction.specs.Bitmap.{cellTexel}
 use Rattle.correction.specs.Pass.{answer, passStencil}
-use Rattle.inputs.specs.Stencil.{protectedCount, errorCount, countsOf}
+use Rattle.inputs.specs.Stencil.{countsOf}
 use Rattle.correction.specs.declared.pass.Answer.the-variants.{Accepted, Refused}
 use Rattle.reading.specs.Answer.{caseOf, answerText, printed}
 use Rattle.reading.specs.Case.{rowSamples, samplesOf}
@@ -22,9 +22,9 @@ use Rattle.reading.specs.Text.{badText, refusedText}
 use Rattle.reading.proofs.run.Answered.{sized, stencil-length}
 use Rattle.reading.proofs.decode.Decoded.{row-length}
 use Rattle.reading.proofs.Laws.Bounds.{breach-short, breach-le, refusal-number-le, refusal-place-le, ends-le, colours-le}
-use Rattle.inputs.proofs.Laws.Stencil.{protected-le, error-le}
+use Rattle.inputs.proofs.Laws.Stencil.{protected-le, error-le, corner-le}
 use Rattle.reading.proofs.fields.Layouts.{breach-small, samples-by-rows}
-use Rattle.reading.proofs.text.Lengths.{bad-length, refused-length, accepted-length}
+use Rattle.reading.proofs.text.Lengths.{bad-length, refused-length, counts-length, accepted-length}
 
 -- a breach is printed
 pub printed-bad : (s : List ℕ) → (breach s ≡ 65537 → ⊥) → badText (breach s) ≡ printed s
@@ -65,9 +65,9 @@ accepted-fits i a l =
     let z = sized i a in
     let st = passStencil i in
     let m : i .width * i .height ≤ 4096 = omega (arith, z .samples, mul-le-mul-left (i .width * i .height) (z .deep)) in
-    let p : protectedCount st ≤ 4096 = omega (arith, protected-le st, stencil-length i a) in
-    let e : errorCount st ≤ 4096 = omega (arith, error-le st, stencil-length i a) in
-    omega (arith, accepted-length (i .width) (i .height) (i .channels) (protectedCount st) (errorCount st) st (cellTexel (i .samples) (i .channels)) (omega (arith, z .narrow)) (omega (arith, z .high)) (omega (arith, z .shallow)) (omega arith) (omega arith) (omega arith), z .high)
+    let n : length st ≤ 4096 = omega (arith, stencil-length i a) in
+    let c = counts-length (countsOf st) (omega (arith, protected-le st)) (omega (arith, error-le st)) (omega (arith, corner-le st)) in
+    omega (arith, accepted-length (i .width) (i .height) (i .channels) (countsOf st) st (cellTexel (i .samples) (i .channels)) (omega (arith, z .narrow)) (omega (arith, z .high)) (omega (arith, z .shallow)) c (omega arith), z .high)
 
 -- a refused one: its check is one of nine, and its place at most 12,288
 refused-fits : (i : Input) → length (i .samples) ≤ 12288 → length (i .ends) ≤ 12288 → length (i .colours) ≤ 12288 → length (answerText i (Refused (refusalNumber i) (refusalPlace i))) ≤ 131072

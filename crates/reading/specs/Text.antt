@@ -6,7 +6,8 @@ use lib.ListN.{getD}
 use lib.Dec.{ltb}
 use lib.Ieee.{Float, binary32, toBits}
 use Rattle.ground.specs.Lists.{joined, tab}
-use Rattle.inputs.specs.Stencil.{isProtected, isError}
+use Rattle.inputs.specs.Stencil.{hasCorner, isProtected, isError}
+use Rattle.inputs.specs.declared.stencil.Counts.{Counts}
 use Rattle.numbers.specs.declared.scalar.Middle.{Middle}
 use Rattle.detectors.specs.Texel.{texelMiddle}
 use Rattle.reading.specs.Decimal.{decimal}
@@ -44,13 +45,15 @@ refusedText n place = (114 ∷ 101 ∷ 102 ∷ 117 ∷ 115 ∷ 101 ∷ 100 ∷ 3
 unfoldable pub sizeText : ℕ → ℕ → ℕ → List ℕ
 sizeText w h ch = (115 ∷ 105 ∷ 122 ∷ 101 ∷ 32 ∷ []) ++ (numbered w 32 ++ (numbered h 32 ++ numbered ch 10))
 
--- `protected P error E`
-unfoldable pub countsText : ℕ → ℕ → List ℕ
-countsText p e = (112 ∷ 114 ∷ 111 ∷ 116 ∷ 101 ∷ 99 ∷ 116 ∷ 101 ∷ 100 ∷ 32 ∷ []) ++ (numbered p 32 ++ ((101 ∷ 114 ∷ 114 ∷ 111 ∷ 114 ∷ 32 ∷ []) ++ numbered e 10))
+-- `protected P error E corner K`
+unfoldable pub countsText : Counts → List ℕ
+countsText c =
+    (112 ∷ 114 ∷ 111 ∷ 116 ∷ 101 ∷ 99 ∷ 116 ∷ 101 ∷ 100 ∷ 32 ∷ []) ++ (numbered (c .protected) 32
+    ++ ((101 ∷ 114 ∷ 114 ∷ 111 ∷ 114 ∷ 32 ∷ []) ++ (numbered (c .error) 32 ++ ((99 ∷ 111 ∷ 114 ∷ 110 ∷ 101 ∷ 114 ∷ 32 ∷ []) ++ numbered (c .corner) 10))))
 
--- a cell's mark: `.` none, `P`, `E`, `B` both
+-- a cell's mark: `C` corner, `D` corner with error; without a corner `.` none, `P`, `E`, `B` both
 unfoldable pub mark : ℕ → ℕ
-mark v = cond (isProtected v) (cond (isError v) 66 80) (cond (isError v) 69 46)
+mark v = cond (hasCorner v) (cond (isError v) 68 67) (cond (isProtected v) (cond (isError v) 66 80) (cond (isError v) 69 46))
 
 -- the marks of w cells from one on
 unfoldable pub marksText : ℕ → List ℕ → ℕ → List ℕ
@@ -72,6 +75,6 @@ unfoldable pub flaggedText : ℕ → List ℕ → (ℕ → List Float) → ℕ �
 flaggedText w st texels k = cond (isError (getD st k 0)) (texelText (k % w) (k / w) (texelMiddle (texels k))) []
 
 -- the size, the counts, the rows, then each flagged texel, row by row
-unfoldable pub acceptedText : ℕ → ℕ → ℕ → ℕ → ℕ → List ℕ → (ℕ → List Float) → List ℕ
-acceptedText w h ch p e st texels =
-    sizeText w h ch ++ (countsText p e ++ (rowsText w h st ++ joined (w * h) (flaggedText w st texels)))
+unfoldable pub acceptedText : ℕ → ℕ → ℕ → Counts → List ℕ → (ℕ → List Float) → List ℕ
+acceptedText w h ch c st texels =
+    sizeText w h ch ++ (countsText c ++ (rowsText w h st ++ joined (w * h) (flaggedText w st texels)))

@@ -107,6 +107,12 @@ fn put_hex(out: &mut [u8], at: usize, v: u32) -> usize
 fn mark(v: u8) -> u8
     ensures { λ r. ⌜ r ≡ Text.mark v ⌝ }
 {
+    if stencil::has_corner(v) {
+        if stencil::is_error(v) {
+            return 68;
+        }
+        return 67;
+    }
     if stencil::is_protected(v) {
         if stencil::is_error(v) {
             return 66;
@@ -155,13 +161,14 @@ fn put_size(out: &mut [u8], at: usize, b: Bitmap) -> usize
     put_number(out, c, b.channels, 10)
 }
 
-// `protected P error E`
+// `protected P error E corner K`
 fn put_counts(out: &mut [u8], at: usize, c: Counts) -> usize
-    requires { ⌜ at + 58 ≤ length (now out) ⌝ }
-    ensures { λ r. ⌜ Written (now (out .entry)) at (Text.countsText (c .protected) (c .error)) r (now (out .exit)) ⌝ }
+    requires { ⌜ at + 86 ≤ length (now out) ⌝ }
+    ensures { λ r. ⌜ Written (now (out .entry)) at (Text.countsText c) r (now (out .exit)) ⌝ }
 {
     let a = put_named(out, at, b"protected ", c.protected, 32);
-    put_named(out, a, b"error ", c.error, 10)
+    let b = put_named(out, a, b"error ", c.error, 32);
+    put_named(out, b, b"corner ", c.corner, 10)
 }
 
 fn put_marks(out: &mut [u8], at: usize, st: &[u8], from: usize, w: usize) -> usize
@@ -245,7 +252,7 @@ fn put_texels(out: &mut [u8], at: usize, st: &[u8], xs: &[f32], b: Bitmap) -> us
 pub fn put_accepted(out: &mut [u8], b: Bitmap, c: Counts, st: &[u8], xs: &[f32]) -> usize
     requires { ⌜ (0 < b .width) × (3 ≤ b .channels) × (b .height ≤ 4096) × (b .width * b .height ≤ 4096) ⌝ }
     requires { ⌜ (b .width * b .height ≤ length (now st)) × (b .width * b .height * b .channels ≤ length (now xs)) × (131072 ≤ length (now out)) ⌝ }
-    ensures { λ r. ⌜ Written (now (out .entry)) 0 (Text.acceptedText (b .width) (b .height) (b .channels) (c .protected) (c .error) (now (st .entry)) (cellTexel (now (xs .entry)) (b .channels))) r (now (out .exit)) ⌝ }
+    ensures { λ r. ⌜ Written (now (out .entry)) 0 (Text.acceptedText (b .width) (b .height) (b .channels) c (now (st .entry)) (cellTexel (now (xs .entry)) (b .channels))) r (now (out .exit)) ⌝ }
 {
     let counts = put_size(out, 0, b);
     let rows = put_counts(out, counts, c);

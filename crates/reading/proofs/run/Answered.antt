@@ -1,18 +1,18 @@
 -- What an accepted case leaves in the stencil, and the samples that it was given, are what is printed of it. Assumes nothing.
 use mathlib.Core.Bool.{Bool, true, false, cond}
 use mathlib.Core.List.{List}
-use mathlib.Core.Path.{_≡_, refl, ap, _∙_}
+use mathlib.Core.Path.{_≡_, refl, sym, ap, _∙_}
 use Prim.Native.Nat.{ℕ, _*_, _≤_, _<_}
 use native.Mathlib.Nat.{mul-le-mul-left}
 use native.Mathlib.Omega.{arith}
 use lib.Ieee.{Float}
 use lib.ListN.{length}
 use borrow.Author.Tests.{eqb-true}
-use Rattle.ground.proofs.Laws.Fill.{tab-length}
 use Rattle.inputs.specs.Checks.{Input, refusalNumber, accepted}
 use Rattle.inputs.proofs.Laws.Checks.{sizes, passed}
 use Rattle.correction.specs.Bitmap.{cellTexel}
-use Rattle.correction.specs.Pass.{byteAt, passStencil, answer, stencilAfter}
+use Rattle.correction.specs.Pass.{passStencil, answer, stencilAfter}
+use Rattle.correction.proofs.Laws.Leaves as Leaves
 use Rattle.correction.specs.declared.pass.Answer.the-variants.{Accepted, Refused}
 use Rattle.inputs.specs.declared.stencil.Counts.{Counts}
 use Rattle.reading.specs.Answer.{answerText}
@@ -55,13 +55,12 @@ module _ (i : Input) (a : accepted i ≡ true) where
 
   -- and how long that is
   pub stencil-length : length (passStencil i) ≡ i .width * i .height
-  unfolding passStencil
-  stencil-length = tab-length (i .width * i .height) (byteAt i)
+  stencil-length = ap length (sym stencil-left) ∙ Leaves.stencil-length i a
 
 -- ---- the text
 
 -- what is printed from the stencil that an accepted pass leaves and the samples that it was given
-pub accepted-text : (i : Input) (c : Counts) (st : List ℕ) (xs : List Float) → Accepted c ≡ answer i → st ≡ stencilAfter i → xs ≡ i .samples → acceptedText (i .width) (i .height) (i .channels) (c .protected) (c .error) st (cellTexel xs (i .channels)) ≡ answerText i (answer i)
+pub accepted-text : (i : Input) (c : Counts) (st : List ℕ) (xs : List Float) → Accepted c ≡ answer i → st ≡ stencilAfter i → xs ≡ i .samples → acceptedText (i .width) (i .height) (i .channels) c st (cellTexel xs (i .channels)) ≡ answerText i (answer i)
 unfolding answerText
 accepted-text i c st xs e p q = rw (p, q, stencil-left i (was-accepted i c e)) (ap (answerText i) e)
 

@@ -13,6 +13,7 @@ use Rattle.ground.proofs.Laws.Join.{joined-length}
 use Rattle.numbers.specs.declared.scalar.Middle.{Middle}
 use Rattle.detectors.specs.Texel.{texelMiddle}
 use Rattle.detectors.proofs.Laws.Texel.{texel-channel-below}
+use Rattle.inputs.specs.declared.stencil.Counts.{Counts}
 use Rattle.inputs.specs.Stencil.{isError}
 use Rattle.reading.specs.Text.{hexPair, hex, numbered, badText, refusedText, sizeText, countsText, marksText, rowText, rowsText, texelText, flaggedText, acceptedText}
 use Rattle.reading.proofs.Laws.Decimal.{decimal-length, decimal-length-u64}
@@ -74,9 +75,9 @@ unfolding sizeText
 size-length w h ch p q r = simp length-append (omega (arith, numbered-length w 32 p, numbered-length h 32 q, numbered-length ch 10 r))
 
 -- the counts line
-pub counts-length : (p e : ℕ) → p < 2 ^ 64 → e < 2 ^ 64 → length (countsText p e) ≤ 58
+pub counts-length : (c : Counts) → c .protected < 2 ^ 64 → c .error < 2 ^ 64 → c .corner < 2 ^ 64 → length (countsText c) ≤ 86
 unfolding countsText
-counts-length p e l m = simp length-append (omega (arith, numbered-length p 32 l, numbered-length e 10 m))
+counts-length c l m n = simp length-append (omega (arith, numbered-length (c .protected) 32 l, numbered-length (c .error) 32 m, numbered-length (c .corner) 10 n))
 
 -- all rows
 pub rows-length : (w h : ℕ) (st : List ℕ) → length (rowsText w h st) ≤ w * h + h
@@ -98,8 +99,8 @@ pub texels-length : (n w : ℕ) (st : List ℕ) (texels : ℕ → List Float) �
 texels-length n w st texels l = joined-length n 26 (flaggedText w st texels) (λ k p. flagged-length w st texels k (omega arith))
 
 -- an accepted pass
-pub accepted-length : (w h ch p e : ℕ) (st : List ℕ) (texels : ℕ → List Float) → w < 2 ^ 64 → h < 2 ^ 64 → ch < 2 ^ 64 → p < 2 ^ 64 → e < 2 ^ 64 → w * h ≤ 100000 → length (acceptedText w h ch p e st texels) ≤ 126 + (w * h + h) + 26 * (w * h)
+pub accepted-length : (w h ch : ℕ) (n : Counts) (st : List ℕ) (texels : ℕ → List Float) → w < 2 ^ 64 → h < 2 ^ 64 → ch < 2 ^ 64 → length (countsText n) ≤ 86 → w * h ≤ 100000 → length (acceptedText w h ch n st texels) ≤ 154 + (w * h + h) + 26 * (w * h)
 unfolding acceptedText
-accepted-length w h ch p e st texels a b c d f l =
+accepted-length w h ch n st texels a b c d l =
     simp length-append
-    (omega (arith, size-length w h ch a b c, counts-length p e d f, rows-length w h st, texels-length (w * h) w st texels l))
+    (omega (arith, size-length w h ch a b c, d, rows-length w h st, texels-length (w * h) w st texels l))

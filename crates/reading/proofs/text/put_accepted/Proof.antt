@@ -26,10 +26,10 @@ size-room c =
     let b = start c .args .b in
     written-room 68 131004 (c .put-size .ensures) (size-length (b .width) (b .height) (b .channels) (omega arith) (omega arith) (omega arith)) (omega arith)
 
-counts-room : (c : tie.After-put-counts) → c .put-counts .result + 130946 ≤ length (c .put-counts .last .0)
+counts-room : (c : tie.After-put-counts) → c .put-counts .result + 130918 ≤ length (c .put-counts .last .0)
 counts-room c =
     let n = start (sized c) .args .c in
-    written-room 58 130946 (c .put-counts .ensures) (counts-length (n .protected) (n .error) (omega arith) (omega arith)) (omega (arith, size-room (sized c)))
+    written-room 86 130918 (c .put-counts .ensures) (counts-length n (omega arith) (omega arith) (omega arith)) (omega (arith, size-room (sized c)))
 
 -- ---- the needs
 
