@@ -19,3 +19,12 @@ pub fn drive<const N: usize>(
     ec.apply(output);
     ec.stencil
 }
+
+// The corners' step alone, on an empty stencil: the original does not keep what a corner protected apart from what an edge did.
+pub fn drive_corners(width: usize, height: usize, shape: &Shape, transformation: &SdfTransformation, config: &MsdfGeneratorConfig) -> Vec<u8> {
+    let mut ec = MsdfErrorCorrection::new(width, height, transformation, config);
+    if config.error_correction.mode == ErrorCorrectionMode::EdgePriority {
+        ec.protect_corners(shape);
+    }
+    ec.stencil
+}

@@ -199,7 +199,7 @@ pub mod distance {
 }
 
 use bitmap::Bitmap;
-use correction::{drive, msdf_error_correction};
+use correction::{drive, drive_corners, msdf_error_correction};
 use generator::config::{DistanceCheckMode, ErrorCorrectionConfig, ErrorCorrectionMode, MsdfGeneratorConfig};
 use generator::projection::{DistanceMapping, Projection, SdfTransformation};
 use geometry::{Contour, EdgeColor, Segment, Shape};
@@ -259,9 +259,15 @@ pub fn correct<const N: usize>(bitmap: &mut Bitmap<f32, N>, task: &Task) {
     msdf_error_correction(bitmap, &task.shape, &task.transformation, &task.config);
 }
 
-/// The samples afterwards in place, and the stencil (none for Disabled, where the original makes none).
+/// What the original leaves in its stencil: the whole pass, and its corners alone, which only EdgePriority asks.
+pub struct Stencils {
+    pub whole: Vec<u8>,
+    pub corners: Vec<u8>,
+}
+
+/// The samples afterwards in place, and the stencils (none for Disabled, where the original makes none).
 /// The entry itself is run as well, and its samples have to be those of the driven pass.
-fn correct_and_read<const N: usize>(width: usize, height: usize, samples: &mut [f32], task: &Task) -> Option<Vec<u8>> {
+fn correct_and_read<const N: usize>(width: usize, height: usize, samples: &mut [f32], task: &Task) -> Option<Stencils> {
     let mut entered = bitmap_of::<N>(width, height, samples);
     correct(&mut entered, task);
     if task.config.error_correction.mode == ErrorCorrectionMode::Disabled {
@@ -269,15 +275,16 @@ fn correct_and_read<const N: usize>(width: usize, height: usize, samples: &mut [
         return None;
     }
     let mut driven = bitmap_of::<N>(width, height, samples);
-    let stencil = drive(&mut driven, &task.shape, &task.transformation, &task.config);
+    let whole = drive(&mut driven, &task.shape, &task.transformation, &task.config);
+    let corners = drive_corners(width, height, &task.shape, &task.transformation, &task.config);
     let bits = |b: &Bitmap<f32, N>| b.data().iter().map(|v| v.to_bits()).collect::<Vec<_>>();
     assert!(bits(&entered) == bits(&driven), "the driven pass differs from the original's entry");
     samples.copy_from_slice(driven.data());
-    Some(stencil)
+    Some(Stencils { whole, corners })
 }
 
 /// The original's answer for 3 or 4 channels.
-pub fn answer(width: usize, height: usize, channels: usize, samples: &mut [f32], task: &Task) -> Option<Vec<u8>> {
+pub fn answer(width: usize, height: usize, channels: usize, samples: &mut [f32], task: &Task) -> Option<Stencils> {
     match channels {
         3 => correct_and_read::<3>(width, height, samples, task),
         4 => correct_and_read::<4>(width, height, samples, task),

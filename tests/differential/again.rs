@@ -1,8 +1,9 @@
 //! The result of an accepted pass as the input of the next: it is accepted again, with the same settings and with others, and every side agrees on it.
-//! A result that was spoilt on purpose is refused, so that the trial can fail.
+//! Outlines decide about corners alone: with the same settings the next pass has the same corner cells. A result that was spoilt on purpose is refused,
+//! so that the trial can fail.
 
 use crate::cases::{accepted, Case};
-use crate::judge::Seen;
+use crate::judge::{Seen, CORNER};
 use crate::rng::Rng;
 use crate::shrink;
 use crate::sides::{compare, Totals};
@@ -20,16 +21,22 @@ fn fed_back(case: &Case, samples: Vec<f32>, stencil: Vec<u8>, other: Option<&Cas
     next
 }
 
-/// Runs the case and twice what it leaves; answers how many texels the later passes flagged.
+/// Runs the case and twice what it leaves, the first time with the same settings; answers how many texels the later passes flagged.
 fn rounds(rng: &mut Rng, first: Case, totals: &mut Totals) -> Result<u64, String> {
     let seen = &mut Seen::new();
     let mut case = first;
     let mut later = 0;
+    let mut before = Vec::new();
     for turn in 0..3 {
         let left = compare(&case, seen, totals)?;
         if left.answer.refusal != 0 {
             return Err(format!("turn {turn} is refused: {} at {}\n{}", left.answer.refusal, left.answer.place, shrink::text(&case)));
         }
+        let corners: Vec<u8> = left.stencil.iter().map(|cell| cell & CORNER).collect();
+        if turn == 1 && corners != before {
+            return Err(format!("the same settings give other corner cells\n{}", shrink::text(&case)));
+        }
+        before = corners;
         if turn > 0 {
             later += left.answer.error as u64;
         }
@@ -60,6 +67,6 @@ pub fn run(count: u64, seed: u64) -> bool {
     let mut spoilt = accepted(&mut Rng::new(seed, 0));
     spoilt.samples[0] = f32::from_bits(1_048_576.0f32.to_bits() + 1);
     let can_fail = rounds(&mut Rng::new(seed, 0), spoilt, &mut totals).is_err();
-    println!("fed back, seed {seed}: {count} cases, {at_limit} of them with a sample at the limit, {} passes, {later} texels flagged by later ones, {wrong} refused or different", totals.cases);
-    wrong == 0 && can_fail && (count < 1000 || (later > 0 && at_limit > 0))
+    println!("fed back, seed {seed}: {count} cases, {at_limit} of them with a sample at the limit, {} passes, {later} texels flagged by later ones, {} corner cells, {wrong} refused or different", totals.cases, totals.corner);
+    wrong == 0 && can_fail && (count < 1000 || (later > 0 && at_limit > 0 && totals.corner > 0))
 }

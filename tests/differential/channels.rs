@@ -1,7 +1,8 @@
-//! Bitmaps stored in each order of the first three channels: a texel that two of them flag gets the same bits in both.
+//! Bitmaps stored in each order of the first three channels: a texel that two of them flag gets the same bits in both, and the corner cells are the same.
 //! Which texels are flagged may differ. How many such texels a rule without an order of zeros would have told apart is counted, so that the trial can fail.
 
 use crate::cases::{accepted, glyph_case, Case};
+use crate::judge::{CORNER, ERROR};
 use crate::rng::Rng;
 use crate::shrink;
 use crate::sides::by_pass;
@@ -15,6 +16,7 @@ struct Count {
     one: u64,
     zeros: u64,
     told_apart: u64,
+    corners: u64,
 }
 
 fn rewired(case: &Case, order: [usize; 3]) -> Case {
@@ -43,8 +45,12 @@ fn hold(case: &Case, order: [usize; 3], count: &mut Count) -> Result<(), String>
     let n = case.input.channels;
     for k in 0..a.stencil.len() {
         let texel = k * n..k * n + 3;
-        match (a.stencil[k] & 1, b.stencil[k] & 1) {
-            (1, 1) => {
+        if a.stencil[k] & CORNER != b.stencil[k] & CORNER {
+            return Err(format!("order {order:?}, cell {k}: {} and {}", a.stencil[k], b.stencil[k]));
+        }
+        count.corners += u64::from(a.stencil[k] & CORNER != 0);
+        match (a.stencil[k] & ERROR != 0, b.stencil[k] & ERROR != 0) {
+            (true, true) => {
                 let (x, y) = (&a.samples[texel.clone()], &b.samples[texel.clone()]);
                 if x.iter().zip(y).any(|(v, w)| v.to_bits() != w.to_bits()) {
                     return Err(format!("order {order:?}, texel {k}: {x:?} and {y:?}"));
@@ -53,7 +59,7 @@ fn hold(case: &Case, order: [usize; 3], count: &mut Count) -> Result<(), String>
                 count.zeros += u64::from(x[0] == 0.0);
                 count.told_apart += u64::from(unordered(&case.samples[texel.clone()]).to_bits() != unordered(&other.samples[texel]).to_bits());
             }
-            (0, 0) => {}
+            (false, false) => {}
             _ => count.one += 1,
         }
     }
@@ -83,8 +89,8 @@ pub fn run(number: u64, seed: u64) -> bool {
         }
     }
     println!(
-        "channels stored in another order, seed {seed}: {number} bitmaps in six orders, {} texels flagged in two of them, {} in one of two, {} collapsed to a zero, {} that need the order of zeros, {wrong} differ",
-        count.both, count.one, count.zeros, count.told_apart
+        "channels stored in another order, seed {seed}: {number} bitmaps in six orders, {} texels flagged in two of them, {} in one of two, {} collapsed to a zero, {} that need the order of zeros, {} corner cells, {wrong} differ",
+        count.both, count.one, count.zeros, count.told_apart, count.corners
     );
-    wrong == 0 && (number < 1000 || (count.one > 0 && count.told_apart > 0))
+    wrong == 0 && (number < 1000 || (count.one > 0 && count.told_apart > 0 && count.corners > 0))
 }

@@ -23,7 +23,31 @@ fn figure(width: usize, height: usize, mode: u8, length: f64, samples: &[f32]) -
     }
 }
 
-/// The scope document's figures over bitmaps, case P first, and the two points below them, and zeros.
+/// With a contour of two segments, the first with its start at this point and the second far outside.
+fn outlined(mut case: Case, colours: [u8; 2], x: f64, y: f64) -> Case {
+    case.input.colours = colours.to_vec();
+    case.input.coords = vec![x, y, -9.0, -9.0];
+    case.input.ends = vec![2];
+    case
+}
+
+/// What a corner, an edge and both protect, side by side and in each mode; and corners on texels that stay flagged and that they save.
+pub fn corner_figures() -> Vec<Case> {
+    let p = [1.0, 0.0, 0.75, 0.0, 1.0, 0.75];
+    let c2 = [1.0, 0.625, 0.75, 0.625, 1.0, 0.75];
+    // An edge crosses between texels 0 and 1, a corner stands between 1 and 2, and nothing protects 3.
+    let side_by_side = [0.75, 0.25, 0.625, 0.25, 0.75, 0.375, 0.0, 0.0, 0.0, 0.0, 0.0, 0.0];
+    let mut list: Vec<Case> = [2, 3, 1, 0].map(|mode| outlined(figure(4, 1, mode, 0.25, &side_by_side), [3, 6], 2.0, 0.5)).to_vec();
+    // A figure that no protection saves, and one that any does.
+    for (length, samples) in [(0.25, p), (0.0625, c2)] {
+        for x in [0.0, 1.0] {
+            list.push(outlined(figure(2, 1, 2, length, &samples), [3, 6], x, 0.5));
+        }
+    }
+    list
+}
+
+/// The scope document's figures over bitmaps, case P first, and the two points below them, corners beside edges, and zeros.
 fn figures() -> Vec<Case> {
     let p = [1.0, 0.0, 0.75, 0.0, 1.0, 0.75];
     let c2 = [1.0, 0.625, 0.75, 0.625, 1.0, 0.75];
@@ -42,12 +66,9 @@ fn figures() -> Vec<Case> {
         figure(0, 1, 1, 0.25, &[]),
     ];
     for (colours, x) in [([3, 6], 0.0), ([7, 3], 0.0), ([3, 6], 2.5)] {
-        let mut c = figure(2, 2, 2, 0.0, &[0.25; 12]);
-        c.input.colours = colours.to_vec();
-        c.input.coords = vec![x, 0.0, -9.0, -9.0];
-        c.input.ends = vec![2];
-        list.push(c);
+        list.push(outlined(figure(2, 2, 2, 0.0, &[0.25; 12]), colours, x, 0.0));
     }
+    list.extend(corner_figures());
     // Zeros of both signs, whose median's sign the original leaves open: +0 below 5 and -0 above -5, in each order of the channels.
     for [a, b, c] in [[0, 1, 2], [0, 2, 1], [1, 0, 2], [1, 2, 0], [2, 0, 1], [2, 1, 0]] {
         for (t, n) in [([-0.0, 0.0, 5.0], [0.0, 0.25, 0.0]), ([-0.0, 0.0, -5.0], [0.0, -0.25, 0.0])] {
@@ -90,7 +111,7 @@ fn put_case(out: &mut Vec<u8>, case: &Case, outcome: &Outcome) {
     }
     let a = outcome.answer;
     out.push(a.refusal);
-    for v in [a.place, a.protected, a.error] {
+    for v in [a.place, a.protected, a.error, a.corner] {
         put64(out, v);
     }
     for v in &outcome.samples {
@@ -136,7 +157,7 @@ impl Reader<'_> {
         let coords = (0..k).map(|_| self.f64()).collect();
         let k = self.size();
         let ends = (0..k).map(|_| self.size()).collect();
-        let answer = Answer { refusal: self.byte(), place: self.size(), protected: self.size(), error: self.size() };
+        let answer = Answer { refusal: self.byte(), place: self.size(), protected: self.size(), error: self.size(), corner: self.size() };
         let outcome = Outcome { answer, samples: self.samples(n), stencil: self.take(m).to_vec() };
         let input = Input { width, height, channels, mode, ratio, lengths, colours, coords, ends };
         (Case { kind: "fixed list", input, samples, stencil }, outcome)

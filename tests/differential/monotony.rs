@@ -1,8 +1,10 @@
 //! Demand 3, tried: over pairs of accepted passes on the same samples, the second stricter than the first, no texel is flagged by the second alone;
 //! and with the relation broken in any one way some are, so that the trial can fail.
+//! The same for corners: over pairs of EdgePriority passes, the second with every outline of the first in its order, each cell that a corner of the first
+//! protects a corner of the second protects too.
 
 use crate::cases::{accepted, contour, contours_of, set_contours, Case};
-use crate::judge::{Seen, ERROR, LIMIT};
+use crate::judge::{Input, Seen, CORNER, ERROR, LIMIT};
 use crate::rng::Rng;
 use crate::shrink;
 use crate::sides::{by_judge, by_pass, Outcome};
@@ -25,6 +27,17 @@ fn larger(rng: &mut Rng, v: f64) -> f64 {
     if v <= up && up <= LIMIT { up } else { v }
 }
 
+/// Puts up to three contours between those that are there, `least` at least.
+fn add_contours(rng: &mut Rng, input: &mut Input, least: usize) {
+    let mut contours = contours_of(input);
+    for _ in 0..least.max(rng.below(4)) {
+        let at = rng.below(contours.len() + 1);
+        let extra = contour(rng, input.width, input.height);
+        contours.insert(at, extra);
+    }
+    set_contours(input, &contours);
+}
+
 fn stricter(rng: &mut Rng, first: &Case) -> Case {
     let mut second = first.clone();
     let input = &mut second.input;
@@ -33,13 +46,7 @@ fn stricter(rng: &mut Rng, first: &Case) -> Case {
     for k in 0..3 {
         input.lengths[k] = larger(rng, input.lengths[k]);
     }
-    let mut contours = contours_of(input);
-    for _ in 0..rng.below(4) {
-        let at = rng.below(contours.len() + 1);
-        let extra = contour(rng, first.input.width, first.input.height);
-        contours.insert(at, extra);
-    }
-    set_contours(input, &contours);
+    add_contours(rng, input, 0);
     second
 }
 
@@ -125,7 +132,79 @@ fn broken(rng: &mut Rng, first: &mut Case, how: usize) -> Case {
     second
 }
 
-pub fn run(count: u64, seed: u64) -> bool {
+/// How many cells a corner of the first protects and none of the second does, at the side that finds most.
+fn lost(first: &Case, second: &Case) -> usize {
+    let lost = |a: &Outcome, b: &Outcome| a.stencil.iter().zip(&b.stencil).filter(|(a, b)| *a & CORNER != 0 && *b & CORNER == 0).count();
+    let (a, b) = (answers(first), answers(second));
+    lost(&a[0], &b[0]).max(lost(&a[1], &b[1]))
+}
+
+/// A case in EdgePriority with an outline at least.
+fn outlined(rng: &mut Rng) -> Case {
+    let mut case = sensitive(rng);
+    case.input.mode = 2;
+    add_contours(rng, &mut case.input, 1);
+    case
+}
+
+/// A pass over a bitmap of the same size with every outline of the first; what else is given does not matter to corners, and is another's.
+fn with_more(rng: &mut Rng, first: &Case) -> Case {
+    let mut second = first.clone();
+    let other = sensitive(rng);
+    second.samples.reverse();
+    second.input.ratio = other.input.ratio;
+    second.input.lengths = other.input.lengths;
+    add_contours(rng, &mut second.input, 0);
+    second
+}
+
+const CORNER_BREAKS: [&str; 3] = ["a dropped contour", "a segment added inside a contour", "EdgePriority, then EdgeOnly"];
+
+/// The first with one part of the corners' relation broken.
+fn corners_broken(rng: &mut Rng, first: &Case, how: usize) -> Case {
+    let mut second = first.clone();
+    let mut contours = contours_of(&first.input);
+    let at = rng.below(contours.len());
+    match how {
+        0 => drop(contours.remove(at)),
+        1 => contours[at].push((7, 0.0, 0.0)),
+        _ => second.input.mode = 3,
+    }
+    set_contours(&mut second.input, &contours);
+    second
+}
+
+fn corners(count: u64, seed: u64) -> bool {
+    let (mut counter, mut cells, mut more) = (0u64, 0u64, 0u64);
+    for at in 0..count {
+        let mut rng = Rng::new(seed ^ 0xC0C0, at);
+        let first = outlined(&mut rng);
+        let second = with_more(&mut rng, &first);
+        if lost(&first, &second) > 0 {
+            counter += 1;
+            if counter <= 3 {
+                println!("a corner's cell is lost (seed {seed} index {at}):\n{}then\n{}", shrink::text(&first), shrink::text(&second));
+            }
+        }
+        cells += by_judge(&first, &mut Seen::new()).answer.corner as u64;
+        more += u64::from(lost(&second, &first) > 0);
+    }
+    println!("corners, seed {seed}: {count} pairs, {cells} cells protected by corners of the first passes, {more} pairs with others in the second, {counter} counterexamples");
+    let mut can_fail = more > 0;
+    for (how, name) in CORNER_BREAKS.iter().enumerate() {
+        let mut pairs = 0u64;
+        for at in 0..count / 2 {
+            let mut rng = Rng::new(seed ^ 0xB0C0, at * 4 + how as u64);
+            let first = outlined(&mut rng);
+            pairs += u64::from(lost(&first, &corners_broken(&mut rng, &first, how)) > 0);
+        }
+        println!("corners' relation broken by {name}: cells lost in {pairs} of {} pairs", count / 2);
+        can_fail &= pairs > 0;
+    }
+    counter == 0 && can_fail
+}
+
+fn flags(count: u64, seed: u64) -> bool {
     let mut counter = 0;
     let (mut flagged, mut fewer) = (0u64, 0u64);
     for at in 0..count {
@@ -160,4 +239,10 @@ pub fn run(count: u64, seed: u64) -> bool {
         can_fail &= texels > 0;
     }
     counter == 0 && can_fail
+}
+
+/// Corners need fewer pairs: what decides about them is in every one.
+pub fn run(count: u64, seed: u64) -> bool {
+    let held = flags(count, seed);
+    corners(count / 8, seed) && held
 }

@@ -2,6 +2,8 @@
 
 use crate::cases::Case;
 use crate::judge::{judge, Answer, Seen};
+#[cfg(oracle)]
+use crate::judge::{CORNER, ERROR, PROTECTED};
 use crate::rungtwine::raw::rungtwine_error_correction;
 
 pub struct Outcome {
@@ -16,14 +18,14 @@ pub fn by_judge(case: &Case, seen: &mut Seen) -> Outcome {
     Outcome { answer, samples, stencil }
 }
 
-/// The original's samples, and its stencil where it makes one; for a case that is accepted.
+/// The original's samples, and its stencils where it makes one; for a case that is accepted.
 #[cfg(oracle)]
-pub fn by_oracle(case: &Case) -> (Vec<f32>, Option<Vec<u8>>) {
+pub fn by_oracle(case: &Case) -> (Vec<f32>, Option<oracle::Stencils>) {
     let i = &case.input;
     let task = oracle::Task::new(i.mode, i.ratio, i.lengths, &i.colours, &i.coords, &i.ends);
     let mut samples = case.samples.clone();
-    let stencil = oracle::answer(i.width, i.height, i.channels, &mut samples, &task);
-    (samples, stencil)
+    let stencils = oracle::answer(i.width, i.height, i.channels, &mut samples, &task);
+    (samples, stencils)
 }
 
 const ROOM: usize = 16;
@@ -39,7 +41,7 @@ pub fn by_pass(case: &Case) -> Result<Outcome, String> {
     let mut stencil = vec![CELL_GUARD; m + 2 * ROOM];
     stencil[ROOM..ROOM + m].copy_from_slice(&case.stencil);
     let unwritten = usize::MAX - 12345;
-    let (mut place, mut protected, mut error) = (unwritten, unwritten, unwritten);
+    let [mut place, mut protected, mut error, mut corner] = [unwritten; 4];
     let refusal = unsafe {
         rungtwine_error_correction(
             i.width,
@@ -63,6 +65,7 @@ pub fn by_pass(case: &Case) -> Result<Outcome, String> {
             &mut place,
             &mut protected,
             &mut error,
+            &mut corner,
         )
     };
     let kept = |v: &&f32| v.to_bits() == SAMPLE_GUARD;
@@ -73,7 +76,7 @@ pub fn by_pass(case: &Case) -> Result<Outcome, String> {
         return Err("wrote beside the stencil".into());
     }
     Ok(Outcome {
-        answer: Answer { refusal, place, protected, error },
+        answer: Answer { refusal, place, protected, error, corner },
         samples: samples[ROOM..ROOM + n].to_vec(),
         stencil: stencil[ROOM..ROOM + m].to_vec(),
     })
@@ -90,6 +93,7 @@ pub struct Totals {
     pub accepted: u64,
     pub texels: u64,
     pub protected: u64,
+    pub corner: u64,
     pub flagged: u64,
     pub refused: [u64; 10],
     pub zero_signs: u64,
@@ -97,22 +101,32 @@ pub struct Totals {
     pub by_pass: u64,
 }
 
+/// The original's flags are our bits 1 and 2, and what its corners alone protect is our bit 4.
 #[cfg(oracle)]
-fn against_oracle(case: &Case, judged: &Outcome, totals: &mut Totals) -> Result<(), String> {
-    let (samples, stencil) = by_oracle(case);
+fn against_stencils(stencils: &oracle::Stencils, judged: &[u8]) -> Result<(), String> {
+    for (k, &cell) in judged.iter().enumerate() {
+        let (whole, corner) = (stencils.whole[k], stencils.corners[k]);
+        if whole != cell & (ERROR | PROTECTED) {
+            return Err(format!("original: cell {k} is {whole}, judged {cell}"));
+        }
+        if (corner & PROTECTED != 0) != (cell & CORNER != 0) {
+            return Err(format!("original: cell {k} is {corner} by corners alone, judged {cell}"));
+        }
+    }
+    Ok(())
+}
+
+#[cfg(oracle)]
+pub fn against_oracle(case: &Case, judged: &Outcome, totals: &mut Totals) -> Result<(), String> {
+    let (samples, stencils) = by_oracle(case);
     totals.by_oracle += 1;
     if case.input.mode == 0 {
-        if stencil.is_some() || bits(&samples) != bits(&case.samples) {
+        if stencils.is_some() || bits(&samples) != bits(&case.samples) {
             return Err("original: Disabled did something".into());
         }
         return Ok(());
     }
-    let stencil = stencil.unwrap();
-    for k in 0..stencil.len() {
-        if stencil[k] != judged.stencil[k] {
-            return Err(format!("original: cell {k} is {}, judged {}", stencil[k], judged.stencil[k]));
-        }
-    }
+    against_stencils(&stencils.unwrap(), &judged.stencil)?;
     for k in 0..samples.len() {
         let (o, j) = (samples[k], judged.samples[k]);
         if o.to_bits() != j.to_bits() {
@@ -126,7 +140,7 @@ fn against_oracle(case: &Case, judged: &Outcome, totals: &mut Totals) -> Result<
     Ok(())
 }
 
-fn against_pass(case: &Case, judged: &Outcome, totals: &mut Totals) -> Result<(), String> {
+pub fn against_pass(case: &Case, judged: &Outcome, totals: &mut Totals) -> Result<(), String> {
     let ours = by_pass(case).map_err(|e| format!("ours: {e}"))?;
     totals.by_pass += 1;
     if ours.answer != judged.answer {
@@ -160,6 +174,7 @@ pub fn compare(case: &Case, seen: &mut Seen, totals: &mut Totals) -> Result<Outc
         totals.accepted += 1;
         totals.texels += judged.stencil.len() as u64;
         totals.protected += a.protected as u64;
+        totals.corner += a.corner as u64;
         totals.flagged += a.error as u64;
         #[cfg(oracle)]
         against_oracle(case, &judged, totals)?;

@@ -7,8 +7,10 @@
 pub const LIMIT: f64 = 1_048_576.0;
 const SIDE_LIMIT: usize = 4096;
 const SEGMENT_LIMIT: usize = 65_536;
-pub const PROTECTED: u8 = 2;
 pub const ERROR: u8 = 1;
+pub const PROTECTED: u8 = 2;
+/// Stands beside PROTECTED where a corner protects.
+pub const CORNER: u8 = 4;
 
 /// What comes in, the two lent slices aside.
 #[derive(Clone, Debug)]
@@ -32,6 +34,7 @@ pub struct Answer {
     pub place: usize,
     pub protected: usize,
     pub error: usize,
+    pub corner: usize,
 }
 
 macro_rules! branches {
@@ -104,6 +107,12 @@ branches! {
     CornerAbove: "corners, cell off the top",
     CornerNegative: "corners, floor below -1",
     CornerInteger: "corners, x - 0.5 whole",
+    CornerAgain: "corners, a cell protected twice",
+    CornerAlone: "corners, no edge protects too",
+    CornerAndEdge: "corners, an edge protects too",
+    CornerDisabled: "corners, none in Disabled",
+    CornerIndiscriminate: "corners, none in Indiscriminate",
+    CornerEdgeOnly: "corners, none in EdgeOnly",
     EdgeFarHorizontal: "edges, horizontal pair too far",
     EdgeFarVertical: "edges, vertical pair too far",
     EdgeFarDiagonal: "edges, diagonal pair too far",
@@ -126,6 +135,7 @@ branches! {
     EdgeProtectsB: "edges, b protected",
     EdgeSparesA: "edges, masked and a not protected",
     EdgeSparesB: "edges, masked and b not protected",
+    EdgeAlone: "edges, no corner protects too",
     CandidateAbove: "range, both above and xm not",
     CandidateAboveTie: "range, both above and xm = 0.5",
     CandidateBelow: "range, both below and xm not",
@@ -196,6 +206,8 @@ branches! {
     FlagDiagonalOnly: "flag, by diagonal alone",
     FlagBoth: "flag, by both",
     FlagProtected: "flag, on a protected texel",
+    FlagCorner: "flag, on a texel that a corner protects",
+    FlagEdge: "flag, on a texel that an edge alone protects",
     FlagNone: "no flag",
     CollapseMinusZero: "collapse, to minus zero",
     CollapseZeros: "collapse, to one of two zeros of different signs",
@@ -449,7 +461,9 @@ fn protect_corners(input: &Input, stencil: &mut [u8], seen: &mut Seen) {
                 seen.hit_if(cy >= h, Branch::CornerAbove);
                 if 0 <= cx && cx < w && 0 <= cy && cy < h {
                     seen.hit(Branch::CornerInside);
-                    stencil[cy as usize * input.width + cx as usize] |= PROTECTED;
+                    let cell = &mut stencil[cy as usize * input.width + cx as usize];
+                    seen.hit_if(*cell != 0, Branch::CornerAgain);
+                    *cell = PROTECTED | CORNER;
                 }
             }
         }
@@ -528,6 +542,28 @@ fn protect_edges(input: &Input, field: &Field, stencil: &mut [u8], seen: &mut Se
                 pair(x + 1, y, x, y + 1, diagonal, EdgeNearFalling, EdgeFarDiagonal);
             }
         }
+    }
+}
+
+/// Fills the stencil with what the mode protects. Corners and edges are read apart, so that neither sees what the other writes.
+fn protect(input: &Input, field: &Field, stencil: &mut [u8], seen: &mut Seen) {
+    use Branch::*;
+    let (mut corners, mut edges) = (vec![0; stencil.len()], vec![0; stencil.len()]);
+    if input.mode != 2 {
+        stencil.fill(if input.mode == 3 { PROTECTED } else { 0 });
+        // The outlines are not asked in this mode; that they have corners inside is counted.
+        protect_corners(input, &mut corners, &mut Seen::new());
+        let unasked = if input.mode == 0 { CornerDisabled } else if input.mode == 1 { CornerIndiscriminate } else { CornerEdgeOnly };
+        seen.hit_if(corners.iter().any(|&c| c != 0), unasked);
+        return;
+    }
+    protect_corners(input, &mut corners, seen);
+    protect_edges(input, field, &mut edges, seen);
+    for (cell, (corner, edge)) in stencil.iter_mut().zip(corners.into_iter().zip(edges)) {
+        seen.hit_if(corner != 0 && edge == 0, CornerAlone);
+        seen.hit_if(corner != 0 && edge != 0, CornerAndEdge);
+        seen.hit_if(corner == 0 && edge != 0, EdgeAlone);
+        *cell = corner | edge;
     }
 }
 
@@ -767,7 +803,7 @@ fn collapse(field_channels: usize, samples: &mut [f32], stencil: &[u8], seen: &m
 pub fn judge(input: &Input, samples: &mut [f32], stencil: &mut [u8], seen: &mut Seen) -> Answer {
     use Branch::*;
     if let Some((refusal, place)) = refusal(input, samples, stencil.len(), seen) {
-        return Answer { refusal, place, protected: 0, error: 0 };
+        return Answer { refusal, place, ..Answer::default() };
     }
     let (w, h) = (input.width, input.height);
     seen.hit([Mode0, Mode1, Mode2, Mode3][input.mode as usize]);
@@ -777,31 +813,22 @@ pub fn judge(input: &Input, samples: &mut [f32], stencil: &mut [u8], seen: &mut 
     seen.hit_if(w == 1, Column);
     seen.hit_if(w == SIDE_LIMIT || h == SIDE_LIMIT, SideLimit);
     seen.hit_if(input.ends.is_empty(), NoContours);
-    stencil.fill(0);
+    let field = Field { width: w, height: h, channels: input.channels, samples };
+    protect(input, &field, stencil, seen);
     if input.mode == 0 {
         return Answer::default();
     }
-    let field = Field { width: w, height: h, channels: input.channels, samples };
-    if input.mode == 2 {
-        protect_corners(input, stencil, seen);
-        protect_edges(input, &field, stencil, seen);
-    }
-    if input.mode == 3 {
-        stencil.fill(PROTECTED);
-    }
     for y in 0..h {
         for x in 0..w {
-            let protected = stencil[y * w + x] & PROTECTED != 0;
-            if verdict(input, &field, x, y, protected, seen) {
-                stencil[y * w + x] |= ERROR;
+            let cell = &mut stencil[y * w + x];
+            if verdict(input, &field, x, y, *cell & PROTECTED != 0, seen) {
+                seen.hit_if(*cell & CORNER != 0, FlagCorner);
+                seen.hit_if(input.mode == 2 && *cell == PROTECTED, FlagEdge);
+                *cell |= ERROR;
             }
         }
     }
     collapse(input.channels, samples, stencil, seen);
-    Answer {
-        refusal: 0,
-        place: 0,
-        protected: stencil.iter().filter(|&&s| s & PROTECTED != 0).count(),
-        error: stencil.iter().filter(|&&s| s & ERROR != 0).count(),
-    }
+    let count = |bit: u8| stencil.iter().filter(|&&s| s & bit != 0).count();
+    Answer { refusal: 0, place: 0, protected: count(PROTECTED), error: count(ERROR), corner: count(CORNER) }
 }

@@ -65,14 +65,21 @@ def good_fields():
 
 
 def figures():
-    """The figures of docs/RULES.md with what it says of each: the whole text or its rows."""
+    """The figures of docs/RULES.md, and of corners beside edges, with what that page says of each: the whole text or its rows."""
     def pair(mode, length, samples):
         return bitmap(2, 1, 3, settings(mode, 1.0, length), [], samples)
 
     def corner(*segments):
         return bitmap(2, 2, 3, settings(2, 1.0, 0.0), [contour(*segments)], GREY)
 
-    text_p = "size 2 1 3\nprotected 0 error 2\nEE\n0 0 3F400000 ch 2\n1 0 3F400000 ch 2\n"
+    def beside(mode):
+        """An edge between the first two texels, a corner between the second and the third, and a fourth that nothing protects."""
+        return bitmap(4, 1, 3, settings(mode, 1.0, 0.25), [contour((3, 2.0, 0.5), (6, 9.0, 9.0))], C5 + [0.0] * 6)
+
+    def flagged(x, length, samples):
+        return bitmap(2, 1, 3, settings(2, 1.0, length), [contour((3, x, 0.5), (6, 9.0, 9.0))], samples)
+
+    text_p = "size 2 1 3\nprotected 0 error 2 corner 0\nEE\n0 0 3F400000 ch 2\n1 0 3F400000 ch 2\n"
     hundredth, inside = [0.0, 1.0, 0.0, 99.0, 0.0, 0.0], [0.0, 1.0, 0.0, 98.0, 0.0, 0.0]
     return [
         ("P", pair(1, 0.25, P), text_p),
@@ -86,10 +93,16 @@ def figures():
         ("C8, 1/100", pair(1, 0.0, hundredth), ".."),
         ("C8, 99/100", pair(1, 0.0, hundredth[3:] + hundredth[:3]), ".."),
         ("C8, inside", pair(1, 0.0, inside), "EE"),
-        ("C9, 3 and 6", corner((3, 1.0, 1.0), (6, 9.0, 9.0)), "PP\nPP"),
+        ("C9, 3 and 6", corner((3, 1.0, 1.0), (6, 9.0, 9.0)), "CC\nCC"),
         ("C9, 7 and 3", corner((7, 1.0, 1.0), (3, 9.0, 9.0)), "..\n.."),
-        ("point (0,0)", corner((3, 0.0, 0.0), (6, 9.0, 9.0)), "P.\n.."),
+        ("point (0,0)", corner((3, 0.0, 0.0), (6, 9.0, 9.0)), "C.\n.."),
         ("x = 2.5", corner((3, 2.5, 1.0), (6, 9.0, 9.0)), "..\n.."),
+        ("an edge, both, a corner", beside(2), "size 4 1 3\nprotected 3 error 0 corner 2\nPCC.\n"),
+        ("the same in EdgeOnly", beside(3), "size 4 1 3\nprotected 4 error 0 corner 0\nPPPP\n"),
+        ("the same in Indiscriminate", beside(1), "size 4 1 3\nprotected 0 error 0 corner 0\n....\n"),
+        ("the same in Disabled", beside(0), "size 4 1 3\nprotected 0 error 0 corner 0\n....\n"),
+        ("P with a corner on one", flagged(0.0, 0.25, P), text_p.replace("protected 0", "protected 1").replace("corner 0\nEE", "corner 1\nDE")),
+        ("C2 with a corner on one", flagged(0.0, 0.0625, C2), "CE"),
         ("width 1", bitmap(1, 2, 3, PLAIN, [], GREY), ".\n."),
         ("width 0", bitmap(0, 1, 3, PLAIN, [], []), "refused 2 0\n"),
     ]

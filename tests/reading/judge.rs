@@ -6,7 +6,7 @@
 #[allow(dead_code)]
 mod judge;
 
-use judge::{Input, Seen, ERROR, PROTECTED};
+use judge::{Input, Seen, CORNER, ERROR, PROTECTED};
 
 const INPUT_LIMIT: usize = 65_536;
 const SAMPLE_LIMIT: usize = 12_288;
@@ -111,6 +111,18 @@ fn read(input: &[u8]) -> Reading<Case> {
     Ok(case)
 }
 
+/// The mark of a cell: why its texel is protected, a corner before an edge, and whether it has an error.
+fn mark(cell: u8) -> char {
+    match (cell & CORNER != 0, cell & PROTECTED != 0, cell & ERROR != 0) {
+        (true, _, false) => 'C',
+        (true, _, true) => 'D',
+        (false, true, false) => 'P',
+        (false, true, true) => 'B',
+        (false, false, true) => 'E',
+        (false, false, false) => '.',
+    }
+}
+
 fn run(mut case: Case) -> String {
     let (w, h, n) = (case.input.width, case.input.height, case.input.channels);
     // With other channels check 1 answers, and width times height may be a great deal.
@@ -120,16 +132,9 @@ fn run(mut case: Case) -> String {
     if answer.refusal != 0 {
         return format!("refused {} {}\n", answer.refusal, answer.place);
     }
-    let mut text = format!("size {w} {h} {n}\nprotected {} error {}\n", answer.protected, answer.error);
+    let mut text = format!("size {w} {h} {n}\nprotected {} error {} corner {}\n", answer.protected, answer.error, answer.corner);
     for row in stencil.chunks(w) {
-        for &cell in row {
-            text.push(match (cell & PROTECTED != 0, cell & ERROR != 0) {
-                (false, false) => '.',
-                (true, false) => 'P',
-                (false, true) => 'E',
-                (true, true) => 'B',
-            });
-        }
+        text.extend(row.iter().map(|&cell| mark(cell)));
         text.push('\n');
     }
     for y in 0..h {

@@ -115,10 +115,10 @@ fn bytes(tally: &mut Tally) {
     }
 }
 
-/// The positions from far outside to both ends, under four bytes.
+/// The positions from far outside to both ends, under every mixture of the three bits.
 fn positions(tally: &mut Tally, size: (usize, usize, usize), original: &[f32], corrected: &[f32], cells: usize) {
     let (w, h, _) = size;
-    for byte in 0..4 {
+    for byte in 0..8 {
         let stencil = vec![byte; cells];
         for x in [0, w.saturating_sub(1), w, 3, FAR] {
             for y in [0, h.saturating_sub(1), h, 2, FAR] {
@@ -152,7 +152,7 @@ fn largest(tally: &mut Tally) {
         for ch in [3, 4] {
             let (original, corrected) = (vec![0f32; w * h * ch], vec![0f32; w * h * ch]);
             let mut stencil = vec![0u8; w * h];
-            for byte in 0..4 {
+            for byte in 0..8 {
                 (stencil[0], stencil[w * h - 1]) = (byte, byte);
                 for (x, y) in [(0, 0), (w - 1, h - 1), (w, h - 1), (w - 1, h), (w, 0), (0, h)] {
                     tally.hold(&Case { size: (w, h, ch), original: &original, corrected: &corrected, stencil: &stencil, at: (x, y) });

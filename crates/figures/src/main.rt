@@ -164,6 +164,42 @@ fn over(name: &[u8], texels: [f32; 6], l: f64, colours: &[u8], coords: &[f64], e
     run::figure(name, t, &mut xs, &mut stencil, colours, coords, ends);
 }
 
+// C5's two texels and two of (0, 0, 0) in a row, with a corner between the second and the third, in any mode.
+fn beside(name: &[u8], mode: u8) {
+    let mut xs = [
+        0.75f32,
+        0.25,
+        0.625,
+        0.25,
+        0.75,
+        0.375,
+        0.0,
+        0.0,
+        0.0,
+        0.0,
+        0.0,
+        0.0,
+    ];
+    let mut stencil = [255u8; 4];
+    let t = run::with(4, 1, 3, mode, run::all(0.25));
+    run::figure(
+        name,
+        t,
+        &mut xs,
+        &mut stencil,
+        &[3, 6],
+        &[2.0, 0.5, 9.0, 9.0],
+        &[2],
+    );
+}
+
+fn corners_apart() {
+    beside(b"C12", 2);
+    beside(b"C12 edge only", 3);
+    beside(b"C12 indiscriminate", 1);
+    beside(b"C12 disabled", 0);
+}
+
 fn protected_texels() {
     over(
         b"P, left texel protected",
@@ -209,6 +245,7 @@ fn main() {
     points();
     colours();
     protected_texels();
+    corners_apart();
     refusals::sizes();
     refusals::settings();
     refusals::samples();

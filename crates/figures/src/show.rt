@@ -13,29 +13,32 @@ fn number(n: u64) {
     io::print_decimal(STDOUT_FILENO, n);
 }
 
-// The number, the place and the two counts.
+// The number, the place and the three counts.
 fn answer(a: Answer) {
     match a {
         Answer::Accepted(c) => {
             text(b" 0 0");
             number(c.protected as u64);
             number(c.error as u64);
+            number(c.corner as u64);
         }
         Answer::Refused(n, p) => {
             number(n as u64);
             number(p as u64);
-            text(b" 0 0");
+            text(b" 0 0 0");
         }
     }
 }
 
-// A stencil cell: `?` where it has neither of the pass's bytes.
+// A stencil cell: `?` where it has none of the pass's bytes.
 fn cell(v: u8) {
     match v {
         0 => text(b"."),
         1 => text(b"E"),
         2 => text(b"P"),
         3 => text(b"B"),
+        6 => text(b"C"),
+        7 => text(b"D"),
         _ => text(b"?"),
     }
 }
@@ -52,11 +55,14 @@ fn cells(stencil: &[u8], w: usize) {
     }
 }
 
+// One of the pass's bytes, with an error.
 fn is_flagged(v: u8) -> bool {
-    if v == 1 {
-        return true;
+    match v {
+        1 => true,
+        3 => true,
+        7 => true,
+        _ => false,
     }
-    v == 3
 }
 
 fn sample(flagged: bool, v: f32) {
