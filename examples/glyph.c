@@ -21,11 +21,18 @@ static void *room(size_t count, size_t size)
     return p;
 }
 
+/* The mark of a cell: its texel is protected by a corner, or by an edge alone, or not at all; the second letter of each where it has an error. */
+static char mark(uint8_t cell)
+{
+    const char *marks = cell & RUNGTWINE_CORNER ? "CD" : cell & RUNGTWINE_PROTECTED ? "PB" : ".E";
+    return marks[(cell & RUNGTWINE_ERROR) != 0];
+}
+
 /* Prints the stencil, row 0 first. */
 static void rows(size_t width, size_t height, const uint8_t *stencil)
 {
     for (size_t i = 0; i < width * height; i++) {
-        putchar(".EPB"[stencil[i] & 3]);
+        putchar(mark(stencil[i]));
         if ((i + 1) % width == 0)
             putchar('\n');
     }
@@ -80,14 +87,15 @@ int main(void)
     memcpy(original, samples, count * sizeof *samples);
     uint8_t *stencil = room(cells, sizeof *stencil);
 
-    size_t place, protected_cells, error_cells;
+    size_t place, protected_cells, error_cells, corner_cells;
     unsigned refusal = rungtwine_error_correction(width, height, channels, samples, count, stencil, cells, (uint8_t)mode, ratio, horizontal, vertical,
-                                                  diagonal, colours, segments, coords, 2 * segments, ends, contours, &place, &protected_cells, &error_cells);
+                                                  diagonal, colours, segments, coords, 2 * segments, ends, contours, &place, &protected_cells, &error_cells,
+                                                  &corner_cells);
     if (refusal != 0) {
         printf("refused %u %zu\n", refusal, place);
         return 1;
     }
-    printf("protected %zu error %zu\n", protected_cells, error_cells);
+    printf("protected %zu error %zu corner %zu\n", protected_cells, error_cells, corner_cells);
     rows(width, height, stencil);
     carriers(cells, channels, original, stencil);
     show(width, height, channels, original, samples, stencil, RUNGTWINE_ERROR);

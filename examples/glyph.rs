@@ -4,7 +4,7 @@
 #[path = "../include/rungtwine.rs"]
 mod rungtwine;
 
-use rungtwine::{error_correction, texel_channel, texel_view, Bitmap, Mode, Outlines, Settings};
+use rungtwine::{error_correction, texel_channel, texel_view, Bitmap, Mode, Outlines, Settings, CORNER, ERROR, PROTECTED};
 use std::io::Read;
 use std::str::{FromStr, SplitWhitespace};
 
@@ -16,10 +16,16 @@ fn list<T: FromStr>(words: &mut SplitWhitespace, count: usize) -> Vec<T> {
     (0..count).map(|_| next(words)).collect()
 }
 
+/// The mark of a cell: its texel is protected by a corner, or by an edge alone, or not at all; the second letter of each where it has an error.
+fn mark(cell: u8) -> char {
+    let [clean, flagged] = if cell & CORNER != 0 { ['C', 'D'] } else if cell & PROTECTED != 0 { ['P', 'B'] } else { ['.', 'E'] };
+    if cell & ERROR != 0 { flagged } else { clean }
+}
+
 /// Prints how many flagged texels have their median in each channel, judged on the original.
 fn carriers(channels: usize, original: &[f32], stencil: &[u8]) {
     let mut carried = [0; 3];
-    for (texel, _) in original.chunks(channels).zip(stencil).filter(|(_, s)| **s & 1 == 1) {
+    for (texel, _) in original.chunks(channels).zip(stencil).filter(|(_, s)| **s & ERROR != 0) {
         carried[texel_channel([texel[0], texel[1], texel[2]])] += 1;
     }
     println!("medians in channels: {} {} {}", carried[0], carried[1], carried[2]);
@@ -27,7 +33,7 @@ fn carriers(channels: usize, original: &[f32], stencil: &[u8]) {
 
 /// Prints where the view finds the first texel that is flagged, or that is not.
 fn show((width, height, channels): (usize, usize, usize), original: &[f32], corrected: &[f32], stencil: &[u8], flagged: bool) {
-    let k = stencil.iter().position(|s| (s & 1 == 1) == flagged).unwrap_or(stencil.len());
+    let k = stencil.iter().position(|s| (s & ERROR != 0) == flagged).unwrap_or(stencil.len());
     let (x, y) = (k % width, k / width);
     let (bitmap, samples) = texel_view((width, height, channels), original, corrected, stencil, (x, y));
     let (name, whole) = match bitmap {
@@ -58,9 +64,9 @@ fn main() {
     let outlines = Outlines { colours: &colours, coords: &coords, ends: &ends };
     match error_correction((width, height, channels), &mut samples, &mut stencil, mode, settings, outlines) {
         Ok(counts) => {
-            println!("protected {} error {}", counts.protected, counts.error);
+            println!("protected {} error {} corner {}", counts.protected, counts.error, counts.corner);
             for row in stencil.chunks(width) {
-                println!("{}", row.iter().map(|s| [".", "E", "P", "B"][usize::from(s & 3)]).collect::<String>());
+                println!("{}", row.iter().map(|&cell| mark(cell)).collect::<String>());
             }
             carriers(channels, &original, &stencil);
             show((width, height, channels), &original, &samples, &stencil, true);

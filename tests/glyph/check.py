@@ -1,6 +1,7 @@
 """check.py COUNT SEED [JUDGE]: what tests/glyph/run promises."""
 import importlib.machinery
 import importlib.util
+import math
 import os
 import re
 import struct
@@ -60,7 +61,7 @@ def there_and_back(data):
 def check_inputs(count, seed, judge):
     inputs = [data for _, data in cases.all_cases(count, seed)]
     answers = [text.decode() for text in cases.judged(judge, inputs)] if judge else [None] * len(inputs)
-    good, carriers = 0, set()
+    good, carriers, marks = 0, set(), set()
     for data, says in zip(inputs, answers):
         place = there_and_back(data)
         good += place is None
@@ -69,7 +70,9 @@ def check_inputs(count, seed, judge):
             need(place == (int(wanted[1]) if wanted else None), f"{data[:80].hex()} is bad at {place} for tools/glyph, and the judge says {says[:40]!r}")
             if says.startswith("size"):
                 carriers |= check_answer(data, says)
+                marks |= check_corners(data, says)
     need(not judge or carriers == {0, 1, 2}, f"the inputs' medians are only in channels {carriers}")
+    need(not judge or marks == set(".PEBCD"), f"the answers' marks are only {''.join(sorted(marks))}")
     return len(inputs), good
 
 
@@ -84,7 +87,7 @@ def check_answer(data, says):
     for y, (old, new) in enumerate(zip(read.rows, answer.corrected())):
         for x in range(read.size[0]):
             texel, after = old[x * channels:(x + 1) * channels], new[x * channels:(x + 1) * channels]
-            if answer.rows[y][x] in "EB":
+            if answer.rows[y][x] in "EBD":
                 values = [glyph.value_of(v) for v in texel[:3]]
                 middle = sorted(values)[1]
                 need([glyph.value_of(v) for v in after[:3]] == [middle] * 3 and after[3:] == texel[3:], f"texel {x} {y} of {data[:80].hex()}")
@@ -92,6 +95,27 @@ def check_answer(data, says):
             else:
                 need(after == texel, f"texel {x} {y} of {data[:80].hex()}")
     return set(named.values())
+
+
+def corner_cells(read):
+    """The texels around each point where two segments of a contour share at most one channel, in EdgePriority."""
+    width, height, _ = read.size
+    cells = set()
+    for contour in read.contours if read.mode == 2 else []:
+        for i, (colour, *point) in enumerate(contour):
+            if bin(colour & contour[i - 1][0]).count("1") < 2:
+                left, low = (math.floor(glyph.value_of(v, True) - 0.5) for v in point)
+                cells |= {(x, y) for x in (left, left + 1) for y in (low, low + 1) if 0 <= x < width and 0 <= y < height}
+    return cells
+
+
+def check_corners(data, says):
+    """The answer marks those texels as a corner's and no others, and counts them. Gives the marks that it has."""
+    read = glyph.from_fields("in", data)
+    answer = glyph.Answer("answer", says, read)
+    found = {(x, y) for y, row in enumerate(answer.rows) for x, letter in enumerate(row) if letter in "CD"}
+    need(found == corner_cells(read) and answer.corners == len(found), f"the corners of {data[:80].hex()}")
+    return set("".join(answer.rows))
 
 
 def pixels(png):
@@ -117,6 +141,7 @@ def check_example(judge):
     if judge:
         need(cases.judged(judge, [fields]) == [answer.encode()], "examples/three.txt is not the judge's answer")
     check_answer(fields, answer)
+    need(check_corners(fields, answer) == set(".ECP"), "examples/three.txt has not a corner beside an edge")
     with tempfile.TemporaryDirectory() as room:
         out = os.path.join(room, "out.png")
         subprocess.run([TOOL, "draw", "examples/three.bin", "examples/three.txt", out], cwd=ROOT, check=True)
@@ -136,34 +161,45 @@ def whole(picture, width, height, what):
 def answered(width, height, value, mark, channel):
     """A field of equal texels, and an answer that marks each of them and names this channel."""
     read = glyph.from_fields("in", cases.bitmap(width, height, 3, cases.PLAIN, [], value * (width * height)))
-    answer = glyph.Answer("in", f"size {width} {height} 3\nprotected 0 error 0\n" + ("." * width + "\n") * height, read)
-    answer.rows, answer.errors, answer.protected = [mark * width] * height, 4096, 4096
-    answer.carriers = {(x, y): channel for y in range(height) for x in range(width)} if mark in "EB" else {}
+    answer = glyph.Answer("in", f"size {width} {height} 3\nprotected 0 error 0 corner 0\n" + ("." * width + "\n") * height, read)
+    answer.rows, answer.errors, answer.protected, answer.corners = [mark * width] * height, 4096, 4096, 4096 if mark in "CD" else 0
+    answer.carriers = {(x, y): channel for y in range(height) for x in range(width)} if mark in "EBD" else {}
     return read, answer
 
 
 def check_marks():
-    """At every size and on every colour one sees whether a texel is flagged, by which channel, and whether it is protected. Nothing runs off the picture."""
+    """At every size and on every colour one sees whether a texel is flagged, by which channel, and whether a corner, no corner or nothing protects it.
+    Nothing runs off the picture."""
     values = [[r, g, b] for r in (0.0, 0.5, 1.0) for g in (0.0, 0.5, 1.0) for b in (0.0, 0.5, 1.0)]
     for step in range(3, 25):
         for value in values:
             seen = set()
-            for mark, channel in ((".", 0), ("P", 0), ("E", 0), ("E", 1), ("E", 2), ("B", 0), ("B", 1), ("B", 2)):
+            for mark, channel in (*((mark, 0) for mark in ".PC"), *((mark, channel) for mark in "EBD" for channel in range(3))):
                 picture = glyph.Picture(step + 2, step + 2)
                 glyph.draw_field(picture, 1, 1, step, *answered(1, 1, value, mark, channel))
                 seen.add(whole(picture, step + 2, step + 2, f"a mark of {step} pixels"))
-                need(mark in ".P" or picture.data[0] == picture.data[-1] == b"\xff" * (3 * step + 6), f"a mark of {step} pixels runs over the line around it")
-            need(len(seen) == 8, f"marks of {step} pixels on {value} look alike")
-    for channel in range(3):
-        picture = glyph.Picture(glyph.LEGEND, 64)
-        glyph.draw_legend(picture, 0, 0, answered(64, 64, [0.5, 0.5, 0.5], "B", channel)[1])
-        whole(picture, glyph.LEGEND, 64, "the legend")
+                need(mark in ".PC" or picture.data[0] == picture.data[-1] == b"\xff" * (3 * step + 6), f"a mark of {step} pixels runs over the line around it")
+            need(len(seen) == 12, f"marks of {step} pixels on {value} look alike")
+    check_legend()
     for width, height in ((1, 1), (2, 1), (1, 2), (1, 300), (300, 1)):
-        pixels(glyph.draw(*answered(width, height, [0.5, 0.5, 0.5], "B", 1), 4))
+        for mark in "BD":
+            pixels(glyph.draw(*answered(width, height, [0.5, 0.5, 0.5], mark, 1), 4))
+
+
+def check_legend():
+    """The legend fits with the largest counts, and tells each channel, a corner, an edge and EdgeOnly's own protection apart."""
+    seen = set()
+    for mark, channel, mode in (("B", 0, 2), ("B", 1, 2), ("B", 2, 2), ("D", 0, 2), ("B", 0, 3)):
+        answer = answered(64, 64, [0.5, 0.5, 0.5], mark, channel)[1]
+        answer.glyph.mode = mode
+        picture = glyph.Picture(*glyph.LEGEND)
+        glyph.draw_legend(picture, 0, 0, answer)
+        seen.add(whole(picture, *glyph.LEGEND, "the legend"))
+    need(len(seen) == 5, "legends of different answers look alike")
 
 
 GOOD = "size 2 1 3\nmode 1\nratio 1\nlengths 1 1 1\ncontour\n  red 1 1\nrow 0\n  1 0 0.75\n  0 0.75 0.75\n"
-ANSWER = "size 2 1 3\nprotected 0 error 2\nEE\n0 0 3F400000 ch 2\n1 0 3F400000 ch 1\n"
+ANSWER = "size 2 1 3\nprotected 0 error 2 corner 0\nEE\n0 0 3F400000 ch 2\n1 0 3F400000 ch 1\n"
 
 
 def bad_texts():
@@ -197,9 +233,17 @@ def bad_answers():
     yield "refused 5 1\n", "b:1:1: the program answered 'refused 5 1'"
     yield "", "b:1:1: 'size WIDTH"
     yield ANSWER.replace("2 1 3", "2 2 3"), "b:1:6: this answer is for 2 x 2 x 3"
-    yield ANSWER.replace("error 2", "error 1"), "b:2:1: 1 are counted here, and the rows have 2"
+    yield ANSWER.replace("error 2", "error 1"), "b:2:19: 1 are counted here, and the rows have 2"
     yield ANSWER.replace("protected 0", "protected 1"), "b:2:11: 1 are counted here"
-    yield ANSWER.replace("EE", "EX"), "b:3:1: row 0, 2 letters"
+    yield ANSWER.replace("corner 0", "corner 1"), "b:2:28: 1 are counted here, and the rows have 0"
+    for line in ("protected 0 error 2", "protected 0 error 2 corner", "protected 0 error 2 corner 0 ", "protected 0 corner 0 error 2", "corner 0"):
+        yield ANSWER.replace("protected 0 error 2 corner 0", line), "b:2:1: 'protected COUNT error COUNT corner COUNT' should stand here"
+    yield ANSWER.replace("EE", "EX"), "b:3:1: row 0, 2 letters of . P E B C D"
+    yield ANSWER.replace("EE", "EB"), "b:2:11: 0 are counted here, and the rows have 1"
+    yield ANSWER.replace("EE", "ED").replace("protected 0", "protected 1"), "b:2:28: 0 are counted here, and the rows have 1"
+    yield ANSWER.replace("EE", "ED").replace("corner 0", "corner 1"), "b:2:11: 0 are counted here, and the rows have 1"
+    yield (ANSWER.replace("EE", "ED").replace("protected 0", "protected 1").replace("corner 0", "corner 1"),
+           "b:2:28: the program asks corners in EdgePriority alone, and this field has another mode")
     yield ANSWER.replace("1 0 3F", "0 0 3F"), "b:5:1: the next flagged texel is 1 0, not 0 0"
     yield ANSWER.replace("1 0 3F400000 ch 1\n", ""), "b:5:1: '1 0 BITS ch CHANNEL', a flagged texel with its median and channel 0, 1 or 2, should stand here"
     for line in ("0 0 3F400000", "0 0 3F400000 ch", "0 0 3F400000 ch 3", "0 0 3F400000 ch 02", "0 0 3F400000 2", "0 0 3F400000 ch 2 "):
@@ -238,10 +282,10 @@ def check_bad():
 
         put("good", glyph.to_fields(glyph.from_text("good", GOOD), "good"))
         put("wide", cases.bitmap(4096, 1, 3, cases.settings(0, 1.0, 1.0), [], [0.0] * 12288))
-        put("plain", "size 4096 1 3\nprotected 0 error 0\n" + "." * 4096 + "\n")
+        put("plain", "size 4096 1 3\nprotected 0 error 0 corner 0\n" + "." * 4096 + "\n")
         for name, size in (("single", (1, 1, 1)), ("rowless", (2, 0, 3)), ("narrow", (0, 2, 3))):
             put(name, cases.bitmap(*size, cases.PLAIN, [], [0.0] * (size[0] * size[1] * size[2])))
-            put(name + ".txt", "size {} {} {}\nprotected 0 error 0\n".format(*size) + ("." * size[0] + "\n") * size[1])
+            put(name + ".txt", "size {} {} {}\nprotected 0 error 0 corner 0\n".format(*size) + ("." * size[0] + "\n") * size[1])
         put("settings", "mode 1\nratio 1\nlengths 1 1 1\n")
         put("more", cases.figures()[0][1] + bytes(3))
         put("four", cases.bitmap(1, 1, 4, cases.PLAIN, [], [0.0] * 4))
