@@ -18,13 +18,12 @@ use Prim.Native.Nat.{ℕ, _*_, _/_, _%_, _≤_, _<_}
 use native.Mathlib.Decide.{decLt}
 use native.Mathlib.Omega.{arith}
 use lib.Dec.{eqb}
-use lib.ListN.{getD, length, List·getD-eq-default}
+use lib.ListN.{getD, List·getD-eq-default}
 use denote.Ref.{now}
 use contract.Lifetimes.{Lfts}
 use borrow.Fn.Kinds.{Dens}
 use borrow.Author.Tests.{eq-eqb, ne-eqb}
 use Rattle.ranges.specs.Config.{disabled, edgePriority, edgeOnly}
-use Rattle.ground.specs.Lists.{count}
 use Rattle.inputs.specs.Stencil.{stencilByte, hasCorner, isProtected, protectedCount, cornerCount}
 use Rattle.inputs.specs.Checks.{Input, accepted}
 use Rattle.correction.specs.declared.pass.Answer.{Answer}
@@ -33,8 +32,7 @@ use Rattle.correction.specs.Corners.{contours, cornersProtect}
 use Rattle.correction.specs.Pass.{cornered, edgePriorityProtects, protects, flags, byteAt, numberOf, Answers, stencilAfter}
 use Rattle.correction.specs.Stricter.{MoreOutlines}
 use Rattle.ground.proofs.Laws.Bools.{and-implies, both-hold}
-use Rattle.ground.proofs.Laws.Count.{count-falls}
-use Rattle.inputs.proofs.Laws.Stencil.{byte-clear, clear-says}
+use Rattle.inputs.proofs.Laws.Stencil.{byte-clear, clear-says, corner-falls, corner-within}
 use Rattle.correction.proofs.pass.msdf_error_correction.Kinds.{ps}
 use Rattle.correction.proofs.pass.msdf_error_correction.Reads as entry
 use Rattle.correction.proofs.Laws.Answer.{zero-accepts}
@@ -91,8 +89,7 @@ disabled-clears i p m k = dite (decLt k (i .width * i .height)) inner (λ n. Lis
 
 -- No more cells are corner cells than are protected.
 pub corner-count-le : (i : Input) → accepted i ≡ true → cornerCount (stencilAfter i) ≤ protectedCount (stencilAfter i)
-unfolding cornerCount protectedCount
-corner-count-le i p = count-falls (length (stencilAfter i)) _ _ (corner-protected i p)
+corner-count-le i p = corner-within (stencilAfter i) (corner-protected i p)
 
 -- ---- two passes
 
@@ -136,9 +133,6 @@ promise-corners κs κs' a a' z z' e e' p p' s v h n n' k =
 
 -- With more outlines a bitmap of the same size has no fewer corner cells.
 pub counts-grow : (i j : Input) → MoreOutlines i j → i .width ≡ j .width → i .height ≡ j .height → accepted i ≡ true → accepted j ≡ true → cornerCount (stencilAfter i) ≤ cornerCount (stencilAfter j)
-unfolding cornerCount
 counts-grow i j s v h p q =
-    let f : ℕ → Bool = λ k. hasCorner (getD (stencilAfter i) k 0) in
-    let g : ℕ → Bool = λ k. hasCorner (getD (stencilAfter j) k 0) in
     let area : i .width * i .height ≡ j .width * j .height = rw (v, h) in
-    subst (λ (n : ℕ). count n f ≤ count (length (stencilAfter j)) g) (stencil-length j q ∙ sym area ∙ sym (stencil-length i p)) (count-falls (length (stencilAfter j)) f g (cells-grow i j s v h p q))
+    corner-falls (stencilAfter i) (stencilAfter j) (stencil-length i p ∙ area ∙ sym (stencil-length j q)) (cells-grow i j s v h p q)

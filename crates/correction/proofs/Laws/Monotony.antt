@@ -26,7 +26,6 @@ use Rattle.numbers.proofs.Laws.Order as Order
 use Rattle.numbers.proofs.Laws.Order.{nought}
 use Rattle.ranges.specs.declared.config.Settings.{Settings}
 use Rattle.correction.specs.declared.pass.Answer.{Answer}
-use Rattle.ground.specs.Lists.{count}
 use Rattle.inputs.specs.Stencil.{isError, errorCount}
 use Rattle.ranges.specs.Config.{disabled}
 use Rattle.inputs.specs.Checks.{Input, badLength, accepted}
@@ -37,9 +36,8 @@ use Rattle.correction.specs.Pass.{texels, protects, flags, passSamples, 
 use Rattle.correction.specs.Stricter.{Outlines, Stricter, withRatio}
 use Rattle.correction.specs.Stricter.Outlines.{none, kept}
 use Rattle.ground.proofs.Laws.Bools.{and-implies}
-use Rattle.ground.proofs.Laws.Count.{count-falls}
 use Rattle.ground.proofs.Laws.Fill.{tab-at}
-use Rattle.inputs.proofs.Laws.Stencil.{clear-says}
+use Rattle.inputs.proofs.Laws.Stencil.{clear-says, error-falls}
 use Rattle.inputs.proofs.Laws.Checks.{sizes, passed}
 use Rattle.correction.proofs.pass.msdf_error_correction.Kinds.{ps}
 use Rattle.correction.proofs.pass.msdf_error_correction.Reads as entry
@@ -127,11 +125,7 @@ collapse-monotony i j s p q k c l m e = flagged-collapses i p k c l m (monotony 
 
 -- A stricter pass counts no more errors.
 pub errors-fall : (i j : Input) → Stricter i j → accepted i ≡ true → accepted j ≡ true → errorCount (stencilAfter j) ≤ errorCount (stencilAfter i)
-unfolding errorCount
-errors-fall i j s p q =
-    let f : ℕ → Bool = λ k. isError (getD (stencilAfter j) k 0) in
-    let g : ℕ → Bool = λ k. isError (getD (stencilAfter i) k 0) in
-    subst (λ (n : ℕ). count n f ≤ count (length (stencilAfter i)) g) (stencil-length i p ∙ same-area i j s ∙ sym (stencil-length j q)) (count-falls (length (stencilAfter i)) f g (monotony i j s p q))
+errors-fall i j s p q = error-falls (stencilAfter j) (stencilAfter i) (stencil-length j q ∙ sym (same-area i j s) ∙ sym (stencil-length i p)) (monotony i j s p q)
 
 -- Every list of contours has its own in their order.
 pub outlines-refl : (cs : List (List Segment)) → Outlines cs cs

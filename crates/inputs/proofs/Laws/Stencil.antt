@@ -4,7 +4,8 @@
 --     *-leaves    all others are as they were,
 --     *-again     and setting it again changes nothing
 --     *-le        no more cells are counted than there are
-use mathlib.Core.Path.{_≡_, refl, _∙_, ap}
+--     *-falls     a stencil whose cells have a bit only where those of another as long have one counts no more of them
+use mathlib.Core.Path.{_≡_, refl, _∙_, ap, subst}
 use mathlib.Core.Bool.{Bool, true, false}
 use mathlib.Core.List.{List}
 use mathlib.Core.Logic.{dite}
@@ -12,10 +13,11 @@ use Prim.Native.Nat.{ℕ, _+_, _/_, _%_, _≤_}
 use native.Mathlib.Decide.{ℕ-discrete}
 use native.Mathlib.Omega.{arith}
 use lib.Dec.{eqb}
-use lib.ListN.{length}
+use lib.ListN.{length, getD}
 use borrow.Author.Tests.{eqb-true, eq-eqb, ne-eqb}
-use Rattle.inputs.specs.Stencil.{stencilByte, hasCorner, isProtected, isError, setCorner, setProtected, setError, protectedCount, errorCount, cornerCount}
-use Rattle.ground.proofs.Laws.Count.{count-small}
+use Rattle.inputs.specs.Stencil.{stencilByte, hasCorner, isProtected, isError, setCorner, setProtected, setError, cellCount, protectedCount, errorCount, cornerCount}
+use Rattle.ground.specs.Lists.{count}
+use Rattle.ground.proofs.Laws.Count.{count-small, count-falls}
 
 -- ---- the byte of a cell
 
@@ -127,3 +129,19 @@ error-le st = count-small _ (length st)
 pub corner-le : (st : List ℕ) → cornerCount st ≤ length st
 unfolding cornerCount
 corner-le st = count-small _ (length st)
+
+counted-falls : (f g : ℕ → Bool) (st st' : List ℕ) → length st ≡ length st' → ((k : ℕ) → f (getD st k 0) ≡ true → g (getD st' k 0) ≡ true) → cellCount f st ≤ cellCount g st'
+counted-falls f g st st' e h = subst (λ (n : ℕ). cellCount f st ≤ count n (λ k. g (getD st' k 0))) e (count-falls (length st) (λ k. f (getD st k 0)) (λ k. g (getD st' k 0)) h)
+
+pub error-falls : (st st' : List ℕ) → length st ≡ length st' → ((k : ℕ) → isError (getD st k 0) ≡ true → isError (getD st' k 0) ≡ true) → errorCount st ≤ errorCount st'
+unfolding errorCount
+error-falls = counted-falls isError isError
+
+pub corner-falls : (st st' : List ℕ) → length st ≡ length st' → ((k : ℕ) → hasCorner (getD st k 0) ≡ true → hasCorner (getD st' k 0) ≡ true) → cornerCount st ≤ cornerCount st'
+unfolding cornerCount
+corner-falls = counted-falls hasCorner hasCorner
+
+-- No more cells have a corner than are protected, where each that has one is.
+pub corner-within : (st : List ℕ) → ((k : ℕ) → hasCorner (getD st k 0) ≡ true → isProtected (getD st k 0) ≡ true) → cornerCount st ≤ protectedCount st
+unfolding cornerCount protectedCount
+corner-within st = counted-falls hasCorner isProtected st st refl
