@@ -24,15 +24,16 @@ use contract.Lifetimes.{Lfts}
 use borrow.Fn.Kinds.{Dens}
 use borrow.Author.Tests.{eq-eqb, ne-eqb}
 use Rattle.ranges.specs.Config.{disabled, edgePriority, edgeOnly}
-use Rattle.inputs.specs.Stencil.{stencilByte, hasCorner, isProtected, protectedCount, cornerCount}
+use Rattle.inputs.specs.Stencil.{hasCorner, isProtected, protectedCount, cornerCount}
 use Rattle.inputs.specs.Checks.{Input, accepted}
 use Rattle.correction.specs.declared.pass.Answer.{Answer}
 use Rattle.correction.specs.Bitmap.{cell}
 use Rattle.correction.specs.Corners.{contours, cornersProtect}
-use Rattle.correction.specs.Pass.{cornered, edgePriorityProtects, protects, flags, byteAt, numberOf, Answers, stencilAfter}
+use Rattle.correction.specs.Pass.{cornered, edgePriorityProtects, protects, numberOf, Answers, stencilAfter}
 use Rattle.correction.specs.Stricter.{MoreOutlines}
 use Rattle.ground.proofs.Laws.Bools.{and-implies, both-hold}
-use Rattle.inputs.proofs.Laws.Stencil.{byte-clear, clear-says, corner-falls, corner-within}
+use Rattle.inputs.proofs.Laws.Stencil.{clear-says, corner-falls, corner-within}
+use Rattle.correction.proofs.pass.Staged.{byte-at-disabled}
 use Rattle.correction.proofs.pass.msdf_error_correction.Kinds.{ps}
 use Rattle.correction.proofs.pass.msdf_error_correction.Reads as entry
 use Rattle.correction.proofs.Laws.Answer.{zero-accepts}
@@ -76,16 +77,12 @@ corner-protected i p k e =
 pub corner-mode : (i : Input) → accepted i ≡ true → (i .mode ≡ edgePriority → ⊥) → (k : ℕ) → hasCorner (getD (stencilAfter i) k 0) ≡ false
 corner-mode i p n k = dite (decLt k (i .width * i .height)) (λ l. cell-corner i p k l ∙ cornered-mode i (k % i .width) (k / i .width) n) (no-corner i p k)
 
-zero-byte : (i : Input) → i .mode ≡ disabled → (k : ℕ) → byteAt i k ≡ stencilByte false false false
-unfolding byteAt cornered protects flags
-zero-byte i m k = simp (ap (λ (n : ℕ). eqb n disabled) m, ap (λ (n : ℕ). eqb n edgePriority) m, ap (λ (n : ℕ). eqb n edgeOnly) m)
-
 -- Disabled leaves zeros.
 pub disabled-clears : (i : Input) → accepted i ≡ true → i .mode ≡ disabled → (k : ℕ) → getD (stencilAfter i) k 0 ≡ 0
 disabled-clears i p m k = dite (decLt k (i .width * i .height)) inner (λ n. List·getD-eq-default (stencilAfter i) 0 (omega (arith, stencil-length i p)))
   where
     inner : k < i .width * i .height → getD (stencilAfter i) k 0 ≡ 0
-    inner l = cell-byte i p k l ∙ zero-byte i m k ∙ sym byte-clear
+    inner l = cell-byte i p k l ∙ byte-at-disabled i m k
 
 -- No more cells are corner cells than are protected.
 pub corner-count-le : (i : Input) → accepted i ≡ true → cornerCount (stencilAfter i) ≤ protectedCount (stencilAfter i)

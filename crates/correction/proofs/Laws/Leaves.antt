@@ -18,7 +18,7 @@ use Rattle.inputs.specs.Stencil.{hasCorner, isProtected, isError}
 use Rattle.inputs.specs.Checks.{Input, input, refusalNumber, accepted}
 use Rattle.correction.specs.Pass.{cornered, protects, flags, byteAt, passStencil, passSamples, stencilAfter, samplesAfter}
 use Rattle.ground.proofs.Laws.Fill.{tab-length, tab-at}
-use Rattle.inputs.proofs.Laws.Stencil.{byte-says}
+use Rattle.correction.proofs.pass.Staged.{byte-at-says}
 use Rattle.correction.proofs.pass.msdf_error_correction.Kinds.{ps}
 
 pub number-zero : (i : Input) → accepted i ≡ true → refusalNumber i ≡ 0
@@ -37,18 +37,15 @@ cell-byte i p k l = ap (λ (st : List ℕ). getD st k 0) (accepted-leaves i p .0
 
 -- The error bit of a cell says whether its texel is flagged.
 pub cell-error : (i : Input) → accepted i ≡ true → (k : ℕ) → k < i .width * i .height → isError (getD (stencilAfter i) k 0) ≡ flags i (k % i .width) (k / i .width)
-unfolding byteAt
-cell-error i p k l = ap isError (cell-byte i p k l) ∙ byte-says (cornered i (k % i .width) (k / i .width)) (protects i (k % i .width) (k / i .width)) (flags i (k % i .width) (k / i .width)) .2
+cell-error i p k l = ap isError (cell-byte i p k l) ∙ byte-at-says i k .2
 
 -- The protected bit says whether it is protected.
 pub cell-protected : (i : Input) → accepted i ≡ true → (k : ℕ) → k < i .width * i .height → isProtected (getD (stencilAfter i) k 0) ≡ protects i (k % i .width) (k / i .width)
-unfolding byteAt
-cell-protected i p k l = ap isProtected (cell-byte i p k l) ∙ byte-says (cornered i (k % i .width) (k / i .width)) (protects i (k % i .width) (k / i .width)) (flags i (k % i .width) (k / i .width)) .1
+cell-protected i p k l = ap isProtected (cell-byte i p k l) ∙ byte-at-says i k .1
 
 -- The corner bit says whether a corner protects it.
 pub cell-corner : (i : Input) → accepted i ≡ true → (k : ℕ) → k < i .width * i .height → hasCorner (getD (stencilAfter i) k 0) ≡ cornered i (k % i .width) (k / i .width)
-unfolding byteAt
-cell-corner i p k l = ap hasCorner (cell-byte i p k l) ∙ byte-says (cornered i (k % i .width) (k / i .width)) (protects i (k % i .width) (k / i .width)) (flags i (k % i .width) (k / i .width)) .0
+cell-corner i p k l = ap hasCorner (cell-byte i p k l) ∙ byte-at-says i k .0
 
 -- The stencil has a cell for each texel.
 pub stencil-length : (i : Input) → accepted i ≡ true → length (stencilAfter i) ≡ i .width * i .height

@@ -1,24 +1,29 @@
 -- What the stages of the pass leave for each other, over plain lists. Assumes nothing.
 --     found-staged       finding over a stencil without an error leaves the byte of each cell, with an error or not
+--     byte-at-says       the byte of a cell says whether a corner protects its texel, whether it is protected and whether it is flagged
+--     byte-at-disabled   in mode Disabled it is 0
 --     collapsed-same     collapsing rests on the flags of the n texels alone
 --     collapsed-none     with no texel flagged it leaves all as it was
-use mathlib.Core.Path.{_≡_, refl, _∙_, ap, subst}
+use mathlib.Core.Path.{_≡_, refl, sym, _∙_, ap, subst}
 use mathlib.Core.Bool.{Bool, true, false, cond, _&&_}
 use mathlib.Core.List.{List}
 use Prim.Native.Nat.{ℕ, zero, suc, _*_, _/_, _%_, _<_}
 use native.Mathlib.Nat.{zero-lt-suc, not-suc-le-zero, mul-zero, div-lt-iff-lt-mul}
 use lib.ListN.{length, getD}
-use lib.Dec.{ltb}
+use lib.Dec.{eqb, ltb}
 use lib.Seq.{ext-getD}
 use lib.Ieee.{Float, nan}
 use Rattle.ranges.specs.declared.config.Settings.{Settings}
 use Rattle.ground.specs.Lists.{tab}
 use Rattle.correction.specs.Bitmap.{texel}
-use Rattle.inputs.specs.Stencil.{stencilByte, setError}
+use Rattle.ranges.specs.Config.{disabled, edgePriority, edgeOnly}
+use Rattle.inputs.specs.Stencil.{stencilByte, hasCorner, isProtected, isError, setError}
+use Rattle.inputs.specs.Checks.{Input}
 use Rattle.correction.specs.Errors.{hasArtifact}
 use Rattle.correction.specs.Collapse.{cellMedian, collapsedSample, collapsed}
+use Rattle.correction.specs.Pass.{cornered, protects, flags, byteAt}
 use Rattle.correction.specs.Inner.{marked, found}
-use Rattle.inputs.proofs.Laws.Stencil.{byte-says, byte-sets}
+use Rattle.inputs.proofs.Laws.Stencil.{byte-says, byte-sets, byte-clear}
 use Rattle.ground.proofs.Laws.Fill.{tab-length, tab-at, tab-same}
 
 added : (c p e : Bool) → cond e (setError (stencilByte c p false)) (stencilByte c p false) ≡ stencilByte c p e
@@ -40,6 +45,14 @@ found-staged xs w h ch s n c p st e =
     ∙ ap (λ (m : ℕ). tab m (f (tab n q))) (tab-length n q)
     ∙ tab-same n (f (tab n q)) (λ k. stencilByte (c k) (p k) (hasArtifact (texel xs w ch) w h s (p k) (k % w) (k / w)))
     (λ k l. ap (λ (v : ℕ). marked xs w h ch s v (k % w) (k / w)) (tab-at n q k 0 l) ∙ marked-staged xs w h ch s (c k) (p k) (k % w) (k / w))
+
+pub byte-at-says : (i : Input) (k : ℕ) → let x = k % i .width in let y = k / i .width in (hasCorner (byteAt i k) ≡ cornered i x y) × (isProtected (byteAt i k) ≡ protects i x y) × (isError (byteAt i k) ≡ flags i x y)
+unfolding byteAt
+byte-at-says i k = byte-says _ _ _
+
+pub byte-at-disabled : (i : Input) → i .mode ≡ disabled → (k : ℕ) → byteAt i k ≡ 0
+unfolding byteAt cornered protects flags
+byte-at-disabled i m k = simp (ap (λ (n : ℕ). eqb n disabled) m, ap (λ (n : ℕ). eqb n edgePriority) m, ap (λ (n : ℕ). eqb n edgeOnly) m) (sym byte-clear)
 
 -- sample j is one of a texel below n
 texel-lt : (ch n j : ℕ) → j < n * ch → j / ch < n

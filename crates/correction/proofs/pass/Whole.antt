@@ -26,10 +26,10 @@ use Rattle.inputs.specs.Inner.{Outlined}
 use Rattle.correction.specs.Pass.{texels, cornered, edgePriorityProtects, protects, flags, byteAt, passStencil, passSamples, Answers, answer, stencilAfter, samplesAfter}
 use Rattle.ground.proofs.Laws.Fill.{tab-length, tab-at, tab-same}
 use Rattle.correction.proofs.loops.Painted.{painted-length, painted-at, is-painted}
-use Rattle.correction.proofs.pass.Staged.{found-staged, collapsed-same, collapsed-none}
+use Rattle.correction.proofs.pass.Staged.{found-staged, byte-at-says, byte-at-disabled, collapsed-same, collapsed-none}
 use Rattle.correction.proofs.bitmap.Sizes.{sized, cells}
 use Rattle.inputs.proofs.Laws.Checks.{sizes, passed}
-use Rattle.inputs.proofs.Laws.Stencil.{byte-says, byte-sets, byte-clear, byte-only-protected}
+use Rattle.inputs.proofs.Laws.Stencil.{byte-sets, byte-clear, byte-only-protected}
 use Rattle.correction.proofs.Laws.Answer.{as-answered}
 
 -- what two paintings leave of zeros
@@ -94,14 +94,11 @@ module _ (i : Input) where
 
     -- Disabled
     pub switched-off : (st : List ℕ) → i .mode ≡ 0 → st ≡ tab (length (i .stencil)) (λ k. 0) → (st ≡ passStencil i) × (i .samples ≡ passSamples i)
-    unfolding passStencil passSamples byteAt flags cornered protects
-    switched-off st e p =
-        let t : eqb (i .mode) 0 ≡ true = eq-eqb (i .mode) 0 e in
-        let u : eqb (i .mode) 2 ≡ false = ap (λ (k : ℕ). eqb k 2) e in
-        let v : eqb (i .mode) 3 ≡ false = ap (λ (k : ℕ). eqb k 3) e in (
-          p ∙ ap (λ (n : ℕ). tab n (λ k. 0)) area ∙ tab-same (i .width * i .height) _ _ (λ k l. simp (t, u, v) byte-clear),
-          sym (collapsed-none (i .samples) (i .channels)) ∙ simp t refl,
-        )
+    unfolding passStencil passSamples flags
+    switched-off st e p = (
+      p ∙ ap (λ (n : ℕ). tab n (λ k. 0)) area ∙ tab-same (i .width * i .height) _ _ (λ k l. sym (byte-at-disabled i e k)),
+      sym (collapsed-none (i .samples) (i .channels)) ∙ simp (eq-eqb (i .mode) 0 e) refl,
+    )
 
     module _ (st₁ : List ℕ) (p : st₁ ≡ tab (length (i .stencil)) shielded) where
       module _ (st₂ : List ℕ) (q : st₂ ≡ found (i .samples) (i .width) (i .height) (i .channels) (i .settings) st₁) where
@@ -115,8 +112,7 @@ module _ (i : Input) where
           staged = found-as ∙ tab-same (length (i .stencil)) _ _ (λ k l. simp (ne-eqb (i .mode) 0 e))
 
           error-at : (k : ℕ) → k < length (i .stencil) → isError (getD st₂ k 0) ≡ flags i (k % i .width) (k / i .width)
-          unfolding byteAt
-          error-at k l = ap (λ (z : List ℕ). isError (getD z k 0)) staged ∙ ap isError (tab-at (length (i .stencil)) (byteAt i) k 0 l) ∙ byte-says (cornered i (k % i .width) (k / i .width)) (protects i (k % i .width) (k / i .width)) (flags i (k % i .width) (k / i .width)) .2
+          error-at k l = ap (λ (z : List ℕ). isError (getD z k 0)) staged ∙ ap isError (tab-at (length (i .stencil)) (byteAt i) k 0 l) ∙ byte-at-says i k .2
 
           pub done : (xs : List Float) → xs ≡ collapsed (i .samples) (i .channels) (λ k. isError (getD st₂ k 0)) → (st₂ ≡ passStencil i) × (xs ≡ passSamples i)
           unfolding passStencil passSamples
