@@ -259,32 +259,32 @@ pub fn correct<const N: usize>(bitmap: &mut Bitmap<f32, N>, task: &Task) {
     msdf_error_correction(bitmap, &task.shape, &task.transformation, &task.config);
 }
 
-/// What the original leaves in its stencil: the whole pass, and its corners alone, which only EdgePriority asks.
+/// What the original leaves in its stencil: the whole pass, none in Disabled, where it makes none; and its corners alone, which only EdgePriority asks.
 pub struct Stencils {
-    pub whole: Vec<u8>,
+    pub whole: Option<Vec<u8>>,
     pub corners: Vec<u8>,
 }
 
-/// The samples afterwards in place, and the stencils (none for Disabled, where the original makes none).
+/// The samples afterwards in place, and the stencils.
 /// The entry itself is run as well, and its samples have to be those of the driven pass.
-fn correct_and_read<const N: usize>(width: usize, height: usize, samples: &mut [f32], task: &Task) -> Option<Stencils> {
+fn correct_and_read<const N: usize>(width: usize, height: usize, samples: &mut [f32], task: &Task) -> Stencils {
+    let corners = drive_corners(width, height, &task.shape, &task.transformation, &task.config);
     let mut entered = bitmap_of::<N>(width, height, samples);
     correct(&mut entered, task);
     if task.config.error_correction.mode == ErrorCorrectionMode::Disabled {
         samples.copy_from_slice(entered.data());
-        return None;
+        return Stencils { whole: None, corners };
     }
     let mut driven = bitmap_of::<N>(width, height, samples);
     let whole = drive(&mut driven, &task.shape, &task.transformation, &task.config);
-    let corners = drive_corners(width, height, &task.shape, &task.transformation, &task.config);
     let bits = |b: &Bitmap<f32, N>| b.data().iter().map(|v| v.to_bits()).collect::<Vec<_>>();
     assert!(bits(&entered) == bits(&driven), "the driven pass differs from the original's entry");
     samples.copy_from_slice(driven.data());
-    Some(Stencils { whole, corners })
+    Stencils { whole: Some(whole), corners }
 }
 
 /// The original's answer for 3 or 4 channels.
-pub fn answer(width: usize, height: usize, channels: usize, samples: &mut [f32], task: &Task) -> Option<Stencils> {
+pub fn answer(width: usize, height: usize, channels: usize, samples: &mut [f32], task: &Task) -> Stencils {
     match channels {
         3 => correct_and_read::<3>(width, height, samples, task),
         4 => correct_and_read::<4>(width, height, samples, task),

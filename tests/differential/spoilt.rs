@@ -7,13 +7,14 @@ use crate::judge::{Seen, CORNER, PROTECTED};
 use crate::sides::{against_pass, by_judge, Outcome, Totals};
 
 /// What is spoilt, in which mode's figure, and how. An edge alone protects its first texel, an edge and a corner the second, a corner alone the third.
-const WAYS: [(&str, u8, fn(&mut Outcome)); 6] = [
+const WAYS: [(&str, u8, fn(&mut Outcome)); 7] = [
     ("a corner where an edge protects", 2, |o| o.stencil[0] |= CORNER),
     ("a corner that an edge takes away", 2, |o| o.stencil[1] &= !CORNER),
     ("a corner that leaves its texel unprotected", 2, |o| o.stencil[2] &= !PROTECTED),
     ("a corner that is left out", 2, |o| o.stencil[2] &= !CORNER),
     ("a corner in EdgeOnly", 3, |o| o.stencil[2] |= CORNER),
     ("a corner in Indiscriminate", 1, |o| o.stencil[2] |= CORNER),
+    ("a corner in Disabled", 0, |o| o.stencil[2] |= CORNER),
 ];
 
 /// Whether each side differs from what was spoilt.
