@@ -10,5 +10,6 @@ pub mod Grows
 pub mod Falls
 pub mod Monotony
 pub mod Corners
+pub mod Tests
 pub mod Channel
 pub mod Figures

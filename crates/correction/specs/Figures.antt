@@ -9,11 +9,11 @@ use Rattle.numbers.specs.SquareRoot.{sqrtOf}
 use Rattle.numbers.specs.EquationSolver.{rootsOf}
 use Rattle.correction.specs.declared.pass.Answer.the-variants.{Accepted}
 use Rattle.ranges.specs.Config.{indiscriminate, edgePriority, edgeOnly}
-use Rattle.inputs.specs.Checks.{Input}
+use Rattle.inputs.specs.Checks.{Input, accepted}
 use Rattle.detectors.specs.Linear.{crossing}
 use Rattle.detectors.specs.Pairs.{inside}
 use Rattle.correction.specs.Corners.{Segment, isCorner}
-use Rattle.correction.specs.Pass.{answer, stencilAfter}
+use Rattle.correction.specs.Pass.{testsAt, answer, stencilAfter}
 
 -- ---- values by their patterns
 
@@ -79,9 +79,16 @@ slanted =
     f32 0x3f80_0000 ∷ f32 0 ∷ f32 0x3f40_0000 ∷ f32 0x3f00_0000 ∷ f32 0x3f00_0000 ∷ f32 0x3f40_0000
     ∷ f32 0x3f00_0000 ∷ f32 0x3f00_0000 ∷ f32 0x3f40_0000 ∷ f32 0 ∷ f32 0x3f80_0000 ∷ f32 0x3f40_0000 ∷ []
 
--- the pass accepts, counts p protected cells, e errors and k corner cells, and leaves the stencil st
-abbrev pub Leaves : Input → ℕ → ℕ → ℕ → List ℕ → Type 0
-Leaves i p e k st = (answer i ≡ Accepted (record { protected = p; error = e; corner = k })) × (stencilAfter i ≡ st)
+-- (.5, 1, 1.5) in the middle and in the corners of 3 × 3 texels, and (2.5, .75, -.5) beside them; lengths 16, Indiscriminate
+abbrev pub checkered : Input
+checkered =
+    let a = f32 0x3f00_0000 ∷ f32 0x3f80_0000 ∷ f32 0x3fc0_0000 ∷ [] in
+    let b = f32 0x4020_0000 ∷ f32 0x3f40_0000 ∷ f32 0xbf00_0000 ∷ [] in
+    case 3 3 (a ++ b ++ a ++ b ++ a ++ b ++ a ++ b ++ a) (9 ∷ 9 ∷ 9 ∷ 9 ∷ 9 ∷ 9 ∷ 9 ∷ 9 ∷ 9 ∷ []) indiscriminate (f64 0x4030_0000_0000_0000)
+
+-- the pass accepts, counts p protected cells, e errors and k corner cells, makes t range tests, and leaves the stencil st
+abbrev pub Leaves : Input → ℕ → ℕ → ℕ → ℕ → List ℕ → Type 0
+Leaves i p e k t st = (answer i ≡ Accepted (record { protected = p; error = e; corner = k }) t) × (stencilAfter i ≡ st)
 
 -- ---- outlines
 
@@ -109,19 +116,19 @@ beside mode =
 
 pub record Figures : Type 0 where
   -- case P's texels in EdgeOnly: both still flagged
-  pub c1 : Leaves (pair caseP edgeOnly quarter) 2 2 0 (3 ∷ 3 ∷ [])
+  pub c1 : Leaves (pair caseP edgeOnly quarter) 2 2 0 2 (3 ∷ 3 ∷ [])
   -- Indiscriminate, lengths .0625: both flagged
-  pub c2 : Leaves (pair crossed indiscriminate sixteenth) 0 2 0 (1 ∷ 1 ∷ [])
+  pub c2 : Leaves (pair crossed indiscriminate sixteenth) 0 2 0 2 (1 ∷ 1 ∷ [])
   -- lengths .125: none
-  pub c3 : Leaves (pair crossed indiscriminate eighth) 0 0 0 (0 ∷ 0 ∷ [])
+  pub c3 : Leaves (pair crossed indiscriminate eighth) 0 0 0 6 (0 ∷ 0 ∷ [])
   -- lengths .0625, EdgeOnly: none
-  pub c4 : Leaves (pair crossed edgeOnly sixteenth) 2 0 0 (2 ∷ 2 ∷ [])
+  pub c4 : Leaves (pair crossed edgeOnly sixteenth) 2 0 0 6 (2 ∷ 2 ∷ [])
   -- EdgePriority, all lengths .25: both protected
-  pub c5 : Leaves (pair edge edgePriority quarter) 2 0 0 (2 ∷ 2 ∷ [])
+  pub c5 : Leaves (pair edge edgePriority quarter) 2 0 0 6 (2 ∷ 2 ∷ [])
   -- all lengths .249: neither
-  pub c6 : Leaves (pair edge edgePriority underQuarter) 0 0 0 (0 ∷ 0 ∷ [])
+  pub c6 : Leaves (pair edge edgePriority underQuarter) 0 0 0 6 (0 ∷ 0 ∷ [])
   -- 2 × 2, lengths .25, Indiscriminate: rows `E.` and `.E`
-  pub c7 : Leaves (square slanted indiscriminate quarter) 0 2 0 (1 ∷ 0 ∷ 0 ∷ 1 ∷ [])
+  pub c7 : Leaves (square slanted indiscriminate quarter) 0 2 0 6 (1 ∷ 0 ∷ 0 ∷ 1 ∷ [])
   -- the quotients 1 / 100 of differences 1 and -99, and 99 / 100 of 99 and -1, are the f64 0.01 and 1 - 0.01, and are excluded
   pub c8 : (crossing (f32 0x3f80_0000) (f32 0xc2c6_0000) ≡ epsilon) × (inside epsilon ≡ false) × (crossing (f32 0x42c6_0000) (f32 0xbf80_0000) ≡ oneLessEpsilon) × (inside oneLessEpsilon ≡ false)
   -- colours 3 and 6 make a corner, 7 and 3 don't
@@ -131,4 +138,6 @@ pub record Figures : Type 0 where
   -- root of 2
   pub c11 : sqrtOf (f64 0x4000_0000_0000_0000) ≡ f64 0x3ff6_a09e_667f_3bcd
   -- an edge, both, a corner, neither: rows `PCC.`; in EdgeOnly `PPPP`
-  pub c12 : Leaves (beside edgePriority) 3 0 2 (2 ∷ 6 ∷ 6 ∷ 0 ∷ []) × Leaves (beside edgeOnly) 4 0 0 (2 ∷ 2 ∷ 2 ∷ 2 ∷ [])
+  pub c12 : Leaves (beside edgePriority) 3 0 2 6 (2 ∷ 6 ∷ 6 ∷ 0 ∷ []) × Leaves (beside edgeOnly) 4 0 0 6 (2 ∷ 2 ∷ 2 ∷ 2 ∷ [])
+  -- 84 range tests for the middle one of 3 × 3 texels, of an input that is accepted
+  pub c13 : (accepted checkered ≡ true) × (testsAt checkered 1 1 ≡ 84)

@@ -12,11 +12,11 @@ use Rattle.detectors.specs.Texel.{texelMedian}
 use Rattle.detectors.specs.Edge.{protectsLower, protectsUpper}
 use Rattle.correction.specs.declared.bitmap.Visit.{Visit}
 use Rattle.correction.specs.declared.bitmap.Centre.{Centre}
-use Rattle.ground.specs.Lists.{tab, any}
+use Rattle.ground.specs.Lists.{tab, any, total}
 use Rattle.correction.specs.Bitmap.{cell, texel, inBounds}
 use Rattle.inputs.specs.Stencil.{isProtected, setCorner, setProtected, setError}
 use Rattle.correction.specs.Corners.{shared, lower, beside}
-use Rattle.correction.specs.Errors.{hasArtifact}
+use Rattle.correction.specs.Errors.{hasArtifact, testsMade}
 
 -- the sizes that checks 1 to 3 let through
 pub record Sized (w h ch : ℕ) (xs : List Float) : Type 0 where
@@ -98,10 +98,18 @@ someOf lower tex w h rh rv rd x y ahead behind level =
 abbrev pub collapsedAt : List Float → ℕ → List Float
 collapsedAt xs at = let m = texelMedian (getD xs at nan ∷ getD xs (at + 1) nan ∷ getD xs (at + 2) nan ∷ []) in set (set (set xs at m) (at + 1) m) (at + 2) m
 
--- the byte of a cell with its error bit set where the texel is flagged
+-- the byte of a cell with its error bit set where its texel is flagged
 unfoldable pub marked : List Float → ℕ → ℕ → ℕ → Settings → ℕ → ℕ → ℕ → ℕ
 marked xs w h ch s v x y = cond (hasArtifact (texel xs w ch) w h s (isProtected v) x y) (setError v) v
 
 -- the stencil after finding
 unfoldable pub found : List Float → ℕ → ℕ → ℕ → Settings → List ℕ → List ℕ
 found xs w h ch s st = tab (length st) (λ k. marked xs w h ch s (getD st k 0) (k % w) (k / w))
+
+-- the range tests made for texel x, y, whose cell has the byte v
+unfoldable pub madeFor : List Float → ℕ → ℕ → ℕ → Settings → ℕ → ℕ → ℕ → ℕ
+madeFor xs w h ch s v x y = testsMade (texel xs w ch) w h s (isProtected v) x y
+
+-- the range tests made in finding
+unfoldable pub madeIn : List Float → ℕ → ℕ → ℕ → Settings → List ℕ → ℕ
+madeIn xs w h ch s st = total (length st) (λ k. madeFor xs w h ch s (getD st k 0) (k % w) (k / w))

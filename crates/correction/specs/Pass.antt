@@ -7,14 +7,14 @@ use lib.Dec.{eqb}
 use lib.Ieee.{Float}
 use Rattle.correction.specs.declared.pass.Answer.{Answer}
 use Rattle.correction.specs.declared.pass.Answer.the-variants.{Accepted, Refused}
-use Rattle.ground.specs.Lists.{tab}
+use Rattle.ground.specs.Lists.{tab, total}
 use Rattle.correction.specs.Bitmap.{texel}
 use Rattle.inputs.specs.Stencil.{stencilByte, protectedCount, errorCount, cornerCount, countsOf}
 use Rattle.ranges.specs.Config.{disabled, edgePriority, edgeOnly}
 use Rattle.inputs.specs.Checks.{Input, input, accepted, refusalNumber, refusalPlace}
 use Rattle.correction.specs.Corners.{contours, cornersProtect}
 use Rattle.correction.specs.Edges.{edgesProtect}
-use Rattle.correction.specs.Errors.{hasArtifact}
+use Rattle.correction.specs.Errors.{hasArtifact, testsMade}
 use Rattle.correction.specs.Collapse.{collapsed}
 
 -- the texels of the bitmap
@@ -37,6 +37,10 @@ protects i x y = eqb (i .mode) edgeOnly || eqb (i .mode) edgePriority && edgePri
 unfoldable pub flags : Input → ℕ → ℕ → Bool
 flags i x y = not (eqb (i .mode) disabled) && hasArtifact (texels i) (i .width) (i .height) (i .settings) (protects i x y) x y
 
+-- the range tests made for it: none in Disabled
+unfoldable pub testsAt : Input → ℕ → ℕ → ℕ
+testsAt i x y = cond (eqb (i .mode) disabled) 0 (testsMade (texels i) (i .width) (i .height) (i .settings) (protects i x y) x y)
+
 -- the byte of cell k, whose texel is k % width, k / width
 unfoldable pub byteAt : Input → ℕ → ℕ
 byteAt i k = stencilByte (cornered i (k % i .width) (k / i .width)) (protects i (k % i .width) (k / i .width)) (flags i (k % i .width) (k / i .width))
@@ -49,35 +53,44 @@ passStencil i = tab (i .width * i .height) (byteAt i)
 unfoldable pub passSamples : Input → List Float
 passSamples i = collapsed (i .samples) (i .channels) (λ k. flags i (k % i .width) (k / i .width))
 
+-- the range tests of an accepted pass: those for all texels
+unfoldable pub passTests : Input → ℕ
+passTests i = total (i .width * i .height) (λ k. testsAt i (k % i .width) (k / i .width))
+
 -- ---- an answer's case, and its number, place and counts
 
 -- whether an answer accepts
 unfoldable pub isAccepted : Answer → Bool
-isAccepted (Accepted c) = true
+isAccepted (Accepted c t) = true
 isAccepted (Refused n p) = false
 
 -- its number, 0 where it accepts
 unfoldable pub numberOf : Answer → ℕ
-numberOf (Accepted c) = 0
+numberOf (Accepted c t) = 0
 numberOf (Refused n p) = n
 
 -- its place, 0 where it accepts
 unfoldable pub placeIn : Answer → ℕ
-placeIn (Accepted c) = 0
+placeIn (Accepted c t) = 0
 placeIn (Refused n p) = p
 
 -- its counts of protected cells, of errors and of corner cells, 0 where it refuses
 unfoldable pub protectedIn : Answer → ℕ
-protectedIn (Accepted c) = c .protected
+protectedIn (Accepted c t) = c .protected
 protectedIn (Refused n p) = 0
 
 unfoldable pub errorsIn : Answer → ℕ
-errorsIn (Accepted c) = c .error
+errorsIn (Accepted c t) = c .error
 errorsIn (Refused n p) = 0
 
 unfoldable pub cornersIn : Answer → ℕ
-cornersIn (Accepted c) = c .corner
+cornersIn (Accepted c t) = c .corner
 cornersIn (Refused n p) = 0
+
+-- its number of range tests, 0 where it refuses
+unfoldable pub testsIn : Answer → ℕ
+testsIn (Accepted c t) = t
+testsIn (Refused n p) = 0
 
 -- ---- what the pass answers, and leaves
 
@@ -91,7 +104,11 @@ errorCells i = cond (accepted i) (errorCount (passStencil i)) 0
 unfoldable pub cornerCells : Input → ℕ
 cornerCells i = cond (accepted i) (cornerCount (passStencil i)) 0
 
--- The answer accepts where no check fails, and has the number and the place of the first that does, and the counts.
+-- the range tests of an input: those of an accepted pass, and none for a refusal
+unfoldable pub testCount : Input → ℕ
+testCount i = cond (accepted i) (passTests i) 0
+
+-- The answer accepts where no check fails, and has the number and the place of the first that does, the counts and the number of tests.
 pub record Answers (i : Input) (r : Answer) : Type 0 where
   pub accepts : isAccepted r ≡ accepted i
   pub number : numberOf r ≡ refusalNumber i
@@ -99,10 +116,11 @@ pub record Answers (i : Input) (r : Answer) : Type 0 where
   pub protected : protectedIn r ≡ protectedCells i
   pub errors : errorsIn r ≡ errorCells i
   pub corners : cornersIn r ≡ cornerCells i
+  pub tests : testsIn r ≡ testCount i
 
 -- the one such answer
 unfoldable pub answer : Input → Answer
-answer i = cond (accepted i) (Accepted (countsOf (passStencil i))) (Refused (refusalNumber i) (refusalPlace i))
+answer i = cond (accepted i) (Accepted (countsOf (passStencil i)) (passTests i)) (Refused (refusalNumber i) (refusalPlace i))
 
 -- the stencil and the samples afterwards: a refusal writes nothing
 unfoldable pub stencilAfter : Input → List ℕ

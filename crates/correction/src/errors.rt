@@ -1,16 +1,20 @@
 // Finding the texels with an artifact towards a neighbour. Of four texels a is the one that is judged, b lies in its row, c in its column and d across.
 ghost use mathlib.Core.Path.{_≡_};
 ghost use Prim.Native.Nat.{_+_, _*_, _<_};
-ghost use lib.Dec.{eqb};
+ghost use mathlib.Core.Bool.{cond};
+ghost use lib.Dec.{eqb, leb};
 ghost use lib.ListN.{length};
 ghost use Rattle.ranges.specs.Config.{sideSpan, diagonalSpan};
+ghost use Rattle.detectors.specs.Verdict.{verdict};
+ghost use Rattle.inputs.specs.Stencil.{isProtected, setError};
 ghost use Rattle.correction.specs.Bitmap.{texel};
 ghost use Rattle.correction.specs.Errors as Errors;
-ghost use Rattle.correction.specs.Inner.{Sized, marked, found};
+ghost use Rattle.correction.specs.Inner.{Sized, found, madeFor, madeIn};
 use crate::bitmap;
 use crate::bitmap::Centre;
 use detectors::diagonal;
 use detectors::linear;
+use detectors::verdict;
 use inputs::sizes::Bitmap;
 use inputs::stencil;
 use ranges::config::Settings;
@@ -24,21 +28,17 @@ fn side_artifact(
     t: Centre,
     nx: usize,
     ny: usize,
-) -> bool
+) -> usize
     requires { ⌜ Sized (b .width) (b .height) (b .channels) (now xs) ⌝ }
     requires { ⌜ (t .x < b .width) × (t .y < b .height) ⌝ }
-    ensures { λ r. ⌜ r ≡ Errors.sideArtifact (texel (now (xs .entry)) (b .width) (b .channels)) (b .width) (b .height) (sideSpan s (eqb nx (t .x + 1))) protected (t .median) (t .texel) nx ny ⌝ }
+    ensures { λ r. ⌜ r ≡ verdict (Errors.sideArtifact (texel (now (xs .entry)) (b .width) (b .channels)) (b .width) (b .height) (sideSpan s (eqb nx (t .x + 1))) protected (t .median) (t .texel) nx ny) (Errors.sideTests (texel (now (xs .entry)) (b .width) (b .channels)) (b .width) (b .height) (sideSpan s (eqb nx (t .x + 1))) protected (t .median) (t .texel) nx ny) ⌝ }
 {
     let a = t.texel;
-    bitmap::in_bounds(b, nx, ny)
-        && linear::has_linear_artifact(
-            s,
-            nx == t.x + 1,
-            protected,
-            t.median,
-            a,
-            bitmap::neighbour(xs, b, nx, ny),
-        )
+    if bitmap::in_bounds(b, nx, ny) {
+        let n = bitmap::neighbour(xs, b, nx, ny);
+        return linear::has_linear_artifact(s, nx == t.x + 1, protected, t.median, a, n);
+    }
+    0
 }
 
 // Texel a of t against the diagonal neighbour at column nx and row ny, counted from 1.
@@ -50,14 +50,14 @@ fn diagonal_artifact(
     t: Centre,
     nx: usize,
     ny: usize,
-) -> bool
+) -> usize
     requires { ⌜ Sized (b .width) (b .height) (b .channels) (now xs) ⌝ }
     requires { ⌜ (t .x < b .width) × (t .y < b .height) ⌝ }
-    ensures { λ r. ⌜ r ≡ Errors.diagonalArtifact (texel (now (xs .entry)) (b .width) (b .channels)) (b .width) (b .height) (diagonalSpan s) protected (t .median) (t .texel) (t .x) (t .y) nx ny ⌝ }
+    ensures { λ r. ⌜ r ≡ verdict (Errors.diagonalArtifact (texel (now (xs .entry)) (b .width) (b .channels)) (b .width) (b .height) (diagonalSpan s) protected (t .median) (t .texel) (t .x) (t .y) nx ny) (Errors.acrossTests (texel (now (xs .entry)) (b .width) (b .channels)) (b .width) (b .height) (diagonalSpan s) protected (t .median) (t .texel) (t .x) (t .y) nx ny) ⌝ }
 {
     let a = t.texel;
-    bitmap::in_bounds(b, nx, ny)
-        && diagonal::has_diagonal_artifact(
+    if bitmap::in_bounds(b, nx, ny) {
+        return diagonal::has_diagonal_artifact(
             s,
             protected,
             t.median,
@@ -67,14 +67,16 @@ fn diagonal_artifact(
                 bitmap::texel(xs, b, t.x, ny - 1),
                 bitmap::neighbour(xs, b, nx, ny),
             ],
-        )
+        );
+    }
+    0
 }
 
-// Texel a of t has an artifact towards some neighbour: left, below, right, above, lower left, lower right, upper left, upper right.
-fn some_artifact(xs: &[f32], b: Bitmap, s: Settings, protected: bool, t: Centre) -> bool
+// Texel a of t towards its neighbours in order, up to the first with an artifact: left, below, right, above, lower left, lower right, upper left, upper right.
+fn some_artifact(xs: &[f32], b: Bitmap, s: Settings, protected: bool, t: Centre) -> usize
     requires { ⌜ Sized (b .width) (b .height) (b .channels) (now xs) ⌝ }
     requires { ⌜ (t .x < b .width) × (t .y < b .height) ⌝ }
-    ensures { λ r. ⌜ r ≡ Errors.someArtifact (texel (now (xs .entry)) (b .width) (b .channels)) (b .width) (b .height) s protected (t .median) (t .texel) (t .x) (t .y) ⌝ }
+    ensures { λ r. ⌜ r ≡ verdict (Errors.someArtifact (texel (now (xs .entry)) (b .width) (b .channels)) (b .width) (b .height) s protected (t .median) (t .texel) (t .x) (t .y)) (Errors.someMade (texel (now (xs .entry)) (b .width) (b .channels)) (b .width) (b .height) s protected (t .median) (t .texel) (t .x) (t .y)) ⌝ }
 {
     let left = t.x;
     let low = t.y;
@@ -82,41 +84,74 @@ fn some_artifact(xs: &[f32], b: Bitmap, s: Settings, protected: bool, t: Centre)
     let right = left + 2;
     let level = low + 1;
     let high = low + 2;
-    side_artifact(xs, b, s, protected, t, left, level)
-        || (side_artifact(xs, b, s, protected, t, middle, low)
-            || (side_artifact(xs, b, s, protected, t, right, level)
-                || (side_artifact(xs, b, s, protected, t, middle, high)
-                    || (diagonal_artifact(xs, b, s, protected, t, left, low)
-                        || (diagonal_artifact(xs, b, s, protected, t, right, low)
-                            || (diagonal_artifact(xs, b, s, protected, t, left, high)
-                                || diagonal_artifact(xs, b, s, protected, t, right, high)))))))
+    let v1 = side_artifact(xs, b, s, protected, t, left, level);
+    if v1 >= verdict::ARTIFACT {
+        return v1;
+    }
+    let v2 = v1 + side_artifact(xs, b, s, protected, t, middle, low);
+    if v2 >= verdict::ARTIFACT {
+        return v2;
+    }
+    let v3 = v2 + side_artifact(xs, b, s, protected, t, right, level);
+    if v3 >= verdict::ARTIFACT {
+        return v3;
+    }
+    let v4 = v3 + side_artifact(xs, b, s, protected, t, middle, high);
+    if v4 >= verdict::ARTIFACT {
+        return v4;
+    }
+    let v5 = v4 + diagonal_artifact(xs, b, s, protected, t, left, low);
+    if v5 >= verdict::ARTIFACT {
+        return v5;
+    }
+    let v6 = v5 + diagonal_artifact(xs, b, s, protected, t, right, low);
+    if v6 >= verdict::ARTIFACT {
+        return v6;
+    }
+    let v7 = v6 + diagonal_artifact(xs, b, s, protected, t, left, high);
+    if v7 >= verdict::ARTIFACT {
+        return v7;
+    }
+    v7 + diagonal_artifact(xs, b, s, protected, t, right, high)
 }
 
-// The byte of a cell, with its error bit set where its texel is flagged.
-fn marked_byte(xs: &[f32], b: Bitmap, s: Settings, v: u8, x: usize, y: usize) -> u8
+// The verdict of texel x, y, whose cell has the byte v.
+fn verdict_at(xs: &[f32], b: Bitmap, s: Settings, v: u8, x: usize, y: usize) -> usize
     requires { ⌜ Sized (b .width) (b .height) (b .channels) (now xs) ⌝ }
     requires { ⌜ (x < b .width) × (y < b .height) ⌝ }
-    ensures { λ r. ⌜ r ≡ marked (now (xs .entry)) (b .width) (b .height) (b .channels) s v x y ⌝ }
+    ensures { λ r. ⌜ r ≡ verdict (Errors.hasArtifact (texel (now (xs .entry)) (b .width) (b .channels)) (b .width) (b .height) s (isProtected v) x y) (madeFor (now (xs .entry)) (b .width) (b .height) (b .channels) s v x y) ⌝ }
 {
     let t = bitmap::centre_at(xs, b, x, y);
-    if some_artifact(xs, b, s, stencil::is_protected(v), t) {
+    some_artifact(xs, b, s, stencil::is_protected(v), t)
+}
+
+// The byte of a cell, with its error bit set where the verdict of its texel says so.
+fn marked_byte(v: u8, found: usize) -> u8
+    ensures { λ r. ⌜ r ≡ cond (leb 128 found) (setError v) v ⌝ }
+{
+    if found >= verdict::ARTIFACT {
         stencil::set_error(v)
     } else {
         v
     }
 }
 
-// Sets the error bit of each flagged texel's cell.
-pub fn find_errors(stencil: &mut [u8], xs: &[f32], b: Bitmap, s: Settings)
+// Sets the error bit of each flagged texel's cell, and answers how many range tests that took.
+pub fn find_errors(stencil: &mut [u8], xs: &[f32], b: Bitmap, s: Settings) -> usize
     requires { ⌜ Sized (b .width) (b .height) (b .channels) (now xs) ⌝ }
     requires { ⌜ length (now stencil) ≡ b .height * b .width ⌝ }
-    ensures { λ _. ⌜ now (stencil .exit) ≡ found (now (xs .entry)) (b .width) (b .height) (b .channels) s (now (stencil .entry)) ⌝ }
+    ensures finds { λ _. ⌜ now (stencil .exit) ≡ found (now (xs .entry)) (b .width) (b .height) (b .channels) s (now (stencil .entry)) ⌝ }
+    ensures makes { λ r. ⌜ r ≡ madeIn (now (xs .entry)) (b .width) (b .height) (b .channels) s (now (stencil .entry)) ⌝ }
 {
     let mut at = bitmap::first(b);
+    let mut tests = 0usize;
     while at.y < b.height {
         let k = at.number;
-        let v = stencil[k];
-        stencil[k] = marked_byte(xs, b, s, v, at.x, at.y);
+        let byte = stencil[k];
+        let v = verdict_at(xs, b, s, byte, at.x, at.y);
+        stencil[k] = marked_byte(byte, v);
+        tests += v % verdict::ARTIFACT;
         at = bitmap::next(b, at);
     }
+    tests
 }

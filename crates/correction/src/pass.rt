@@ -20,9 +20,9 @@ use inputs::stencil::Counts;
 use ranges::config;
 use ranges::config::Settings;
 
-// What the pass answers: the counts, or the number of the first check that fails and its place.
+// What the pass answers: the counts and how many range tests it made, or the number of the first check that fails and its place.
 pub enum Answer {
-    Accepted(Counts),
+    Accepted(Counts, usize),
     Refused(u8, usize),
 }
 
@@ -53,7 +53,7 @@ fn protect(
     }
 }
 
-// Everything after the checks.
+// Everything after the checks; answers how many range tests it made.
 fn correct(
     stencil: &mut [u8],
     xs: &mut [f32],
@@ -63,20 +63,22 @@ fn correct(
     colours: &[u8],
     coords: &[f64],
     ends: &[usize],
-)
+) -> usize
     requires { ⌜ Sized (b .width) (b .height) (b .channels) (now xs) ⌝ }
     requires { ⌜ length (now stencil) ≡ b .height * b .width ⌝ }
     requires { ⌜ Outlined (now colours) (now coords) (now ends) ⌝ }
+    ensures makes { λ r. ⌜ r ≡ Pass.passTests (input (b .width) (b .height) (b .channels) (now (xs .entry)) (now (stencil .entry)) mode s (now (colours .entry)) (now (coords .entry)) (now (ends .entry))) ⌝ }
     ensures leaves { λ _. ⌜ now (stencil .exit) ≡ Pass.passStencil (input (b .width) (b .height) (b .channels) (now (xs .entry)) (now (stencil .entry)) mode s (now (colours .entry)) (now (coords .entry)) (now (ends .entry))) ⌝ }
     ensures writes { λ _. ⌜ now (xs .exit) ≡ Pass.passSamples (input (b .width) (b .height) (b .channels) (now (xs .entry)) (now (stencil .entry)) mode s (now (colours .entry)) (now (coords .entry)) (now (ends .entry))) ⌝ }
 {
     if mode == config::DISABLED {
         stencil::fill(stencil, 0);
-        return;
+        return 0;
     }
     protect(stencil, xs, b, mode, s, colours, coords, ends);
-    errors::find_errors(stencil, xs, b, s);
+    let tests = errors::find_errors(stencil, xs, b, s);
     collapse::apply(stencil, xs, b);
+    tests
 }
 
 // The error correction of a bitmap, in place.
@@ -105,6 +107,6 @@ pub fn msdf_error_correction(
     if f.number != 0 {
         return Answer::Refused(f.number, f.place);
     }
-    correct(stencil, samples, b, mode, settings, colours, coords, ends);
-    Answer::Accepted(stencil::count_cells(stencil))
+    let tests = correct(stencil, samples, b, mode, settings, colours, coords, ends);
+    Answer::Accepted(stencil::count_cells(stencil), tests)
 }

@@ -2,4 +2,6 @@
 pub mod Texel
 pub mod Finite
 pub mod Falls
+pub mod Verdict
+pub mod Tests
 pub mod Alike

@@ -1,5 +1,5 @@
 -- The diagonal detector, over four texels of three channels each: a; its two side neighbours b (in the row) and c (in the column); the far one d. Definitions only.
-use Prim.Native.Nat.{ℕ}
+use Prim.Native.Nat.{ℕ, _+_}
 use mathlib.Core.Bool.{Bool, cond, _&&_, _||_}
 use mathlib.Core.List.{List, []}
 use lib.ListN.{getD}
@@ -9,7 +9,7 @@ use Rattle.ranges.specs.Constants.{halfOf}
 use Rattle.numbers.specs.Scalar.{medianOf}
 use Rattle.numbers.specs.Rounding.{narrowOf}
 use Rattle.numbers.specs.EquationSolver.{rootsOf}
-use Rattle.ground.specs.Lists.{any, some}
+use Rattle.ground.specs.Lists.{any, some, spent, spentIn}
 use Rattle.detectors.specs.Texel.{channel, texelMedian}
 use Rattle.ranges.specs.Classifier.{rangeTest}
 use Rattle.detectors.specs.Pairs.{guard, inside, next, difference}
@@ -66,13 +66,17 @@ quadraticRoots dA dBC dD = rootsOf (add binary32 (sub binary32 dD dBC) dA) (sub 
 unfoldable pub pairRoots : List (List Float) → ℕ → List Float
 pairRoots m p = quadraticRoots (difference (getD m 0 []) p) (middleDifference m p) (difference (getD m 3 []) p)
 
--- The range test that a turning point e adds: strictly inside 0..1, with one end moved to it, the upper end if it lies above the root t, else the lower.
+-- A turning point e adds a range test where it lies strictly inside 0..1:
+unfoldable pub turns : Float → Bool
+turns e = lt (zeroOf binary64) e && lt e (oneOf binary64)
+
+-- that with one end moved to it, the upper end if it lies above the root t, else the lower.
 unfoldable pub movedEnd : Float → Bool → Float → Float → Float → Float → Float → Float → Bool
 movedEnd span protected am dm em e t xm =
     cond (lt t e) (rangeTest span protected (zeroOf binary64) e t am em xm) (rangeTest span protected e (oneOf binary64) t em dm xm)
 
 unfoldable pub turningTest : Float → Bool → Float → Float → List (List Float) → Float → Float → Float → Bool
-turningTest span protected am dm m t xm e = lt (zeroOf binary64) e && (lt e (oneOf binary64) && movedEnd span protected am dm (curveMedian m e) e t xm)
+turningTest span protected am dm m t xm e = turns e && movedEnd span protected am dm (curveMedian m e) e t xm
 
 -- the range tests of a root t whose median is xm
 unfoldable pub rootTests : Float → Bool → Float → Float → List (List Float) → ℕ → Float → Float → Bool
@@ -95,3 +99,25 @@ diagonalPairs span protected am dm m = guard am dm && any 3 (diagonalPair span p
 -- the detector
 unfoldable pub hasDiagonalArtifact : Float → Bool → Float → List (List Float) → Bool
 hasDiagonalArtifact span protected am m = diagonalPairs span protected am (texelMedian (getD m 3 [])) m
+
+-- ---- how many range tests the detector makes
+
+-- at a root of pair p: one, and one more for each of the two turning points that adds one; all of them are made before the verdict
+unfoldable pub rootTestCount : List (List Float) → ℕ → ℕ
+rootTestCount m p = 1 + cond (turns (turningPoint m p)) 1 0 + cond (turns (turningPoint m (next p))) 1 0
+
+-- at a root t, where it is inside
+unfoldable pub diagonalTestsAt : List (List Float) → ℕ → Float → ℕ
+diagonalTestsAt m p t = cond (inside t) (rootTestCount m p) 0
+
+-- for pair p: its roots in order, up to the first artifact
+unfoldable pub diagonalPairTests : Float → Bool → Float → Float → List (List Float) → ℕ → ℕ
+diagonalPairTests span protected am dm m p = spentIn (diagonalAt span protected am dm m p) (diagonalTestsAt m p) (pairRoots m p)
+
+-- for the pairs in order, up to the first artifact
+unfoldable pub diagonalPairsTests : Float → Bool → Float → Float → List (List Float) → ℕ
+diagonalPairsTests span protected am dm m = cond (guard am dm) (spent 3 (diagonalPair span protected am dm m) (diagonalPairTests span protected am dm m)) 0
+
+-- of the detector
+unfoldable pub diagonalTests : Float → Bool → Float → List (List Float) → ℕ
+diagonalTests span protected am m = diagonalPairsTests span protected am (texelMedian (getD m 3 [])) m

@@ -1,5 +1,6 @@
 -- The pages of definitions, each after those that it rests on.
 pub mod Texel
+pub mod Verdict
 pub mod Pairs
 pub mod Linear
 pub mod Diagonal

@@ -1,13 +1,16 @@
 // The diagonal detector: a texel, its two side neighbours and the one across.
 ghost use mathlib.Core.Path.{_≡_};
-ghost use Prim.Native.Nat.{_<_};
+ghost use Prim.Native.Nat.{_<_, _≤_};
+ghost use mathlib.Core.Bool.{cond};
 ghost use Rattle.numbers.specs.EquationSolver.{Listed};
+ghost use Rattle.detectors.specs.Verdict.{verdict};
 ghost use Rattle.detectors.specs.Diagonal as Diagonal;
-ghost use Rattle.ground.specs.Lists.{any};
+ghost use Rattle.ground.specs.Lists.{any, spent};
 ghost use Rattle.ranges.specs.Config as Config;
-ghost use Rattle.detectors.specs.Inner.{rootAt};
+ghost use Rattle.detectors.specs.Inner.{rootVerdict, rootCount, rootAt};
 use crate::pairs;
 use crate::texel;
+use crate::verdict;
 use numbers::equation_solver;
 use numbers::equation_solver::Roots;
 use numbers::rounding;
@@ -114,29 +117,67 @@ fn moved_end(k: Classifier, am: f32, dm: f32, em: f32, e: f64, t: f64, xm: f32) 
     }
 }
 
+// A turning point e adds a range test.
+fn turns(e: f64) -> bool
+    ensures { λ r. ⌜ r ≡ Diagonal.turns e ⌝ }
+{
+    e > 0.0 && e < 1.0
+}
+
 // The range test that a turning point e adds.
 fn turning_test(k: Classifier, am: f32, dm: f32, m: [[f32; 3]; 4], t: f64, xm: f32, e: f64) -> bool
     ensures { λ r. ⌜ r ≡ Diagonal.turningTest (k .span) (k .protected) am dm m t xm e ⌝ }
 {
-    e > 0.0 && (e < 1.0 && moved_end(k, am, dm, interpolated_median_quad(m, e), e, t, xm))
+    turns(e) && moved_end(k, am, dm, interpolated_median_quad(m, e), e, t, xm)
 }
 
-// The range tests of a root t of pair p, whose median is xm.
-fn root_tests(k: Classifier, am: f32, dm: f32, m: [[f32; 3]; 4], p: usize, t: f64, xm: f32) -> bool
-    requires { ⌜ p < 3 ⌝ }
-    ensures { λ r. ⌜ r ≡ Diagonal.rootTests (k .span) (k .protected) am dm m p t xm ⌝ }
+// The range tests of a root t whose median is xm, where the pair's channels turn at e and f: no more than it takes for the verdict.
+fn root_tests(
+    k: Classifier,
+    am: f32,
+    dm: f32,
+    m: [[f32; 3]; 4],
+    t: f64,
+    xm: f32,
+    e: f64,
+    f: f64,
+) -> bool
+    ensures { λ r. ⌜ r ≡ rootVerdict (k .span) (k .protected) am dm m t xm e f ⌝ }
 {
     classifier::range_test(k, 0.0, 1.0, t, am, dm, xm)
-        || (turning_test(k, am, dm, m, t, xm, turning_point(m, p))
-            || turning_test(k, am, dm, m, t, xm, turning_point(m, pairs::next(p))))
+        || (turning_test(k, am, dm, m, t, xm, e) || turning_test(k, am, dm, m, t, xm, f))
 }
 
-// A root t of pair p is an artifact.
-fn diagonal_at(k: Classifier, am: f32, dm: f32, m: [[f32; 3]; 4], p: usize, t: f64) -> bool
-    requires { ⌜ p < 3 ⌝ }
-    ensures { λ r. ⌜ r ≡ Diagonal.diagonalAt (k .span) (k .protected) am dm m p t ⌝ }
+// How many range tests a turning point e adds.
+fn added(e: f64) -> usize
+    ensures { λ r. ⌜ (r ≡ cond (Diagonal.turns e) 1 0) × (r ≤ 1) ⌝ }
 {
-    pairs::inside(t) && root_tests(k, am, dm, m, p, t, interpolated_median_quad(m, t))
+    if turns(e) { 1 } else { 0 }
+}
+
+// How many range tests a root has where the pair's channels turn at e and f.
+fn root_test_count(e: f64, f: f64) -> usize
+    ensures { λ r. ⌜ (r ≡ rootCount e f) × (r ≤ 3) ⌝ }
+{
+    1 + added(e) + added(f)
+}
+
+// The verdict at root t of pair p.
+fn diagonal_at(k: Classifier, am: f32, dm: f32, m: [[f32; 3]; 4], p: usize, t: f64) -> usize
+    requires { ⌜ p < 3 ⌝ }
+    ensures { λ r. ⌜ r ≡ verdict (Diagonal.diagonalAt (k .span) (k .protected) am dm m p t) (Diagonal.diagonalTestsAt m p t) ⌝ }
+{
+    if pairs::inside(t) {
+        let e = turning_point(m, p);
+        let f = turning_point(m, pairs::next(p));
+        let xm = interpolated_median_quad(m, t);
+        let n = root_test_count(e, f);
+        if root_tests(k, am, dm, m, t, xm, e, f) {
+            return verdict::ARTIFACT + n;
+        }
+        return n;
+    }
+    0
 }
 
 // Root i of up to two.
@@ -147,42 +188,42 @@ fn root_at(r: Roots, i: usize) -> f64
 }
 
 // The pairs in order, and of each the roots in order; the search stops at the first artifact.
-fn some_pair(k: Classifier, am: f32, dm: f32, m: [[f32; 3]; 4]) -> bool
-    ensures { λ r. ⌜ r ≡ any 3 (Diagonal.diagonalPair (k .span) (k .protected) am dm m) ⌝ }
+fn some_pair(k: Classifier, am: f32, dm: f32, m: [[f32; 3]; 4]) -> usize
+    ensures { λ r. ⌜ r ≡ verdict (any 3 (Diagonal.diagonalPair (k .span) (k .protected) am dm m)) (spent 3 (Diagonal.diagonalPair (k .span) (k .protected) am dm m) (Diagonal.diagonalPairTests (k .span) (k .protected) am dm m)) ⌝ }
 {
     let mut p = 0usize;
-    let verdict = 'pairs: loop {
+    let mut tests = 0usize;
+    let found = 'pairs: loop {
         if p >= 3 {
-            break 'pairs false;
+            break 'pairs tests;
         }
         let r = pair_roots(m, p);
         let n = r.count;
         let mut i = 0usize;
         while i < n {
-            if diagonal_at(k, am, dm, m, p, root_at(r, i)) {
-                break 'pairs true;
+            tests += diagonal_at(k, am, dm, m, p, root_at(r, i));
+            if tests >= verdict::ARTIFACT {
+                break 'pairs tests;
             }
             i += 1;
         }
         p += 1;
     };
-    verdict
+    found
 }
 
-// Texel m[0], whose median is am, against the one across, m[3].
-pub fn has_diagonal_artifact(s: Settings, protected: bool, am: f32, m: [[f32; 3]; 4]) -> bool
-    ensures { λ r. ⌜ r ≡ Diagonal.hasDiagonalArtifact (Config.diagonalSpan s) protected am m ⌝ }
+// The verdict of texel m[0], whose median is am, against the one across, m[3].
+pub fn has_diagonal_artifact(s: Settings, protected: bool, am: f32, m: [[f32; 3]; 4]) -> usize
+    ensures { λ r. ⌜ r ≡ verdict (Diagonal.hasDiagonalArtifact (Config.diagonalSpan s) protected am m) (Diagonal.diagonalTests (Config.diagonalSpan s) protected am m) ⌝ }
 {
     let far = texel::median(m[3]);
     let dm = far.value;
-    pairs::guard(am, dm)
-        && some_pair(
-            Classifier {
-                span: config::diagonal_span(s),
-                protected,
-            },
-            am,
-            dm,
-            m,
-        )
+    if pairs::guard(am, dm) {
+        let k = Classifier {
+            span: config::diagonal_span(s),
+            protected,
+        };
+        return some_pair(k, am, dm, m);
+    }
+    0
 }

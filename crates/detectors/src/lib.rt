@@ -4,3 +4,4 @@ pub mod edge;
 pub mod linear;
 mod pairs;
 pub mod texel;
+pub mod verdict;

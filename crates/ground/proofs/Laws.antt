@@ -1,7 +1,8 @@
--- What the crates above may know of lists, searches, tests, checks, NaN patterns and writing, and that each promise determines its answer.
+-- What the crates above may know of lists, searches and what they spend, tests, checks, NaN patterns and writing, and that each promise determines its answer.
 pub mod Bools
 pub mod Search
 pub mod Count
+pub mod Spent
 pub mod Fill
 pub mod Nan
 pub mod Refuse

@@ -1,4 +1,4 @@
--- Lists by what stands at each index or piece, and tests over the numbers below one. Definitions only.
+-- Lists by what stands at each index or piece, and tests and sums over the numbers below one. Definitions only.
 use Prim.Native.Nat.{ℕ, zero, suc, _+_}
 use mathlib.Core.Bool.{Bool, false, _||_, cond}
 use mathlib.Core.List.{List, [], _∷_, _++_}
@@ -32,3 +32,18 @@ count (suc n) f = count n f + cond (f n) 1 0
 unfoldable pub first : ℕ → (ℕ → Bool) → ℕ
 first zero f = 0
 first (suc n) f = cond (f zero) 0 (suc (first n (λ k. f (suc k))))
+
+-- f 0 + .. + f (n - 1)
+unfoldable pub total : ℕ → (ℕ → ℕ) → ℕ
+total zero f = 0
+total (suc n) f = total n f + f n
+
+-- what a search through the numbers below n spends that tries them in order and ends with the first of which the test holds, where to try k costs c k
+unfoldable pub spent : ℕ → (ℕ → Bool) → (ℕ → ℕ) → ℕ
+spent zero f c = 0
+spent (suc n) f c = spent n f c + cond (any n f) 0 (c n)
+
+-- what such a search through a list spends
+unfoldable pub spentIn : {A : Type 0} → (A → Bool) → (A → ℕ) → List A → ℕ
+spentIn f c [] = 0
+spentIn f c (x ∷ xs) = c x + cond (f x) 0 (spentIn f c xs)

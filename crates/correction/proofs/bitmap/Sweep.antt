@@ -1,7 +1,9 @@
 -- A sweep over the cells of a bitmap of w columns and h rows that stores `g v x y` in the cell of column x and row y, v being its old byte. Assumes nothing.
 --     swept-none    at the first cell
 --     swept-place   a cell that is inside is one of the stencil's
+--     swept-from    what is worked out there from the byte that stands there is what is worked out from the old one
 --     swept-next    after a store and a step
+--     swept-past    past the last row no cell is left
 --     swept-all     past the last row the stencil is `tab (length st₀) (swept g w st₀)`
 use mathlib.Core.Path.{_≡_, sym, _∙_}
 use mathlib.Core.List.{List}
@@ -33,8 +35,8 @@ module _ (g : ℕ → ℕ → ℕ → ℕ) (w h : ℕ) (st₀ : List ℕ) where
     pub swept-place : at .y < h → at .number < length st
     swept-place l = omega (arith, e, i .filled .len, i .on .here, cell-lt w h (at .x) (at .y) (i .on .column) l)
 
-    stored : g (getD st (at .number) 0) (at .x) (at .y) ≡ swept g w st₀ (at .number)
-    stored =
+    pub swept-from : (f : ℕ → ℕ → ℕ → ℕ) → f (getD st (at .number) 0) (at .x) (at .y) ≡ swept f w st₀ (at .number)
+    swept-from f =
         let q : (at .y * w + at .x) / w ≡ at .y = digits-div (at .y) (i .on .column) in
         let r : (at .y * w + at .x) % w ≡ at .x = digits-mod (at .y) (i .on .column) in
         rw (i .filled .rest (at .number) (le-refl (at .number)), i .on .here, q, r)
@@ -43,8 +45,11 @@ module _ (g : ℕ → ℕ → ℕ → ℕ) (w h : ℕ) (st₀ : List ℕ) where
     swept-next {v} {to} l p q =
         record {
           on = q .1;
-          filled = filled-at 0 (swept g w st₀) st₀ (to .number) (filled-more 0 (swept g w st₀) st₀ (i .filled) (swept-place l) (p ∙ stored)) (sym (q .0));
+          filled = filled-at 0 (swept g w st₀) st₀ (to .number) (filled-more 0 (swept g w st₀) st₀ (i .filled) (swept-place l) (p ∙ swept-from g)) (sym (q .0));
         }
 
+    pub swept-past : h ≤ at .y → length st₀ ≤ at .number
+    swept-past l = omega (arith, e, i .on .here, mul-le-mul-right w l)
+
     pub swept-all : h ≤ at .y → st ≡ tab (length st₀) (swept g w st₀)
-    swept-all l = filled-all 0 (swept g w st₀) st₀ (i .filled) (omega (arith, e, i .on .here, mul-le-mul-right w l))
+    swept-all l = filled-all 0 (swept g w st₀) st₀ (i .filled) (swept-past l)

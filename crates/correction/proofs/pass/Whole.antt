@@ -13,7 +13,7 @@ use lib.Ieee.{Float}
 use borrow.Author.Tests.{eq-eqb, ne-eqb}
 use Rattle.correction.specs.declared.pass.Answer.the-variants.{Accepted, Refused}
 use Rattle.inputs.specs.declared.stencil.Counts.{Counts}
-use Rattle.ground.specs.Lists.{tab}
+use Rattle.ground.specs.Lists.{tab, total}
 use Rattle.correction.specs.Bitmap.{texel}
 use Rattle.inputs.specs.Stencil.{stencilByte, isError, setCorner, setProtected, countsOf}
 use Rattle.inputs.specs.Checks.{Input, accepted, refusalNumber, refusalPlace}
@@ -21,12 +21,13 @@ use Rattle.correction.specs.Corners.{contours, cornersProtect}
 use Rattle.correction.specs.Edges.{edgesProtect}
 use Rattle.correction.specs.Errors.{hasArtifact}
 use Rattle.correction.specs.Collapse.{collapsed}
-use Rattle.correction.specs.Inner.{Sized, painted, atCorner, found}
+use Rattle.correction.specs.Inner.{Sized, painted, atCorner, found, madeIn}
 use Rattle.inputs.specs.Inner.{Outlined}
-use Rattle.correction.specs.Pass.{texels, cornered, edgePriorityProtects, protects, flags, byteAt, passStencil, passSamples, Answers, answer, stencilAfter, samplesAfter}
+use Rattle.correction.specs.Pass.{texels, cornered, edgePriorityProtects, protects, flags, byteAt, passStencil, passSamples, testsAt, passTests, Answers, answer, stencilAfter, samplesAfter}
 use Rattle.ground.proofs.Laws.Fill.{tab-length, tab-at, tab-same}
+use Rattle.ground.proofs.Laws.Spent.{total-zero, total-same}
 use Rattle.correction.proofs.loops.Painted.{painted-length, painted-at, is-painted}
-use Rattle.correction.proofs.pass.Staged.{found-staged, byte-at-says, byte-at-disabled, collapsed-same, collapsed-none}
+use Rattle.correction.proofs.pass.Staged.{found-staged, made-staged, byte-at-says, byte-at-disabled, collapsed-same, collapsed-none}
 use Rattle.correction.proofs.bitmap.Sizes.{sized, cells}
 use Rattle.inputs.proofs.Laws.Checks.{sizes, passed}
 use Rattle.inputs.proofs.Laws.Stencil.{byte-sets, byte-clear, byte-only-protected}
@@ -93,11 +94,14 @@ module _ (i : Input) where
     area = m ∙ mul-comm (i .height) (i .width)
 
     -- Disabled
-    pub switched-off : (st : List ℕ) → i .mode ≡ 0 → st ≡ tab (length (i .stencil)) (λ k. 0) → (st ≡ passStencil i) × (i .samples ≡ passSamples i)
-    unfolding passStencil passSamples flags
+    pub switched-off : (st : List ℕ) → i .mode ≡ 0 → st ≡ tab (length (i .stencil)) (λ k. 0) → (0 ≡ passTests i) × ((st ≡ passStencil i) × (i .samples ≡ passSamples i))
+    unfolding passTests testsAt passStencil passSamples flags
     switched-off st e p = (
-      p ∙ ap (λ (n : ℕ). tab n (λ k. 0)) area ∙ tab-same (i .width * i .height) _ _ (λ k l. sym (byte-at-disabled i e k)),
-      sym (collapsed-none (i .samples) (i .channels)) ∙ simp (eq-eqb (i .mode) 0 e) refl,
+      sym (total-zero (i .width * i .height) _ (λ k. simp (eq-eqb (i .mode) 0 e))),
+      (
+        p ∙ ap (λ (n : ℕ). tab n (λ k. 0)) area ∙ tab-same (i .width * i .height) _ _ (λ k l. sym (byte-at-disabled i e k)),
+        sym (collapsed-none (i .samples) (i .channels)) ∙ simp (eq-eqb (i .mode) 0 e) refl,
+      ),
     )
 
     module _ (st₁ : List ℕ) (p : st₁ ≡ tab (length (i .stencil)) shielded) where
@@ -114,11 +118,21 @@ module _ (i : Input) where
           error-at : (k : ℕ) → k < length (i .stencil) → isError (getD st₂ k 0) ≡ flags i (k % i .width) (k / i .width)
           error-at k l = ap (λ (z : List ℕ). isError (getD z k 0)) staged ∙ ap isError (tab-at (length (i .stencil)) (byteAt i) k 0 l) ∙ byte-at-says i k .2
 
-          pub done : (xs : List Float) → xs ≡ collapsed (i .samples) (i .channels) (λ k. isError (getD st₂ k 0)) → (st₂ ≡ passStencil i) × (xs ≡ passSamples i)
+          made-as : (t : ℕ) → t ≡ madeIn (i .samples) (i .width) (i .height) (i .channels) (i .settings) st₁ → t ≡ passTests i
+          unfolding corners covers passTests testsAt texels
+          made-as t r =
+              r ∙ made-staged (i .samples) (i .width) (i .height) (i .channels) (i .settings) (length (i .stencil)) corners covers st₁ p
+              ∙ total-same (length (i .stencil)) _ (λ k. testsAt i (k % i .width) (k / i .width)) (λ k l. simp (ne-eqb (i .mode) 0 e)) ∙ ap (λ (n : ℕ). total n (λ k. testsAt i (k % i .width) (k / i .width))) area
+
+          pub done : (t : ℕ) → t ≡ madeIn (i .samples) (i .width) (i .height) (i .channels) (i .settings) st₁ →
+              (xs : List Float) → xs ≡ collapsed (i .samples) (i .channels) (λ k. isError (getD st₂ k 0)) → (t ≡ passTests i) × ((st₂ ≡ passStencil i) × (xs ≡ passSamples i))
           unfolding passStencil passSamples
-          done xs r = (
-            staged ∙ ap (λ (n : ℕ). tab n (byteAt i)) area,
-            r ∙ collapsed-same (i .samples) (i .channels) (length (i .stencil)) _ _ (s .long ∙ ap (λ (n : ℕ). n * i .channels) (sym m)) error-at,
+          done t u xs r = (
+            made-as t u,
+            (
+              staged ∙ ap (λ (n : ℕ). tab n (byteAt i)) area,
+              r ∙ collapsed-same (i .samples) (i .channels) (length (i .stencil)) _ _ (s .long ∙ ap (λ (n : ℕ). n * i .channels) (sym m)) error-at,
+            ),
           )
 
   -- the number n and the place p of a refusal
@@ -135,8 +149,9 @@ module _ (i : Input) where
       let s = sizes _ _ _ _ _ (o .sizes) in
       (sized _ _ _ _ _ s, (cells _ _ _ _ _ s, o .outlined))
 
-  pub answered : (st : List ℕ) (xs : List Float) (c : Counts) → refusalNumber i ≡ 0 → st ≡ passStencil i → xs ≡ passSamples i → c ≡ countsOf st → Answers i (Accepted c) × ((st ≡ stencilAfter i) × (xs ≡ samplesAfter i))
+  pub answered : (st : List ℕ) (xs : List Float) (c : Counts) (t : ℕ) → refusalNumber i ≡ 0 → t ≡ passTests i → st ≡ passStencil i → xs ≡ passSamples i → c ≡ countsOf st → Answers i (Accepted c t) × ((st ≡ stencilAfter i) × (xs ≡ samplesAfter i))
   unfolding answer stencilAfter samplesAfter accepted
-  answered st xs c z p q r =
-      let t : eqb (refusalNumber i) 0 ≡ true = eq-eqb _ 0 z in
-      (as-answered i (Accepted c) (simp t (ap Accepted (r ∙ ap countsOf p))), (simp t p, simp t q))
+  answered st xs c t z o p q r =
+      let a : eqb (refusalNumber i) 0 ≡ true = eq-eqb _ 0 z in
+      let e : c ≡ countsOf (passStencil i) = r ∙ ap countsOf p in
+      (as-answered i (Accepted c t) (simp a (λ j. Accepted (e j) (o j))), (simp a p, simp a q))

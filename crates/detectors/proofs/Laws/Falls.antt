@@ -14,10 +14,10 @@ use Rattle.ground.proofs.Laws.Search.{any-implies, some-implies}
 use Rattle.detectors.specs.Texel.{texelMedian}
 use Rattle.detectors.specs.Pairs.{guard, inside, next, difference}
 use Rattle.detectors.specs.Linear.{crossing, linearAt, linearPair, linearPairs, hasLinearArtifact}
-use Rattle.detectors.specs.Diagonal.{turningPoint, curveMedian, pairRoots, movedEnd, turningTest, rootTests, diagonalAt, diagonalPair, diagonalPairs, hasDiagonalArtifact}
-use Rattle.ranges.proofs.Laws.Finite.{Weight, zero-weight, one-weight, strict-weight}
+use Rattle.detectors.specs.Diagonal.{turningPoint, curveMedian, pairRoots, turns, movedEnd, turningTest, rootTests, diagonalAt, diagonalPair, diagonalPairs, hasDiagonalArtifact}
+use Rattle.ranges.proofs.Laws.Finite.{Weight, zero-weight, one-weight}
 use Rattle.ranges.proofs.Laws.Falls.{Spans, Between, range-test-falls}
-use Rattle.detectors.proofs.Laws.Finite.{inside-weight}
+use Rattle.detectors.proofs.Laws.Finite.{inside-weight, turns-weight}
 
 -- ---- the detectors
 
@@ -56,9 +56,7 @@ module _ (span span' : Float) (wider : Spans span span') (protected protected' :
 
   turning-test-falls : (am dm : Float) (m : List (List Float)) (t xm e : Float) → Weight t → turningTest span' protected' am dm m t xm e ≡ true → turningTest span protected am dm m t xm e ≡ true
   unfolding turningTest
-  turning-test-falls am dm m t xm e w =
-      and-implies (lt (zeroOf binary64) e) _ (lt (zeroOf binary64) e) _ (λ q. q)
-      (λ q. and-implies (lt e (oneOf binary64)) _ (lt e (oneOf binary64)) _ (λ r. r) (λ r. moved-end-falls am dm (curveMedian m e) e t xm (strict-weight e q r) w))
+  turning-test-falls am dm m t xm e w = and-implies (turns e) _ (turns e) _ (λ q. q) (λ q. moved-end-falls am dm (curveMedian m e) e t xm (turns-weight e q) w)
 
   root-tests-fall : (am dm : Float) (m : List (List Float)) (p : ℕ) (t xm : Float) → Weight t → rootTests span' protected' am dm m p t xm ≡ true → rootTests span protected am dm m p t xm ≡ true
   unfolding rootTests

@@ -16,7 +16,7 @@ use Rattle.detectors.specs.Texel.{channel, texelMiddle, texelMedian}
 use Rattle.ranges.specs.Classifier.{compared}
 use Rattle.ranges.proofs.Laws.Finite.{Weight, weight, zero-weight, one-weight, strict-weight, Span, AllFinite, compared-finite}
 use Rattle.detectors.specs.Pairs.{inside, mixedChannel, mixedMedian}
-use Rattle.detectors.specs.Diagonal.{ofA, ofB, ofC, ofD, abc, linearTerm, squareTerm, curve, curveChannel, curveMedian}
+use Rattle.detectors.specs.Diagonal.{ofA, ofB, ofC, ofD, abc, linearTerm, squareTerm, curve, curveChannel, curveMedian, turns}
 
 -- ---- texels
 -- the first three channels are at most 2 ^ 20 in size
@@ -37,6 +37,11 @@ unfolding inside ofBits le
 inside-weight t p =
     let b = both-hold (lt epsilon t) (lt t oneLessEpsilon) p in
     weight t (le-trans nought epsilon t tt (le-of-lt epsilon t (holds _ (b .0)))) (le-trans t oneLessEpsilon one (le-of-lt t oneLessEpsilon (holds _ (b .1))) tt)
+
+-- So is a turning point that adds a test.
+pub turns-weight : (e : Float) → turns e ≡ true → Weight e
+unfolding turns
+turns-weight e p = let b = both-hold (lt (zeroOf binary64) e) (lt e (oneOf binary64)) p in strict-weight e (b .0) (b .1)
 
 -- The mixed median of two small texels is at most 2 ^ 21 in size.
 pub mixed-median-within : (a b : List Float) (t : Float) → SmallTexel a → SmallTexel b → Weight t → Within 21 (mixedMedian a b t)

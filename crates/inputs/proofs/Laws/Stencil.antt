@@ -9,15 +9,16 @@ use mathlib.Core.Path.{_≡_, refl, _∙_, ap, subst}
 use mathlib.Core.Bool.{Bool, true, false}
 use mathlib.Core.List.{List}
 use mathlib.Core.Logic.{dite}
-use Prim.Native.Nat.{ℕ, _+_, _/_, _%_, _≤_}
+use Prim.Native.Nat.{ℕ, _+_, _/_, _%_, _<_, _≤_}
 use native.Mathlib.Decide.{ℕ-discrete}
 use native.Mathlib.Omega.{arith}
 use lib.Dec.{eqb}
 use lib.ListN.{length, getD}
 use borrow.Author.Tests.{eqb-true, eq-eqb, ne-eqb}
 use Rattle.inputs.specs.Stencil.{stencilByte, hasCorner, isProtected, isError, setCorner, setProtected, setError, cellCount, protectedCount, errorCount, cornerCount}
-use Rattle.ground.specs.Lists.{count}
+use Rattle.ground.specs.Lists.{count, total}
 use Rattle.ground.proofs.Laws.Count.{count-small, count-falls}
+use Rattle.ground.proofs.Laws.Spent.{count-total}
 
 -- ---- the byte of a cell
 
@@ -140,6 +141,11 @@ error-falls = counted-falls isError isError
 pub corner-falls : (st st' : List ℕ) → length st ≡ length st' → ((k : ℕ) → hasCorner (getD st k 0) ≡ true → hasCorner (getD st' k 0) ≡ true) → cornerCount st ≤ cornerCount st'
 unfolding cornerCount
 corner-falls = counted-falls hasCorner hasCorner
+
+-- No more cells have an error than something adds up to that is at least 1 for each that has one.
+pub error-under : (st : List ℕ) (g : ℕ → ℕ) → ((k : ℕ) → k < length st → isError (getD st k 0) ≡ true → 1 ≤ g k) → errorCount st ≤ total (length st) g
+unfolding errorCount
+error-under st g = count-total (length st) (λ k. isError (getD st k 0)) g
 
 -- No more cells have a corner than are protected, where each that has one is.
 pub corner-within : (st : List ℕ) → ((k : ℕ) → hasCorner (getD st k 0) ≡ true → isProtected (getD st k 0) ≡ true) → cornerCount st ≤ protectedCount st

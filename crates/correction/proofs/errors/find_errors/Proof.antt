@@ -1,61 +1,130 @@
--- `correction::errors::find_errors` meets its contract, by the laws of a sweep. Assumes nothing.
-use Prim.Native.Nat.{_-_}
+-- `correction::errors::find_errors` meets its contract, by the laws of a sweep: the tests are those of all cells before. Assumes nothing.
+use mathlib.Core.Path.{_≡_, refl, sym, _∙_, ap}
+use mathlib.Core.Bool.{Bool, cond}
+use mathlib.Core.List.{List}
+use Prim.Native.Nat.{ℕ, _+_, _-_, _*_, _/_, _%_, _<_, _≤_}
+use native.Mathlib.Nat.{le-antisymm, mul-le-mul}
 use native.Mathlib.Omega.{arith}
-use lib.ListN.{length}
-use Rattle.correction.specs.Inner.{marked, found}
-use Rattle.correction.proofs.bitmap.Sweep.{Swept, swept-none, swept-place, swept-next, swept-all}
+use lib.Dec.{leb}
+use lib.ListN.{length, getD}
+use lib.Ieee.{Float}
+use borrow.Author.Needs.{needs}
+use Rattle.ranges.specs.declared.config.Settings.{Settings}
+use Rattle.ground.specs.Lists.{total}
+use Rattle.ground.proofs.Laws.Spent.{total-none, total-more, total-small}
+use Rattle.detectors.specs.Verdict.{verdict}
+use Rattle.detectors.proofs.Laws.Verdict.{verdict-says, verdict-makes}
+use Rattle.inputs.specs.Stencil.{isProtected, setError}
+use Rattle.correction.specs.Bitmap.{texel}
+use Rattle.correction.specs.Errors.{hasArtifact}
+use Rattle.correction.proofs.Laws.Tests.{tests-made-le}
+use Rattle.correction.specs.Inner.{marked, found, madeFor, madeIn}
+use Rattle.correction.proofs.bitmap.Sweep.{swept, Swept, swept-none, swept-place, swept-from, swept-next, swept-past, swept-all}
 use Rattle.correction.proofs.errors.find_errors.Statement.{statement}
 use Rattle.correction.proofs.errors.find_errors.Tie as tie
 
+few : (xs : List Float) (w h ch : ℕ) (s : Settings) (v x y : ℕ) → madeFor xs w h ch s v x y ≤ 84
+unfolding madeFor
+few xs w h ch s v x y = tests-made-le (texel xs w ch) w h s (isProtected v) x y
+
+-- what the verdict d of a texel says: what is marked, and the tests
+module _ (xs : List Float) (w h ch : ℕ) (s : Settings) (v x y : ℕ) {d : ℕ} (e : d ≡ verdict (hasArtifact (texel xs w ch) w h s (isProtected v) x y) (madeFor xs w h ch s v x y)) where
+  stored : {r : ℕ} → r ≡ cond (leb 128 d) (setError v) v → r ≡ marked xs w h ch s v x y
+  unfolding marked
+  stored q = rw (e, verdict-says (hasArtifact (texel xs w ch) w h s (isProtected v) x y) (madeFor xs w h ch s v x y) (omega (arith, few xs w h ch s v x y))) at q
+
+  tested : d % 128 ≡ madeFor xs w h ch s v x y
+  tested = rw e (verdict-makes (hasArtifact (texel xs w ch) w h s (isProtected v) x y) (madeFor xs w h ch s v x y) (omega (arith, few xs w h ch s v x y)))
+
+-- the tests before any cell, with one cell more and at the end, and how many they can be
+none-made : {n : ℕ} (f : ℕ → ℕ) → n ≡ 0 → 0 ≡ total n f
+none-made f e = sym (ap (λ (k : ℕ). total k f) e ∙ total-none f)
+
+one-more : (f : ℕ → ℕ) (k p v n : ℕ) → p ≡ total k f → v ≡ f k → n ≡ k + 1 → p + v ≡ total n f
+one-more f k p v n e h l = total-more f k p v e h ∙ ap (λ (j : ℕ). total j f) (sym l)
+
+all-made : (f : ℕ → ℕ) (k p n : ℕ) → p ≡ total k f → k ≤ n → n ≤ k → p ≡ total n f
+all-made f k p n e l m = e ∙ ap (λ (j : ℕ). total j f) (le-antisymm l m)
+
+room : (f : ℕ → ℕ) (w h t k n : ℕ) → ((j : ℕ) → f j ≤ 84) → t ≡ total k f → k < n → n ≡ h * w → w ≤ 4096 → h ≤ 4096 → t ≤ 1409286144
+room f w h t k n m e b l p q =
+    let a : h * w ≤ 4096 * 4096 = mul-le-mul q p in
+    omega (arith, total-small 84 k f m)
+
 abbrev Inv-loop : tie.InvT-loop
-Inv-loop stencil₀ xs b s at₀ stencil at = Swept (marked xs (b .width) (b .height) (b .channels) s) (b .width) (b .height) stencil₀ stencil at
+Inv-loop stencil₀ xs b s at₀ tests₀ stencil at tests =
+    Swept (marked xs (b .width) (b .height) (b .channels) s) (b .width) (b .height) stencil₀ stencil at
+    × (at .number ≤ length stencil₀)
+    × (tests ≡ total (at .number) (swept (madeFor xs (b .width) (b .height) (b .channels) s) (b .width) stencil₀))
 
 abbrev μ-loop : tie.MeasureT-loop
-μ-loop stencil₀ xs b s at₀ stencil at = length stencil₀ - at .number
+μ-loop stencil₀ xs b s at₀ tests₀ stencil at tests = length stencil₀ - at .number
+
+first-requires : tie.Need-first-requires Inv-loop μ-loop
+first-requires c κs = c .before .before .pre .0 .any
 
 loop-holds : tie.Need-loop-holds Inv-loop μ-loop
-loop-holds c = swept-none _ _ _ _ (c .first .ensures)
+loop-holds c = (swept-none _ _ _ _ (c .first .ensures), omega (arith, c .first .ensures .0), none-made _ (c .first .ensures .0))
 
-slice-read-v : tie.Need-slice-read-v Inv-loop μ-loop
-slice-read-v c =
+slice-read-byte : tie.Need-slice-read-byte Inv-loop μ-loop
+slice-read-byte c =
     let l = c .before .before .before .before in
-    swept-place _ _ _ _ (l .before .before .before .before .pre .1) (l .loop .inv) (c .before .if1 .taken)
+    swept-place _ _ _ _ (l .before .before .before .before .pre .1) (l .loop .inv .0) (c .before .if1 .taken)
 
-marked-byte-requires : tie.Need-marked-byte-requires Inv-loop μ-loop
-marked-byte-requires c κs = let l = c .before .before .before .before in (l .before .before .before .before .pre .0, (l .loop .inv .on .column, c .before .if1 .taken))
+verdict-at-requires : tie.Need-verdict-at-requires Inv-loop μ-loop
+verdict-at-requires c κs = let l = c .before .before .before .before in (l .before .before .before .before .pre .0, (l .loop .inv .0 .on .column, c .before .if1 .taken))
 
 slice-write-stencil : tie.Need-slice-write-stencil Inv-loop μ-loop
 slice-write-stencil c =
-    let l = c .before .before .before .before .before in
-    swept-place _ _ _ _ (l .before .before .before .before .pre .1) (l .loop .inv) (c .before .before .if1 .taken)
+    let t = c .before .before .before in
+    let l = t .before .before .before in
+    swept-place _ _ _ _ (l .before .before .before .before .pre .1) (l .loop .inv .0) (t .if1 .taken)
+
+add-tests : tie.Need-add-tests Inv-loop μ-loop
+add-tests c =
+    let v = c .before in
+    let t = v .before .before in
+    let l = t .before .before .before in
+    let p = l .before .before .before .before .pre in
+    omega (arith, room _ _ _ _ _ _ (λ j. few _ _ _ _ _ _ _ _) (l .loop .inv .2) (swept-place _ _ _ _ (p .1) (l .loop .inv .0) (t .if1 .taken)) (l .loop .inv .0 .filled .len ∙ p .1) (p .0 .wide) (p .0 .high))
 
 next-requires : tie.Need-next-requires Inv-loop μ-loop
 next-requires c κs =
-    let l = c .before .before .before .before .before in
+    let t = c .before .before .before in
+    let l = t .before .before .before in
     let p = l .before .before .before .before .pre .0 in
-    (l .loop .inv .on, (c .before .before .if1 .taken, p .wide, p .high))
+    (l .loop .inv .0 .on, (t .if1 .taken, p .wide, p .high))
 
 loop-less : tie.Need-loop-less Inv-loop μ-loop
 loop-less c =
-    let t = c .before .before .before in
+    let t = c .before .before .before .before in
     let l = t .before .before .before in
-    let i = l .loop .inv in
+    let i = l .loop .inv .0 in
     omega (arith, i .filled .len, c .next .ensures .0, swept-place _ _ _ _ (l .before .before .before .before .pre .1) i (t .if1 .taken))
 
 loop-again : tie.Need-loop-again Inv-loop μ-loop
 loop-again c =
-    let t = c .before .before .before in
+    let m = c .before in
+    let v = m .before in
+    let t = v .before .before in
     let l = t .before .before .before in
-    swept-next _ _ _ _ (l .before .before .before .before .pre .1) (l .loop .inv) (t .if1 .taken) (c .before .marked-byte .ensures) (c .next .ensures)
+    let p = l .before .before .before .before .pre .1 in
+    let i = l .loop .inv in (
+      swept-next _ _ _ _ p (i .0) (t .if1 .taken) (stored _ _ _ _ _ _ _ _ (v .verdict-at .ensures) (m .marked-byte .ensures)) (c .next .ensures),
+      omega (arith, c .next .ensures .0, i .0 .filled .len, swept-place _ _ _ _ p (i .0) (t .if1 .taken)),
+      one-more _ _ _ _ _ (i .2) (tested _ _ _ _ _ _ _ _ (v .verdict-at .ensures) ∙ swept-from _ _ _ _ p (i .0) (madeFor _ _ _ _ _)) (c .next .ensures .0),
+    )
 
 same-length : tie.Need-same-length Inv-loop μ-loop
-same-length c = c .before .before .before .loop .inv .filled .len
+same-length c = c .before .before .before .loop .inv .0 .filled .len
 
 returns : tie.Need-returns Inv-loop μ-loop
-unfolding found
+unfolding found madeIn
 returns c =
     let l = c .before .before .before in
-    swept-all _ _ _ _ (l .before .before .before .before .pre .1) (l .loop .inv) (c .if1 .left)
+    let p = l .before .before .before .before .pre .1 in
+    let i = l .loop .inv in
+    (swept-all _ _ _ _ p (i .0) (c .if1 .left), all-made _ _ _ _ (i .2) (i .1) (swept-past _ _ _ _ p (i .0) (c .if1 .left)))
 
 pub find-errors-spec : {M : Type 1} → statement M
-find-errors-spec = tie.close (tie.spec Inv-loop μ-loop (λ c κs. c .before .before .pre .0 .any) loop-holds slice-read-v marked-byte-requires slice-write-stencil next-requires loop-less loop-again same-length returns)
+find-errors-spec = tie.close (tie.spec Inv-loop μ-loop first-requires loop-holds slice-read-byte verdict-at-requires (λ c κs. search needs) slice-write-stencil add-tests next-requires loop-less loop-again same-length returns)

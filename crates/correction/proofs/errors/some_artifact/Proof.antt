@@ -1,67 +1,137 @@
--- `correction::errors::some_artifact` meets its contract: it answers at the first neighbour that says so, and as the last does where no other says so. Assumes nothing.
-use mathlib.Core.Path.{_≡_, refl, sym, _∙_}
-use mathlib.Core.Bool.{Bool, _||_, or-true, or-assoc}
+-- `correction::errors::some_artifact` meets its contract: after each neighbour the verdict is that of all up to it. Assumes nothing.
+use mathlib.Core.Path.{_≡_, refl, sym, _∙_, ap}
+use mathlib.Core.Bool.{Bool, true, false, _||_}
 use mathlib.Core.List.{List}
-use Prim.Native.Nat.{ℕ, _+_}
+use Prim.Native.Nat.{ℕ, zero, suc, _+_, _<_, _≤_}
 use native.Mathlib.Omega.{arith}
 use lib.Dec.{eqb}
 use lib.Ieee.{Float}
+use denote.Ref.{now}
 use borrow.Author.Needs.{needs}
 use borrow.Author.Tests.{eq-eqb, ne-eqb}
 use Rattle.ranges.specs.declared.config.Settings.{Settings}
 use Rattle.ranges.specs.Config.{sideSpan, diagonalSpan}
-use Rattle.ground.proofs.Laws.Bools.{or-left}
-use Rattle.correction.specs.Errors.{sideArtifact, someSide, diagonalArtifact, someDiagonal, someArtifact}
+use Rattle.detectors.specs.Verdict.{verdict}
+use Rattle.correction.specs.Bitmap.{texel}
+use Rattle.correction.specs.Errors.{sideArtifact, someSide, diagonalArtifact, someDiagonal, someArtifact, sideTests, acrossTests, linearMade, diagonalMade, someMade}
+use Rattle.correction.proofs.Laws.Tests.{side-tests-le, side-few, across-tests-le, across-few, linear-made-le}
+use Rattle.correction.proofs.errors.Tried.{upTo, up-to-first, up-to-next, up-to-ended, eight}
 use Rattle.correction.proofs.errors.some_artifact.Statement.{statement}
 use Rattle.correction.proofs.errors.some_artifact.Tie as tie
 
--- some of the eight neighbours, each at its place, is some side or some diagonal
-eight : (tex : ℕ → ℕ → List Float) (w h : ℕ) (s : Settings) (protected : Bool) (m : Float) (a : List Float) (x y : ℕ) →
-    let side : ℕ → ℕ → Bool = λ nx ny. sideArtifact tex w h (sideSpan s (eqb nx (x + 1))) protected m a nx ny in
-    let across = diagonalArtifact tex w h (diagonalSpan s) protected m a x y in
-    (side x (y + 1) || (side (x + 1) y || (side (x + 2) (y + 1) || (side (x + 1) (y + 2) || (across x y || (across (x + 2) y || (across x (y + 2) || across (x + 2) (y + 2))))))))
-    ≡ someArtifact tex w h s protected m a x y
-unfolding someArtifact someSide someDiagonal
-eight tex w h s protected m a x y = rw (eq-eqb (x + 1) (x + 1) refl, ne-eqb x (x + 1) (omega arith), ne-eqb (x + 2) (x + 1) (omega arith), or-assoc, or-assoc, or-assoc)
+module _ (tex : ℕ → ℕ → List Float) (w h : ℕ) (s : Settings) (protected : Bool) (m : Float) (a : List Float) (x y : ℕ) where
+  -- neighbour k: whether there is an artifact, and the tests that it takes
+  abbrev artifact : ℕ → Bool
+  artifact zero = sideArtifact tex w h (sideSpan s false) protected m a x (y + 1)
+  artifact (suc zero) = sideArtifact tex w h (sideSpan s true) protected m a (x + 1) y
+  artifact (suc (suc zero)) = sideArtifact tex w h (sideSpan s false) protected m a (x + 2) (y + 1)
+  artifact (suc (suc (suc zero))) = sideArtifact tex w h (sideSpan s true) protected m a (x + 1) (y + 2)
+  artifact (suc (suc (suc (suc zero)))) = diagonalArtifact tex w h (diagonalSpan s) protected m a x y x y
+  artifact (suc (suc (suc (suc (suc zero))))) = diagonalArtifact tex w h (diagonalSpan s) protected m a x y (x + 2) y
+  artifact (suc (suc (suc (suc (suc (suc zero)))))) = diagonalArtifact tex w h (diagonalSpan s) protected m a x y x (y + 2)
+  artifact (suc (suc (suc (suc (suc (suc (suc zero))))))) = diagonalArtifact tex w h (diagonalSpan s) protected m a x y (x + 2) (y + 2)
+  artifact (suc (suc (suc (suc (suc (suc (suc (suc k)))))))) = false
+
+  abbrev tests : ℕ → ℕ
+  tests zero = sideTests tex w h (sideSpan s false) protected m a x (y + 1)
+  tests (suc zero) = sideTests tex w h (sideSpan s true) protected m a (x + 1) y
+  tests (suc (suc zero)) = sideTests tex w h (sideSpan s false) protected m a (x + 2) (y + 1)
+  tests (suc (suc (suc zero))) = sideTests tex w h (sideSpan s true) protected m a (x + 1) (y + 2)
+  tests (suc (suc (suc (suc zero)))) = acrossTests tex w h (diagonalSpan s) protected m a x y x y
+  tests (suc (suc (suc (suc (suc zero))))) = acrossTests tex w h (diagonalSpan s) protected m a x y (x + 2) y
+  tests (suc (suc (suc (suc (suc (suc zero)))))) = acrossTests tex w h (diagonalSpan s) protected m a x y x (y + 2)
+  tests (suc (suc (suc (suc (suc (suc (suc zero))))))) = acrossTests tex w h (diagonalSpan s) protected m a x y (x + 2) (y + 2)
+  tests (suc (suc (suc (suc (suc (suc (suc (suc k)))))))) = 0
+
+  abbrev towards : ℕ → ℕ
+  towards k = verdict (artifact k) (tests k)
+
+  few : (k : ℕ) → tests k ≤ 31
+  few zero = omega (arith, side-tests-le tex w h (sideSpan s false) protected m a x (y + 1))
+  few (suc zero) = omega (arith, side-tests-le tex w h (sideSpan s true) protected m a (x + 1) y)
+  few (suc (suc zero)) = omega (arith, side-tests-le tex w h (sideSpan s false) protected m a (x + 2) (y + 1))
+  few (suc (suc (suc zero))) = omega (arith, side-tests-le tex w h (sideSpan s true) protected m a (x + 1) (y + 2))
+  few (suc (suc (suc (suc zero)))) = omega (arith, across-tests-le tex w h (diagonalSpan s) protected m a x y x y)
+  few (suc (suc (suc (suc (suc zero))))) = omega (arith, across-tests-le tex w h (diagonalSpan s) protected m a x y (x + 2) y)
+  few (suc (suc (suc (suc (suc (suc zero)))))) = omega (arith, across-tests-le tex w h (diagonalSpan s) protected m a x y x (y + 2))
+  few (suc (suc (suc (suc (suc (suc (suc zero))))))) = omega (arith, across-tests-le tex w h (diagonalSpan s) protected m a x y (x + 2) (y + 2))
+  few (suc (suc (suc (suc (suc (suc (suc (suc k)))))))) = omega arith
+
+  whole : upTo 8 towards ≡ verdict (someArtifact tex w h s protected m a x y) (someMade tex w h s protected m a x y)
+  unfolding someArtifact someSide someDiagonal someMade linearMade diagonalMade
+  whole = eight artifact tests few (omega (arith, linear-made-le tex w h protected m a x y (sideSpan s false) (sideSpan s true)))
+
+-- the span of a side neighbour, in its row or its column, as it is found from its own column
+span-first : (s : Settings) (x : ℕ) → sideSpan s (eqb x (x + 1)) ≡ sideSpan s false
+span-first s x = ap (sideSpan s) (ne-eqb x (x + 1) (omega arith))
+
+span-middle : (s : Settings) (x : ℕ) → sideSpan s (eqb (x + 1) (x + 1)) ≡ sideSpan s true
+span-middle s x = ap (sideSpan s) (eq-eqb (x + 1) (x + 1) refl)
+
+span-last : (s : Settings) (x : ℕ) → sideSpan s (eqb (x + 2) (x + 1)) ≡ sideSpan s false
+span-last s x = ap (sideSpan s) (ne-eqb (x + 2) (x + 1) (omega arith))
+
+-- the neighbours of the texel that is given
+abbrev of : tie.Start → ℕ → ℕ
+of c = let a = c .args in towards (texel (now (a .xs)) (a .b .width) (a .b .channels)) (a .b .width) (a .b .height) (a .s) (a .protected) (a .t .median) (a .t .texel) (a .t .x) (a .t .y)
+
+-- the verdict after each of them
+after1 : (c : tie.After-side-artifact) → c .side-artifact .result ≡ upTo 1 (of (c .before .before))
+after1 c = up-to-first (of (c .before .before)) (rw (span-first _ _) at (c .side-artifact .ensures))
+
+after2 : (c : tie.After-side-artifact2) → c .before .before .side-artifact .result + c .side-artifact2 .result ≡ upTo 2 (of (c .before .before .before .before))
+after2 c = up-to-next 1 (of (c .before .before .before .before)) (after1 (c .before .before)) (c .before .if1 .left) (rw (span-middle _ _) at (c .side-artifact2 .ensures))
+
+after3 : (c : tie.After-side-artifact3) → c .before .before .before .before .side-artifact .result + c .before .before .side-artifact2 .result + c .side-artifact3 .result ≡ upTo 3 (of (c .before .before .before .before .before .before))
+after3 c = up-to-next 2 (of (c .before .before .before .before .before .before)) (after2 (c .before .before)) (c .before .if2 .left) (rw (span-last _ _) at (c .side-artifact3 .ensures))
+
+after4 : (c : tie.After-side-artifact4) → c .before .before .before .before .before .before .side-artifact .result + c .before .before .before .before .side-artifact2 .result + c .before .before .side-artifact3 .result + c .side-artifact4 .result ≡ upTo 4 (of (c .before .before .before .before .before .before .before .before))
+after4 c = up-to-next 3 (of (c .before .before .before .before .before .before .before .before)) (after3 (c .before .before)) (c .before .if3 .left) (rw (span-middle _ _) at (c .side-artifact4 .ensures))
+
+after5 : (c : tie.After-diagonal-artifact) → c .before .before .before .before .before .before .before .before .side-artifact .result + c .before .before .before .before .before .before .side-artifact2 .result + c .before .before .before .before .side-artifact3 .result + c .before .before .side-artifact4 .result + c .diagonal-artifact .result ≡ upTo 5 (of (c .before .before .before .before .before .before .before .before .before .before))
+after5 c = up-to-next 4 (of (c .before .before .before .before .before .before .before .before .before .before)) (after4 (c .before .before)) (c .before .if4 .left) (c .diagonal-artifact .ensures)
+
+after6 : (c : tie.After-diagonal-artifact2) → c .before .before .before .before .before .before .before .before .before .before .side-artifact .result + c .before .before .before .before .before .before .before .before .side-artifact2 .result + c .before .before .before .before .before .before .side-artifact3 .result + c .before .before .before .before .side-artifact4 .result + c .before .before .diagonal-artifact .result + c .diagonal-artifact2 .result ≡ upTo 6 (of (c .before .before .before .before .before .before .before .before .before .before .before .before))
+after6 c = up-to-next 5 (of (c .before .before .before .before .before .before .before .before .before .before .before .before)) (after5 (c .before .before)) (c .before .if5 .left) (c .diagonal-artifact2 .ensures)
+
+after7 : (c : tie.After-diagonal-artifact3) → c .before .before .before .before .before .before .before .before .before .before .before .before .side-artifact .result + c .before .before .before .before .before .before .before .before .before .before .side-artifact2 .result + c .before .before .before .before .before .before .before .before .side-artifact3 .result + c .before .before .before .before .before .before .side-artifact4 .result + c .before .before .before .before .diagonal-artifact .result + c .before .before .diagonal-artifact2 .result + c .diagonal-artifact3 .result ≡ upTo 7 (of (c .before .before .before .before .before .before .before .before .before .before .before .before .before .before))
+after7 c = up-to-next 6 (of (c .before .before .before .before .before .before .before .before .before .before .before .before .before .before)) (after6 (c .before .before)) (c .before .if6 .left) (c .diagonal-artifact3 .ensures)
+
+after8 : (c : tie.After-diagonal-artifact4) → c .before .before .before .before .before .before .before .before .before .before .before .before .before .before .side-artifact .result + c .before .before .before .before .before .before .before .before .before .before .before .before .side-artifact2 .result + c .before .before .before .before .before .before .before .before .before .before .side-artifact3 .result + c .before .before .before .before .before .before .before .before .side-artifact4 .result + c .before .before .before .before .before .before .diagonal-artifact .result + c .before .before .before .before .diagonal-artifact2 .result + c .before .before .diagonal-artifact3 .result + c .diagonal-artifact4 .result ≡ upTo 8 (of (c .before .before .before .before .before .before .before .before .before .before .before .before .before .before .before .before))
+after8 c = up-to-next 7 (of (c .before .before .before .before .before .before .before .before .before .before .before .before .before .before .before .before)) (after7 (c .before .before)) (c .before .if7 .left) (c .diagonal-artifact4 .ensures)
 
 returns : tie.Need-returns
-returns c = (simp (or-true, c .if1 .taken, sym (c .before .side-artifact .ensures) ∙ c .if1 .taken)) ∙ eight _ _ _ _ _ _ _ _ _
+returns c = up-to-ended 1 7 (of (c .before .before .before)) (after1 (c .before)) (c .if1 .taken) ∙ whole _ _ _ _ _ _ _ _ _
 
 returns-2 : tie.Need-returns-2
-returns-2 c = (simp (or-true, c .if2 .taken, sym (c .before .side-artifact2 .ensures) ∙ c .if2 .taken)) ∙ eight _ _ _ _ _ _ _ _ _
+returns-2 c = up-to-ended 2 6 (of (c .before .before .before .before .before)) (after2 (c .before)) (c .if2 .taken) ∙ whole _ _ _ _ _ _ _ _ _
 
 returns-3 : tie.Need-returns-3
-returns-3 c = (simp (or-true, c .if3 .taken, sym (c .before .side-artifact3 .ensures) ∙ c .if3 .taken)) ∙ eight _ _ _ _ _ _ _ _ _
+returns-3 c = up-to-ended 3 5 (of (c .before .before .before .before .before .before .before)) (after3 (c .before)) (c .if3 .taken) ∙ whole _ _ _ _ _ _ _ _ _
 
 returns-4 : tie.Need-returns-4
-returns-4 c = (simp (or-true, c .if4 .taken, sym (c .before .side-artifact4 .ensures) ∙ c .if4 .taken)) ∙ eight _ _ _ _ _ _ _ _ _
+returns-4 c = up-to-ended 4 4 (of (c .before .before .before .before .before .before .before .before .before)) (after4 (c .before)) (c .if4 .taken) ∙ whole _ _ _ _ _ _ _ _ _
 
 returns-5 : tie.Need-returns-5
-returns-5 c = (simp (or-true, c .if5 .taken, sym (c .before .diagonal-artifact .ensures) ∙ c .if5 .taken)) ∙ eight _ _ _ _ _ _ _ _ _
+returns-5 c = up-to-ended 5 3 (of (c .before .before .before .before .before .before .before .before .before .before .before)) (after5 (c .before)) (c .if5 .taken) ∙ whole _ _ _ _ _ _ _ _ _
 
 returns-6 : tie.Need-returns-6
-returns-6 c = (simp (or-true, c .if6 .taken, sym (c .before .diagonal-artifact2 .ensures) ∙ c .if6 .taken)) ∙ eight _ _ _ _ _ _ _ _ _
+returns-6 c = up-to-ended 6 2 (of (c .before .before .before .before .before .before .before .before .before .before .before .before .before)) (after6 (c .before)) (c .if6 .taken) ∙ whole _ _ _ _ _ _ _ _ _
 
 returns-7 : tie.Need-returns-7
-returns-7 c = (simp (or-true, c .if7 .taken, sym (c .before .diagonal-artifact3 .ensures) ∙ c .if7 .taken)) ∙ eight _ _ _ _ _ _ _ _ _
+returns-7 c = up-to-ended 7 1 (of (c .before .before .before .before .before .before .before .before .before .before .before .before .before .before .before)) (after7 (c .before)) (c .if7 .taken) ∙ whole _ _ _ _ _ _ _ _ _
 
 returns-8 : tie.Need-returns-8
-returns-8 c =
-    let e7 = c .before in
-    let e6 = e7 .before .before in
-    let e5 = e6 .before .before in
-    let e4 = e5 .before .before in
-    let e3 = e4 .before .before in
-    let e2 = e3 .before .before in
-    let e1 = e2 .before .before in
-    or-left (e1 .before .side-artifact .ensures) (e1 .if1 .left)
-    (or-left (e2 .before .side-artifact2 .ensures) (e2 .if2 .left)
-    (or-left (e3 .before .side-artifact3 .ensures) (e3 .if3 .left)
-    (or-left (e4 .before .side-artifact4 .ensures) (e4 .if4 .left)
-    (or-left (e5 .before .diagonal-artifact .ensures) (e5 .if5 .left)
-    (or-left (e6 .before .diagonal-artifact2 .ensures) (e6 .if6 .left)
-    (or-left (e7 .before .diagonal-artifact3 .ensures) (e7 .if7 .left) (c .diagonal-artifact4 .ensures)))))))
-    ∙ eight _ _ _ _ _ _ _ _ _
+returns-8 c = after8 c ∙ whole _ _ _ _ _ _ _ _ _
 
 pub some-artifact-spec : {M : Type 1} → statement M
-some-artifact-spec = tie.close (tie.spec (λ c. search needs) (λ c. search needs) (λ c. search needs) (λ c. search needs) (λ c κs. search needs) (λ c κs. search needs) (λ c κs. search needs) (λ c κs. search needs) (λ c κs. search needs) (λ c κs. search needs) (λ c κs. search needs) (λ c κs. search needs) returns returns-2 returns-3 returns-4 returns-5 returns-6 returns-7 returns-8)
+some-artifact-spec =
+    tie.close
+    (tie.spec (λ c. search needs) (λ c. search needs) (λ c. search needs) (λ c. search needs) (λ c κs. search needs) returns
+    (λ c κs. search needs) (λ c. omega (arith, side-few _ _ _ _ _ _ _ _ _ (c .side-artifact2 .ensures))) returns-2
+    (λ c κs. search needs) (λ c. omega (arith, side-few _ _ _ _ _ _ _ _ _ (c .side-artifact3 .ensures))) returns-3
+    (λ c κs. search needs) (λ c. omega (arith, side-few _ _ _ _ _ _ _ _ _ (c .side-artifact4 .ensures))) returns-4
+    (λ c κs. search needs) (λ c. omega (arith, across-few _ _ _ _ _ _ _ _ _ _ _ (c .diagonal-artifact .ensures))) returns-5
+    (λ c κs. search needs) (λ c. omega (arith, across-few _ _ _ _ _ _ _ _ _ _ _ (c .diagonal-artifact2 .ensures))) returns-6
+    (λ c κs. search needs) (λ c. omega (arith, across-few _ _ _ _ _ _ _ _ _ _ _ (c .diagonal-artifact3 .ensures))) returns-7
+    (λ c κs. search needs) (λ c. omega (arith, across-few _ _ _ _ _ _ _ _ _ _ _ (c .diagonal-artifact4 .ensures))) returns-8)

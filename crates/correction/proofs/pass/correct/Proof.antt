@@ -23,7 +23,7 @@ returns-2 c =
     let p = f .before .before .before .before .before in
     let t = p .before .before .before in
     let s = t .before .before .before .before .before .before in
-    done (given s) (s .pre .0) (s .pre .1 .0) _ (p .protect .ensures) _ (f .find-errors .ensures) (t .if1 .left) _ (l .apply .ensures)
+    done (given s) (s .pre .0) (s .pre .1 .0) _ (p .protect .ensures) _ (f .find-errors .ensures .0) (t .if1 .left) _ (f .find-errors .ensures .1) _ (l .apply .ensures)
 
 pub correct-spec : {M : Type 1} → statement M
 correct-spec = tie.close (tie.spec (λ c κs. search needs) (λ c. search needs) returns (λ c κs. search needs) (λ c κs. search needs) (λ c κs. search needs) (λ c. search needs) (λ c. search needs) returns-2)

@@ -30,7 +30,7 @@ returns-2 c =
     let t = l .before .before .before in
     let k = t .before .before in
     let s = k .before .before .before .before .before .before .before .before in
-    answered (given s) _ _ _ (sym (k .check .ensures .0) ∙ t .if1 .left) (l .correct .ensures .0) (l .correct .ensures .1) (c .count-cells .ensures)
+    answered (given s) _ _ _ _ (sym (k .check .ensures .0) ∙ t .if1 .left) (l .correct .ensures .0) (l .correct .ensures .1 .0) (l .correct .ensures .1 .1) (c .count-cells .ensures)
 
 pub msdf-error-correction-spec : {M : Type 1} → statement M
 msdf-error-correction-spec = tie.close (tie.spec (λ c κs. search needs) (λ c. search needs) (λ c. search needs) returns correct-requires (λ c κs. search needs) (λ c. search needs) (λ c. search needs) returns-2)

@@ -1,21 +1,22 @@
 -- `detectors::diagonal::has_diagonal_artifact` meets its contract. Assumes nothing.
 use borrow.Author.Needs.{needs}
-use mathlib.Core.Path.{ap}
+use mathlib.Core.Path.{ap, sym, _∙_}
 use Rattle.numbers.specs.declared.scalar.Middle.{Middle}
-use Rattle.detectors.specs.Diagonal.{diagonalPairs, hasDiagonalArtifact}
-use Rattle.ground.proofs.Laws.Bools.{and-taken, and-left}
+use Rattle.detectors.specs.Diagonal.{diagonalPairs, hasDiagonalArtifact, diagonalPairsTests, diagonalTests}
+use Rattle.detectors.proofs.Laws.Verdict.{guarded-off, guarded-on}
 use Rattle.detectors.proofs.diagonal.has_diagonal_artifact.Statement.{statement}
 use Rattle.detectors.proofs.diagonal.has_diagonal_artifact.Tie as tie
 
 returns : tie.Need-returns
-unfolding hasDiagonalArtifact diagonalPairs
+unfolding hasDiagonalArtifact diagonalPairs diagonalTests diagonalPairsTests
 returns c =
-    let g = c .before .before .before in
-    rw (← ap (λ (m : Middle). m .value) (g .before .median .ensures), ← c .before .diagonal-span .ensures) (and-taken (g .guard .ensures) (c .before .before .if1 .taken) (c .some-pair .ensures))
+    let s = c .before in
+    let g = s .before .before in
+    rw (← ap (λ (m : Middle). m .value) (g .before .median .ensures), ← s .diagonal-span .ensures) (c .some-pair .ensures ∙ guarded-on _ _ _ (sym (g .guard .ensures) ∙ s .before .if1 .taken))
 
 returns-2 : tie.Need-returns-2
-unfolding hasDiagonalArtifact diagonalPairs
-returns-2 c = rw (← ap (λ (m : Middle). m .value) (c .before .before .median .ensures)) (and-left _ (c .before .guard .ensures) (c .if1 .left))
+unfolding hasDiagonalArtifact diagonalPairs diagonalTests diagonalPairsTests
+returns-2 c = rw (← ap (λ (m : Middle). m .value) (c .before .before .median .ensures)) (guarded-off _ _ _ (sym (c .before .guard .ensures) ∙ c .if1 .left))
 
 pub has-diagonal-artifact-spec : {M : Type 1} → statement M
 has-diagonal-artifact-spec = tie.close (tie.spec (λ c. search needs) (λ c κs. search needs) (λ c κs. search needs) (λ c κs. search needs) (λ c κs. search needs) returns returns-2)

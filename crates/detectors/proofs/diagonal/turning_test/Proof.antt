@@ -1,5 +1,4 @@
 -- `detectors::diagonal::turning_test` meets its contract. Assumes nothing.
-use mathlib.Core.Path.{refl}
 use borrow.Author.Needs.{needs}
 use Rattle.detectors.specs.Diagonal.{turningTest}
 use Rattle.ground.proofs.Laws.Bools.{and-taken, and-left}
@@ -10,15 +9,11 @@ returns : tie.Need-returns
 unfolding turningTest
 returns c =
     let m = c .before in
-    and-taken refl (m .before .before .if1 .taken) (and-taken refl (m .before .if2 .taken) (rw (m .interpolated-median-quad .ensures) at (c .moved-end .ensures)))
+    and-taken (m .before .before .turns .ensures) (m .before .if1 .taken) (rw (m .interpolated-median-quad .ensures) at (c .moved-end .ensures))
 
 returns-2 : tie.Need-returns-2
 unfolding turningTest
-returns-2 c = and-taken refl (c .before .if1 .taken) (and-left _ refl (c .if2 .left))
-
-returns-3 : tie.Need-returns-3
-unfolding turningTest
-returns-3 c = and-left _ refl (c .if1 .left)
+returns-2 c = and-left _ (c .before .turns .ensures) (c .if1 .left)
 
 pub turning-test-spec : {M : Type 1} → statement M
-turning-test-spec = tie.close (tie.spec (λ c κs. search needs) (λ c κs. search needs) returns returns-2 returns-3)
+turning-test-spec = tie.close (tie.spec (λ c κs. search needs) (λ c κs. search needs) (λ c κs. search needs) returns returns-2)

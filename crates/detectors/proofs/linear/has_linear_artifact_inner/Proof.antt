@@ -1,19 +1,42 @@
 -- `detectors::linear::has_linear_artifact_inner` meets its contract. Assumes nothing.
+use mathlib.Core.Path.{sym, _∙_}
 use borrow.Author.Needs.{needs}
-use Rattle.detectors.specs.Linear.{linearAt}
-use Rattle.ground.proofs.Laws.Bools.{and-taken, and-left}
+use Rattle.detectors.specs.Linear.{linearAt, linearTestsAt}
+use Rattle.detectors.proofs.Laws.Verdict.{as-found, as-clear, or-ended, or-off, or-on}
 use Rattle.detectors.proofs.linear.has_linear_artifact_inner.Statement.{statement}
 use Rattle.detectors.proofs.linear.has_linear_artifact_inner.Tie as tie
 
 returns : tie.Need-returns
-unfolding linearAt
-returns c =
-    let i = c .before .before .before in
-    rw (← i .before .crossing .ensures) (and-taken (i .inside .ensures) (c .before .before .if1 .taken) (rw (c .before .interpolated-median-linear .ensures) at (c .range-test .ensures)))
+returns c = or-ended _ _ (c .if1 .taken)
 
 returns-2 : tie.Need-returns-2
-unfolding linearAt
-returns-2 c = rw (← c .before .before .crossing .ensures) (and-left _ (c .before .inside .ensures) (c .if1 .left))
+unfolding linearAt linearTestsAt
+returns-2 c =
+    let v = c .before in
+    let x = v .before in
+    let i = x .before in
+    let t = i .before .before in
+    or-on _ _ _ _ _ (t .before .if1 .left) (sym (rw (t .crossing .ensures) at (i .before .inside .ensures)) ∙ i .if2 .taken)
+    (as-found 1 (sym (rw (x .interpolated-median-linear .ensures, t .crossing .ensures) at (v .range-test .ensures)) ∙ c .if3 .taken))
+
+returns-3 : tie.Need-returns-3
+unfolding linearAt linearTestsAt
+returns-3 c =
+    let v = c .before in
+    let x = v .before in
+    let i = x .before in
+    let t = i .before .before in
+    or-on _ _ _ _ _ (t .before .if1 .left) (sym (rw (t .crossing .ensures) at (i .before .inside .ensures)) ∙ i .if2 .taken)
+    (as-clear 1 (sym (rw (x .interpolated-median-linear .ensures, t .crossing .ensures) at (v .range-test .ensures)) ∙ c .if3 .left))
+
+returns-4 : tie.Need-returns-4
+unfolding linearAt linearTestsAt
+returns-4 c =
+    let t = c .before .before in
+    or-off _ _ _ _ (t .before .if1 .left) (sym (rw (t .crossing .ensures) at (c .before .inside .ensures)) ∙ c .if2 .left)
 
 pub has-linear-artifact-inner-spec : {M : Type 1} → statement M
-has-linear-artifact-inner-spec = tie.close (tie.spec (λ c κs. search needs) (λ c κs. search needs) (λ c κs. search needs) (λ c κs. search needs) returns returns-2)
+has-linear-artifact-inner-spec =
+    tie.close
+    (tie.spec returns (λ c κs. search needs) (λ c κs. search needs) (λ c κs. search needs) (λ c κs. search needs)
+    (λ c. search needs) (λ c. search needs) returns-2 (λ c. search needs) returns-3 returns-4)
