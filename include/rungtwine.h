@@ -27,9 +27,9 @@ extern "C" {
  * in units of the samples. `colours` has a byte for each segment, bits 0 to 2 its channels; `coords` the x and y of each segment's start in pixel
  * units; `ends` for each contour the number of segments up to its end.
  *
- * Answers 0 and writes the stencil, the samples of flagged texels, place 0, and three counts, each of the cells that have one bit: `protected_cells`,
- * `error_cells` and `corner_cells`. Otherwise it answers the number of the first check that fails, writes its place and three zero counts, and leaves
- * samples and stencil as they were:
+ * Answers 0 and writes the stencil, the samples of flagged texels, place 0, and four counts: `protected_cells`, `error_cells` and `corner_cells` of the
+ * cells that have one bit, and `tests` of the range tests that were made. Otherwise it answers the number of the first check that fails, writes its place
+ * and four zero counts, and leaves samples and stencil as they were:
  *
  *   1 channels not 3 or 4
  *   2 width or height outside 1 to 4096
@@ -41,7 +41,15 @@ extern "C" {
  *   8 an end below the one before or above the number of segments (its index), or the last end not that number (ends_len)
  *   9 a colour above 7, or a coordinate NaN, infinite or of size above 1048576 (the segment)
  *
- * There is no further demand on the numbers. Each pointer has to be good for the length beside it (`place` and the three counts for one), not null and
+ * A range test decides about one point on the way from a texel to a neighbour; `tests` counts each one that is made over the whole bitmap, whatever it
+ * finds. A texel asks the neighbours that there are in this order, up to the first with an artifact: left, below, right, above, lower left, lower right,
+ * upper left, upper right. A neighbour whose median lies farther from 0.5 than the texel's own (both differences rounded to float) has no tests. The pairs of
+ * channels 1 and 0, 2 and 1, 0 and 2 of any other come in this order, up to the first with an artifact. Beside, below and above the texel a pair has one
+ * test if its crossing lies strictly between 0.01 and 0.99. On a diagonal each root of the pair strictly between these has one, and one more for each of the
+ * pair's two turning points strictly between 0 and 1. All tests of a root are made; the second root is left out where the first has an artifact.
+ * So there are at most 84 for a texel, at most 84 * width * height in all, at least one for a flagged texel, and none in mode Disabled.
+ *
+ * There is no further demand on the numbers. Each pointer has to be good for the length beside it (`place` and the four counts for one), not null and
  * aligned for its type, also where the length is 0; what is written must overlap nothing else.
  */
 uint8_t rungtwine_error_correction(
@@ -52,7 +60,7 @@ uint8_t rungtwine_error_correction(
     const uint8_t *colours, size_t colours_len,
     const double *coords, size_t coords_len,
     const size_t *ends, size_t ends_len,
-    size_t *place, size_t *protected_cells, size_t *error_cells, size_t *corner_cells);
+    size_t *place, size_t *protected_cells, size_t *error_cells, size_t *corner_cells, size_t *tests);
 
 /* A part of a bitmap: `length` samples from `samples` on. */
 typedef struct {

@@ -34,6 +34,7 @@ pub mod raw {
             protected: *mut usize,
             error: *mut usize,
             corner: *mut usize,
+            tests: *mut usize,
         ) -> u8;
 
         pub fn rungtwine_texel_view(
@@ -87,12 +88,18 @@ pub struct Outlines<'a> {
     pub ends: &'a [usize],
 }
 
-/// How many stencil cells have each bit: are protected, have an error, are protected by a corner.
+/// What is counted: cells of the stencil, and range tests.
 #[derive(Clone, Copy, PartialEq, Eq, Debug)]
 pub struct Counts {
+    /// Cells with PROTECTED.
     pub protected: usize,
+    /// Cells with ERROR.
     pub error: usize,
+    /// Cells with CORNER.
     pub corner: usize,
+    /// Range tests that were made over the whole bitmap, whatever they found, as rungtwine.h says: at most 84 for a texel and at least one for a flagged one,
+    /// so from `error` to 84 * width * height, and 0 in Disabled.
+    pub tests: usize,
 }
 
 /// The bitmap that a view is a part of.
@@ -118,7 +125,7 @@ pub fn error_correction(
     settings: Settings,
     outlines: Outlines,
 ) -> Result<Counts, Refusal> {
-    let (mut place, mut protected, mut error, mut corner) = (0, 0, 0, 0);
+    let (mut place, mut protected, mut error, mut corner, mut tests) = (0, 0, 0, 0, 0);
     // Every pointer comes from a slice with its own length or from a local, the mutable ones overlap nothing, and the function demands nothing else.
     let number = unsafe {
         raw::rungtwine_error_correction(
@@ -144,9 +151,10 @@ pub fn error_correction(
             &mut protected,
             &mut error,
             &mut corner,
+            &mut tests,
         )
     };
-    if number == 0 { Ok(Counts { protected, error, corner }) } else { Err(Refusal { number, place }) }
+    if number == 0 { Ok(Counts { protected, error, corner, tests }) } else { Err(Refusal { number, place }) }
 }
 
 /// All channels of texel x, y, lent from `corrected` where its cell of `stencil` has the bit ERROR, whatever else is set, and from `original` otherwise.

@@ -13,7 +13,7 @@ use correction::view;
 use detectors::texel;
 use ranges::config::Settings;
 
-// Answers the number of the first check that fails, 0 where all pass, and writes its place and the three counts.
+// Answers the number of the first check that fails, 0 where all pass, and writes its place, the three counts and the number of range tests.
 #[no_mangle]
 pub extern "C" fn rungtwine_error_correction(
     width: usize,
@@ -33,12 +33,14 @@ pub extern "C" fn rungtwine_error_correction(
     protected: &mut usize,
     error: &mut usize,
     corner: &mut usize,
+    tests: &mut usize,
 ) -> u8
     ensures numbers { λ r. ⌜ r ≡ Checks.refusalNumber (called width height channels (now (samples .entry)) (now (stencil .entry)) mode ratio horizontal vertical diagonal (now (colours .entry)) (now (coords .entry)) (now (ends .entry))) ⌝ }
     ensures places { λ _. ⌜ now (place .exit) ≡ Checks.refusalPlace (called width height channels (now (samples .entry)) (now (stencil .entry)) mode ratio horizontal vertical diagonal (now (colours .entry)) (now (coords .entry)) (now (ends .entry))) ⌝ }
     ensures protects { λ _. ⌜ now (protected .exit) ≡ Pass.protectedCells (called width height channels (now (samples .entry)) (now (stencil .entry)) mode ratio horizontal vertical diagonal (now (colours .entry)) (now (coords .entry)) (now (ends .entry))) ⌝ }
     ensures flags { λ _. ⌜ now (error .exit) ≡ Pass.errorCells (called width height channels (now (samples .entry)) (now (stencil .entry)) mode ratio horizontal vertical diagonal (now (colours .entry)) (now (coords .entry)) (now (ends .entry))) ⌝ }
     ensures corners { λ _. ⌜ now (corner .exit) ≡ Pass.cornerCells (called width height channels (now (samples .entry)) (now (stencil .entry)) mode ratio horizontal vertical diagonal (now (colours .entry)) (now (coords .entry)) (now (ends .entry))) ⌝ }
+    ensures tests { λ _. ⌜ now (tests .exit) ≡ Pass.testCount (called width height channels (now (samples .entry)) (now (stencil .entry)) mode ratio horizontal vertical diagonal (now (colours .entry)) (now (coords .entry)) (now (ends .entry))) ⌝ }
     ensures leaves { λ _. ⌜ now (stencil .exit) ≡ Pass.stencilAfter (called width height channels (now (samples .entry)) (now (stencil .entry)) mode ratio horizontal vertical diagonal (now (colours .entry)) (now (coords .entry)) (now (ends .entry))) ⌝ }
     ensures writes { λ _. ⌜ now (samples .exit) ≡ Pass.samplesAfter (called width height channels (now (samples .entry)) (now (stencil .entry)) mode ratio horizontal vertical diagonal (now (colours .entry)) (now (coords .entry)) (now (ends .entry))) ⌝ }
 {
@@ -60,11 +62,12 @@ pub extern "C" fn rungtwine_error_correction(
         coords,
         ends,
     ) {
-        Answer::Accepted(c) => {
+        Answer::Accepted(c, t) => {
             *place = 0;
             *protected = c.protected;
             *error = c.error;
             *corner = c.corner;
+            *tests = t;
             0
         }
         Answer::Refused(n, p) => {
@@ -72,6 +75,7 @@ pub extern "C" fn rungtwine_error_correction(
             *protected = 0;
             *error = 0;
             *corner = 0;
+            *tests = 0;
             n
         }
     }

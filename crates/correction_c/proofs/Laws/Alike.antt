@@ -27,13 +27,17 @@ pass-errors-alike κs a z z' e e' p q = alike (p .1 .1 .1 .0) (q .1 .1 .1 .0)
 pub pass-corners-alike : (κs : _) (a : _) (z z' : _) (e e' : _) → pass.Post κs a z e → pass.Post κs a z' e' → now (e .1 .1 .1 .1 .1 .1 .1 .1 .1 .1 .1 .1 .1 .1 .1 .1 .0) ≡ now (e' .1 .1 .1 .1 .1 .1 .1 .1 .1 .1 .1 .1 .1 .1 .1 .1 .0)
 pass-corners-alike κs a z z' e e' p q = alike (p .1 .1 .1 .1 .0) (q .1 .1 .1 .1 .0)
 
+-- two numbers of range tests, the eighteenth,
+pub pass-tests-alike : (κs : _) (a : _) (z z' : _) (e e' : _) → pass.Post κs a z e → pass.Post κs a z' e' → now (e .1 .1 .1 .1 .1 .1 .1 .1 .1 .1 .1 .1 .1 .1 .1 .1 .1 .0) ≡ now (e' .1 .1 .1 .1 .1 .1 .1 .1 .1 .1 .1 .1 .1 .1 .1 .1 .1 .0)
+pass-tests-alike κs a z z' e e' p q = alike (p .1 .1 .1 .1 .1 .0) (q .1 .1 .1 .1 .1 .0)
+
 -- two stencils, the fifth,
 pub pass-stencils-alike : (κs : _) (a : _) (z z' : _) (e e' : _) → pass.Post κs a z e → pass.Post κs a z' e' → now (e .1 .1 .1 .1 .0) ≡ now (e' .1 .1 .1 .1 .0)
-pass-stencils-alike κs a z z' e e' p q = alike (p .1 .1 .1 .1 .1 .0) (q .1 .1 .1 .1 .1 .0)
+pass-stencils-alike κs a z z' e e' p q = alike (p .1 .1 .1 .1 .1 .1 .0) (q .1 .1 .1 .1 .1 .1 .0)
 
 -- and two lists of samples, the fourth.
 pub pass-samples-alike : (κs : _) (a : _) (z z' : _) (e e' : _) → pass.Post κs a z e → pass.Post κs a z' e' → now (e .1 .1 .1 .0) ≡ now (e' .1 .1 .1 .0)
-pass-samples-alike κs a z z' e e' p q = alike (p .1 .1 .1 .1 .1 .1) (q .1 .1 .1 .1 .1 .1)
+pass-samples-alike κs a z z' e e' p q = alike (p .1 .1 .1 .1 .1 .1 .1) (q .1 .1 .1 .1 .1 .1 .1)
 
 -- Two texels that the view leaves in its ninth argument hold the same samples,
 pub views-alike : (κs : _) (a : _) (z z' : _) (e e' : _) → view.Post κs a z e → view.Post κs a z' e' → now (now (e .1 .1 .1 .1 .1 .1 .1 .1 .0)) ≡ now (now (e' .1 .1 .1 .1 .1 .1 .1 .1 .0))
