@@ -1,7 +1,7 @@
 -- What is printed for an input, case by case, and that it fits. Assumes nothing.
 use mathlib.Core.Bool.{Bool, true, false, cond}
 use mathlib.Core.List.{List}
-use mathlib.Core.Path.{_≡_, refl, ap}
+use mathlib.Core.Path.{_≡_, refl, ap, subst}
 use Prim.Native.Nat.{ℕ, zero, suc, _*_, _≤_, _<_}
 use native.Mathlib.Nat.{mul-comm, mul-le-mul-left}
 use native.Mathlib.Omega.{arith}
@@ -12,7 +12,8 @@ use Rattle.ground.proofs.Laws.Join.{joined-length}
 use Rattle.ground.specs.Refuse.{firstFailing}
 use Rattle.inputs.specs.Checks.{Input, accepted, refusalNumber, refusalPlace, placeOf, outlinePlace, badChannels}
 use Rattle.correction.specs.Bitmap.{cellTexel}
-use Rattle.correction.specs.Pass.{answer, passStencil}
+use Rattle.correction.specs.Pass.{answer, passStencil, passTests, testCount}
+use Rattle.correction.proofs.Laws.Tests.{test-count-fits}
 use Rattle.inputs.specs.Stencil.{countsOf}
 use Rattle.correction.specs.declared.pass.Answer.the-variants.{Accepted, Refused}
 use Rattle.reading.specs.Answer.{caseOf, answerText, printed}
@@ -58,23 +59,28 @@ unfolding samplesOf
 samples-few s e =
     omega (arith, joined-length (height s) (rowSize s) (λ y. rowSamples s (rowAt s y) (rowSize s)) (λ y l. omega (arith, row-length s (rowAt s y) (rowSize s))), mul-comm (rowSize s) (height s), samples-by-rows (width s) (height s) (channels s), breach-small s e)
 
+-- the tests of an accepted case fit a u64, since no case has more than 84 · 4,096 · 4,096
+tests-fit : (i : Input) → accepted i ≡ true → passTests i ≤ 1409286144
+unfolding testCount
+tests-fit i a = subst (λ (b : Bool). cond b (passTests i) 0 ≤ 1409286144) a (test-count-fits i)
+
 -- an accepted case: its sides, its channels and its counts are at most 4,096, and so are its cells
-accepted-fits : (i : Input) → accepted i ≡ true → length (i .samples) ≤ 12288 → length (answerText i (Accepted (countsOf (passStencil i)))) ≤ 131072
+accepted-fits : (i : Input) → accepted i ≡ true → length (i .samples) ≤ 12288 → length (answerText i (Accepted (countsOf (passStencil i)) (passTests i))) ≤ 131072
 unfolding answerText
 accepted-fits i a l =
     let z = sized i a in
     let st = passStencil i in
     let m : i .width * i .height ≤ 4096 = omega (arith, z .samples, mul-le-mul-left (i .width * i .height) (z .deep)) in
     let n : length st ≤ 4096 = omega (arith, stencil-length i a) in
-    let c = counts-length (countsOf st) (omega (arith, protected-le st)) (omega (arith, error-le st)) (omega (arith, corner-le st)) in
-    omega (arith, accepted-length (i .width) (i .height) (i .channels) (countsOf st) st (cellTexel (i .samples) (i .channels)) (omega (arith, z .narrow)) (omega (arith, z .high)) (omega (arith, z .shallow)) c (omega arith), z .high)
+    let c = counts-length (countsOf st) (passTests i) (omega (arith, protected-le st)) (omega (arith, error-le st)) (omega (arith, corner-le st)) (omega (arith, tests-fit i a)) in
+    omega (arith, accepted-length (i .width) (i .height) (i .channels) (countsOf st) (passTests i) st (cellTexel (i .samples) (i .channels)) (omega (arith, z .narrow)) (omega (arith, z .high)) (omega (arith, z .shallow)) c (omega arith), z .high)
 
 -- a refused one: its check is one of nine, and its place at most 12,288
 refused-fits : (i : Input) → length (i .samples) ≤ 12288 → length (i .ends) ≤ 12288 → length (i .colours) ≤ 12288 → length (answerText i (Refused (refusalNumber i) (refusalPlace i))) ≤ 131072
 unfolding answerText
 refused-fits i l m n = omega (arith, refused-length (refusalNumber i) (refusalPlace i) (omega (arith, refusal-number-le i)) (omega (arith, refusal-place-le i 12288 (omega arith) l m n)))
 
-fits-go : (i : Input) (t : Bool) → accepted i ≡ t → length (i .samples) ≤ 12288 → length (i .ends) ≤ 12288 → length (i .colours) ≤ 12288 → length (answerText i (cond t (Accepted (countsOf (passStencil i))) (Refused (refusalNumber i) (refusalPlace i)))) ≤ 131072
+fits-go : (i : Input) (t : Bool) → accepted i ≡ t → length (i .samples) ≤ 12288 → length (i .ends) ≤ 12288 → length (i .colours) ≤ 12288 → length (answerText i (cond t (Accepted (countsOf (passStencil i)) (passTests i)) (Refused (refusalNumber i) (refusalPlace i)))) ≤ 131072
 fits-go i true a l m n = accepted-fits i a l
 fits-go i false a l m n = refused-fits i l m n
 

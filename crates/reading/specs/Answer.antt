@@ -24,7 +24,7 @@ caseOf s =
 
 -- the text of the pass's answer; each median is judged on the samples that came in, before the collapse
 unfoldable pub answerText : Input → Answer → List ℕ
-answerText i (Accepted c) = acceptedText (i .width) (i .height) (i .channels) c (passStencil i) (cellTexel (i .samples) (i .channels))
+answerText i (Accepted c t) = acceptedText (i .width) (i .height) (i .channels) c t (passStencil i) (cellTexel (i .samples) (i .channels))
 answerText i (Refused n place) = refusedText n place
 
 -- all that is printed

@@ -45,11 +45,13 @@ refusedText n place = (114 ∷ 101 ∷ 102 ∷ 117 ∷ 115 ∷ 101 ∷ 100 ∷ 3
 unfoldable pub sizeText : ℕ → ℕ → ℕ → List ℕ
 sizeText w h ch = (115 ∷ 105 ∷ 122 ∷ 101 ∷ 32 ∷ []) ++ (numbered w 32 ++ (numbered h 32 ++ numbered ch 10))
 
--- `protected P error E corner K`
-unfoldable pub countsText : Counts → List ℕ
-countsText c =
+-- `protected P error E corner K tests T`
+unfoldable pub countsText : Counts → ℕ → List ℕ
+countsText c t =
     (112 ∷ 114 ∷ 111 ∷ 116 ∷ 101 ∷ 99 ∷ 116 ∷ 101 ∷ 100 ∷ 32 ∷ []) ++ (numbered (c .protected) 32
-    ++ ((101 ∷ 114 ∷ 114 ∷ 111 ∷ 114 ∷ 32 ∷ []) ++ (numbered (c .error) 32 ++ ((99 ∷ 111 ∷ 114 ∷ 110 ∷ 101 ∷ 114 ∷ 32 ∷ []) ++ numbered (c .corner) 10))))
+    ++ ((101 ∷ 114 ∷ 114 ∷ 111 ∷ 114 ∷ 32 ∷ []) ++ (numbered (c .error) 32
+    ++ ((99 ∷ 111 ∷ 114 ∷ 110 ∷ 101 ∷ 114 ∷ 32 ∷ []) ++ (numbered (c .corner) 32
+    ++ ((116 ∷ 101 ∷ 115 ∷ 116 ∷ 115 ∷ 32 ∷ []) ++ numbered t 10))))))
 
 -- a cell's mark: `C` corner, `D` corner with error; without a corner `.` none, `P`, `E`, `B` both
 unfoldable pub mark : ℕ → ℕ
@@ -75,6 +77,6 @@ unfoldable pub flaggedText : ℕ → List ℕ → (ℕ → List Float) → ℕ �
 flaggedText w st texels k = cond (isError (getD st k 0)) (texelText (k % w) (k / w) (texelMiddle (texels k))) []
 
 -- the size, the counts, the rows, then each flagged texel, row by row
-unfoldable pub acceptedText : ℕ → ℕ → ℕ → Counts → List ℕ → (ℕ → List Float) → List ℕ
-acceptedText w h ch c st texels =
-    sizeText w h ch ++ (countsText c ++ (rowsText w h st ++ joined (w * h) (flaggedText w st texels)))
+unfoldable pub acceptedText : ℕ → ℕ → ℕ → Counts → ℕ → List ℕ → (ℕ → List Float) → List ℕ
+acceptedText w h ch c t st texels =
+    sizeText w h ch ++ (countsText c t ++ (rowsText w h st ++ joined (w * h) (flaggedText w st texels)))

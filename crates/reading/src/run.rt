@@ -72,7 +72,7 @@ fn run(
         coords,
         ends,
     ) {
-        Answer::Accepted(c) => text::put_accepted(out, b, c, stencil, &kept[..n]),
+        Answer::Accepted(c, t) => text::put_accepted(out, b, c, t, stencil, &kept[..n]),
         Answer::Refused(n, p) => text::put_refused(out, n as usize, p),
     }
 }

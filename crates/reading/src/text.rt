@@ -161,14 +161,15 @@ fn put_size(out: &mut [u8], at: usize, b: Bitmap) -> usize
     put_number(out, c, b.channels, 10)
 }
 
-// `protected P error E corner K`
-fn put_counts(out: &mut [u8], at: usize, c: Counts) -> usize
-    requires { ⌜ at + 86 ≤ length (now out) ⌝ }
-    ensures { λ r. ⌜ Written (now (out .entry)) at (Text.countsText c) r (now (out .exit)) ⌝ }
+// `protected P error E corner K tests T`
+fn put_counts(out: &mut [u8], at: usize, c: Counts, tests: usize) -> usize
+    requires { ⌜ at + 113 ≤ length (now out) ⌝ }
+    ensures { λ r. ⌜ Written (now (out .entry)) at (Text.countsText c tests) r (now (out .exit)) ⌝ }
 {
     let a = put_named(out, at, b"protected ", c.protected, 32);
     let b = put_named(out, a, b"error ", c.error, 32);
-    put_named(out, b, b"corner ", c.corner, 10)
+    let d = put_named(out, b, b"corner ", c.corner, 32);
+    put_named(out, d, b"tests ", tests, 10)
 }
 
 fn put_marks(out: &mut [u8], at: usize, st: &[u8], from: usize, w: usize) -> usize
@@ -249,13 +250,20 @@ fn put_texels(out: &mut [u8], at: usize, st: &[u8], xs: &[f32], b: Bitmap) -> us
 }
 
 // The size, the counts, the rows, then each flagged texel; xs has the samples as they were before the pass.
-pub fn put_accepted(out: &mut [u8], b: Bitmap, c: Counts, st: &[u8], xs: &[f32]) -> usize
+pub fn put_accepted(
+    out: &mut [u8],
+    b: Bitmap,
+    c: Counts,
+    tests: usize,
+    st: &[u8],
+    xs: &[f32],
+) -> usize
     requires { ⌜ (0 < b .width) × (3 ≤ b .channels) × (b .height ≤ 4096) × (b .width * b .height ≤ 4096) ⌝ }
     requires { ⌜ (b .width * b .height ≤ length (now st)) × (b .width * b .height * b .channels ≤ length (now xs)) × (131072 ≤ length (now out)) ⌝ }
-    ensures { λ r. ⌜ Written (now (out .entry)) 0 (Text.acceptedText (b .width) (b .height) (b .channels) c (now (st .entry)) (cellTexel (now (xs .entry)) (b .channels))) r (now (out .exit)) ⌝ }
+    ensures { λ r. ⌜ Written (now (out .entry)) 0 (Text.acceptedText (b .width) (b .height) (b .channels) c tests (now (st .entry)) (cellTexel (now (xs .entry)) (b .channels))) r (now (out .exit)) ⌝ }
 {
     let counts = put_size(out, 0, b);
-    let rows = put_counts(out, counts, c);
+    let rows = put_counts(out, counts, c, tests);
     let texels = put_rows(out, rows, st, b);
     put_texels(out, texels, st, xs, b)
 }

@@ -38,14 +38,14 @@ sized i a =
 
 -- ---- the answer
 
-accepted-go : (t : Bool) (c d : Counts) (n p : ℕ) → Accepted c ≡ cond t (Accepted d) (Refused n p) → t ≡ true
-accepted-go true c d n p e = refl
-accepted-go false c d n p e = absurd (let z : _≡_ {A = ℕ} 0 1 = cc in omega arith)
+accepted-go : (b : Bool) (c d : Counts) (t u n p : ℕ) → Accepted c t ≡ cond b (Accepted d u) (Refused n p) → b ≡ true
+accepted-go true c d t u n p e = refl
+accepted-go false c d t u n p e = absurd (let z : _≡_ {A = ℕ} 0 1 = cc in omega arith)
 
 -- an answer that counts is one of acceptance
-pub was-accepted : (i : Input) (c : Counts) → Accepted c ≡ answer i → accepted i ≡ true
+pub was-accepted : (i : Input) (c : Counts) (t : ℕ) → Accepted c t ≡ answer i → accepted i ≡ true
 unfolding answer
-was-accepted i c e = accepted-go (accepted i) c _ _ _ e
+was-accepted i c t e = accepted-go (accepted i) c _ t _ _ _ e
 
 module _ (i : Input) (a : accepted i ≡ true) where
   -- what an accepted pass leaves in the stencil
@@ -60,9 +60,9 @@ module _ (i : Input) (a : accepted i ≡ true) where
 -- ---- the text
 
 -- what is printed from the stencil that an accepted pass leaves and the samples that it was given
-pub accepted-text : (i : Input) (c : Counts) (st : List ℕ) (xs : List Float) → Accepted c ≡ answer i → st ≡ stencilAfter i → xs ≡ i .samples → acceptedText (i .width) (i .height) (i .channels) c st (cellTexel xs (i .channels)) ≡ answerText i (answer i)
+pub accepted-text : (i : Input) (c : Counts) (t : ℕ) (st : List ℕ) (xs : List Float) → Accepted c t ≡ answer i → st ≡ stencilAfter i → xs ≡ i .samples → acceptedText (i .width) (i .height) (i .channels) c t st (cellTexel xs (i .channels)) ≡ answerText i (answer i)
 unfolding answerText
-accepted-text i c st xs e p q = rw (p, q, stencil-left i (was-accepted i c e)) (ap (answerText i) e)
+accepted-text i c t st xs e p q = rw (p, q, stencil-left i (was-accepted i c t e)) (ap (answerText i) e)
 
 -- there is room for it
 pub record Roomy (i : Input) (st : List ℕ) (xs : List Float) : Type 0 where
@@ -71,9 +71,9 @@ pub record Roomy (i : Input) (st : List ℕ) (xs : List Float) : Type 0 where
   pub samples : i .width * i .height * i .channels ≤ length xs
 
 -- the stencil and the samples are long enough to be printed
-pub roomy : (i : Input) (c : Counts) (st : List ℕ) (xs : List Float) → Accepted c ≡ answer i → length (i .samples) ≤ 12288 → st ≡ stencilAfter i → xs ≡ i .samples → Roomy i st xs
-roomy i c st xs e few p q =
-    let a = was-accepted i c e in
+pub roomy : (i : Input) (c : Counts) (t : ℕ) (st : List ℕ) (xs : List Float) → Accepted c t ≡ answer i → length (i .samples) ≤ 12288 → st ≡ stencilAfter i → xs ≡ i .samples → Roomy i st xs
+roomy i c t st xs e few p q =
+    let a = was-accepted i c t e in
     let z = sized i a in
     record {
       sizes = (z .wide, z .deep, z .high, omega (arith, z .samples, mul-le-mul-left (i .width * i .height) (z .deep)));

@@ -75,9 +75,9 @@ unfolding sizeText
 size-length w h ch p q r = simp length-append (omega (arith, numbered-length w 32 p, numbered-length h 32 q, numbered-length ch 10 r))
 
 -- the counts line
-pub counts-length : (c : Counts) → c .protected < 2 ^ 64 → c .error < 2 ^ 64 → c .corner < 2 ^ 64 → length (countsText c) ≤ 86
+pub counts-length : (c : Counts) (t : ℕ) → c .protected < 2 ^ 64 → c .error < 2 ^ 64 → c .corner < 2 ^ 64 → t < 2 ^ 64 → length (countsText c t) ≤ 113
 unfolding countsText
-counts-length c l m n = simp length-append (omega (arith, numbered-length (c .protected) 32 l, numbered-length (c .error) 32 m, numbered-length (c .corner) 10 n))
+counts-length c t l m n o = simp length-append (omega (arith, numbered-length (c .protected) 32 l, numbered-length (c .error) 32 m, numbered-length (c .corner) 32 n, numbered-length t 10 o))
 
 -- all rows
 pub rows-length : (w h : ℕ) (st : List ℕ) → length (rowsText w h st) ≤ w * h + h
@@ -99,8 +99,8 @@ pub texels-length : (n w : ℕ) (st : List ℕ) (texels : ℕ → List Float) �
 texels-length n w st texels l = joined-length n 26 (flaggedText w st texels) (λ k p. flagged-length w st texels k (omega arith))
 
 -- an accepted pass
-pub accepted-length : (w h ch : ℕ) (n : Counts) (st : List ℕ) (texels : ℕ → List Float) → w < 2 ^ 64 → h < 2 ^ 64 → ch < 2 ^ 64 → length (countsText n) ≤ 86 → w * h ≤ 100000 → length (acceptedText w h ch n st texels) ≤ 154 + (w * h + h) + 26 * (w * h)
+pub accepted-length : (w h ch : ℕ) (n : Counts) (t : ℕ) (st : List ℕ) (texels : ℕ → List Float) → w < 2 ^ 64 → h < 2 ^ 64 → ch < 2 ^ 64 → length (countsText n t) ≤ 113 → w * h ≤ 100000 → length (acceptedText w h ch n t st texels) ≤ 181 + (w * h + h) + 26 * (w * h)
 unfolding acceptedText
-accepted-length w h ch n st texels a b c d l =
+accepted-length w h ch n t st texels a b c d l =
     simp length-append
     (omega (arith, size-length w h ch a b c, d, rows-length w h st, texels-length (w * h) w st texels l))

@@ -45,7 +45,7 @@ put-accepted-requires c κs =
     let k = kept (m .before) in
     let s = begun k in
     let p = m .msdf-error-correction .ensures in
-    let r = roomy i _ _ _ (sym (at-c .c .given .1) ∙ answers-fix i _ (p .0)) (s .pre .1) (p .1 .0) (front (k .keep .ensures) (keeps k)) in
+    let r = roomy i _ _ _ _ (sym (at-c .c .given .1) ∙ answers-fix i _ (p .0)) (s .pre .1) (p .1 .0) (front (k .keep .ensures) (keeps k)) in
     (r .sizes, (r .cells, r .samples, s .pre .0))
 
 returns : tie.Need-returns
@@ -56,7 +56,7 @@ returns c =
     let f = case (m .before) in
     let i = f (m .before .settings .result) in
     let p = m .msdf-error-correction .ensures in
-    let e = accepted-text i _ _ _ (sym (at-c .c .given .1) ∙ answers-fix i _ (p .0)) (p .1 .0) (front (k .keep .ensures) (keeps k)) in
+    let e = accepted-text i _ _ _ _ (sym (at-c .c .given .1) ∙ answers-fix i _ (p .0)) (p .1 .0) (front (k .keep .ensures) (keeps k)) in
     written-as _ (e ∙ ap (λ t. answerText (f t) (answer (f t))) (m .before .settings .ensures)) (c .before .before .put-accepted .ensures)
 
 returns-2 : tie.Need-returns-2

@@ -26,10 +26,10 @@ size-room c =
     let b = start c .args .b in
     written-room 68 131004 (c .put-size .ensures) (size-length (b .width) (b .height) (b .channels) (omega arith) (omega arith) (omega arith)) (omega arith)
 
-counts-room : (c : tie.After-put-counts) → c .put-counts .result + 130918 ≤ length (c .put-counts .last .0)
+counts-room : (c : tie.After-put-counts) → c .put-counts .result + 130891 ≤ length (c .put-counts .last .0)
 counts-room c =
-    let n = start (sized c) .args .c in
-    written-room 86 130918 (c .put-counts .ensures) (counts-length n (omega arith) (omega arith) (omega arith)) (omega (arith, size-room (sized c)))
+    let a = start (sized c) .args in
+    written-room 113 130891 (c .put-counts .ensures) (counts-length (a .c) (a .tests) (omega arith) (omega arith) (omega arith) (omega arith)) (omega (arith, size-room (sized c)))
 
 -- ---- the needs
 
