@@ -1,4 +1,5 @@
 //! The oracle: the original's pass, compiled from its own sources as they stand, and driven with three lengths and points in pixel units.
+//! Its detectors are driven once more with a classifier that counts range tests and answers as the original's does.
 //!
 //! `target/oracle/original` points at the original's source folder and `target/oracle/correction.rs` is its correction/mod.rs with `driver.rs`
 //! after it (see `build`); no text of the original is changed. What the supplied sources lack stands here: an inline vector, shapes, typed points,
@@ -199,7 +200,7 @@ pub mod distance {
 }
 
 use bitmap::Bitmap;
-use correction::{drive, drive_corners, msdf_error_correction};
+use correction::{drive, drive_corners, drive_counting, msdf_error_correction};
 use generator::config::{DistanceCheckMode, ErrorCorrectionConfig, ErrorCorrectionMode, MsdfGeneratorConfig};
 use generator::projection::{DistanceMapping, Projection, SdfTransformation};
 use geometry::{Contour, EdgeColor, Segment, Shape};
@@ -259,32 +260,47 @@ pub fn correct<const N: usize>(bitmap: &mut Bitmap<f32, N>, task: &Task) {
     msdf_error_correction(bitmap, &task.shape, &task.transformation, &task.config);
 }
 
-/// What the original leaves in its stencil: the whole pass, none in Disabled, where it makes none; and its corners alone, which only EdgePriority asks.
-pub struct Stencils {
+/// What the original answers besides the samples.
+pub struct Answered {
+    /// The stencil of the whole pass; none in Disabled, where it makes none.
     pub whole: Option<Vec<u8>>,
+    /// The stencil of its corners alone, which only EdgePriority asks.
     pub corners: Vec<u8>,
+    /// How many range tests it makes for each texel, in its own order and with its own stops; none in Disabled.
+    pub tests: Vec<u32>,
 }
 
-/// The samples afterwards in place, and the stencils.
+/// The range tests of each texel of this bitmap, whose pass left this stencil. The counted detectors have to flag what the pass flagged.
+fn count_tests<const N: usize>(bitmap: &Bitmap<f32, N>, stencil: &[u8], task: &Task) -> Vec<u32> {
+    const ERROR: u8 = 1;
+    let counted = drive_counting(bitmap, stencil, &task.transformation, &task.config);
+    let same = counted.iter().zip(stencil).all(|((_, artifact), cell)| *artifact == (cell & ERROR != 0));
+    assert!(same, "the counted detectors flag other texels than the driven pass");
+    counted.into_iter().map(|(tests, _)| tests).collect()
+}
+
+/// The samples afterwards in place, and the rest of the answer.
 /// The entry itself is run as well, and its samples have to be those of the driven pass.
-fn correct_and_read<const N: usize>(width: usize, height: usize, samples: &mut [f32], task: &Task) -> Stencils {
+fn correct_and_read<const N: usize>(width: usize, height: usize, samples: &mut [f32], task: &Task) -> Answered {
     let corners = drive_corners(width, height, &task.shape, &task.transformation, &task.config);
     let mut entered = bitmap_of::<N>(width, height, samples);
     correct(&mut entered, task);
     if task.config.error_correction.mode == ErrorCorrectionMode::Disabled {
         samples.copy_from_slice(entered.data());
-        return Stencils { whole: None, corners };
+        return Answered { whole: None, corners, tests: vec![0; width * height] };
     }
+    let before = bitmap_of::<N>(width, height, samples);
     let mut driven = bitmap_of::<N>(width, height, samples);
     let whole = drive(&mut driven, &task.shape, &task.transformation, &task.config);
     let bits = |b: &Bitmap<f32, N>| b.data().iter().map(|v| v.to_bits()).collect::<Vec<_>>();
     assert!(bits(&entered) == bits(&driven), "the driven pass differs from the original's entry");
     samples.copy_from_slice(driven.data());
-    Stencils { whole: Some(whole), corners }
+    let tests = count_tests(&before, &whole, task);
+    Answered { whole: Some(whole), corners, tests }
 }
 
 /// The original's answer for 3 or 4 channels.
-pub fn answer(width: usize, height: usize, channels: usize, samples: &mut [f32], task: &Task) -> Stencils {
+pub fn answer(width: usize, height: usize, channels: usize, samples: &mut [f32], task: &Task) -> Answered {
     match channels {
         3 => correct_and_read::<3>(width, height, samples, task),
         4 => correct_and_read::<4>(width, height, samples, task),

@@ -284,8 +284,8 @@ fn fill_field(rng: &mut Rng, kind: usize, w: usize, h: usize, n: usize) -> Vec<f
     samples
 }
 
-const KINDS: [&str; 9] =
-    ["one class", "mixed classes", "neighbours near", "palette", "figures", "quotients", "quadratics", "grey", "glyph"];
+const KINDS: [&str; 10] =
+    ["one class", "mixed classes", "neighbours near", "palette", "figures", "quotients", "quadratics", "grey", "glyph", "checkered"];
 
 fn finish(rng: &mut Rng, kind: &'static str, input: Input, samples: Vec<f32>) -> Case {
     let old = rng.next();
@@ -323,11 +323,50 @@ pub fn glyph_case(rng: &mut Rng) -> Case {
     finish(rng, KINDS[8], input, samples)
 }
 
+/// Two texels by turns, like the fields of a chessboard, whose channels lie this far from 0.5. At each side of the first every pair crosses; at each diagonal
+/// every pair has two roots inside and two turning points between them. Where no artifact ends it, an inner texel of the first kind has 84 range tests.
+pub fn checkered(width: usize, height: usize) -> Vec<[f32; 3]> {
+    (0..width * height).map(|k| if (k % width + k / width) % 2 == 0 { [0.0, 0.5, 1.0] } else { [2.0, 0.25, -1.0] }).collect()
+}
+
+/// Many range tests: such a field at another scale, its channels in another order and some of its samples a little off; with lengths that stop nothing, or stop it somewhere.
+fn checkered_case(rng: &mut Rng) -> Case {
+    let (width, height) = if rng.one_in(3) { (3, 3) } else { (2 + rng.below(6), 2 + rng.below(6)) };
+    let channels = 3 + usize::from(rng.one_in(3));
+    let scale = rng.pick(&[1.0f32, 1.0, 0.5, 0.25, 2.0, 16.0, 0.75, -0.5, -1.0, -3.0]);
+    let (centre, first) = (0.5 + scale * rng.pick(&[0.0, 0.0, 0.25, 1.0]), rng.below(3));
+    let (off, often) = (rng.pick(&[0.0, 0.0, 0.015_625, 0.25, 1.0]), 1 + rng.below(8));
+    let mut samples = Vec::with_capacity(width * height * channels);
+    for texel in checkered(width, height) {
+        for c in 0..channels {
+            let moved = if rng.one_in(often) { off * (2.0 * rng.unit() - 1.0) as f32 } else { 0.0 };
+            samples.push(centre + scale * (texel[(first + c) % 3] + moved));
+        }
+    }
+    let long = rng.pick(&[64.0, 100.0, LIMIT, 16.0 * f64::from(scale.abs())]);
+    let mut lengths = [long; 3];
+    match rng.below(6) {
+        0 => lengths[rng.below(3)] = 0.0,
+        1 => lengths[rng.below(3)] = length(rng),
+        2 => lengths = [0; 3].map(|_| f64::from(scale.abs()) * rng.unit()),
+        _ => {}
+    }
+    let mode = rng.pick(&[1, 1, 1, 1, 2, 2, 3, 0]);
+    let ratio = rng.pick(&[1.0, 1.0, 10.0 / 9.0, 0.5]);
+    let mut input = Input { width, height, channels, mode, ratio, lengths, colours: vec![], coords: vec![], ends: vec![] };
+    let contours: Vec<_> = (0..rng.below(3)).map(|_| contour(rng, width, height)).collect();
+    set_contours(&mut input, &contours);
+    finish(rng, KINDS[9], input, samples)
+}
+
 /// A case that the pass accepts.
 pub fn accepted(rng: &mut Rng) -> Case {
     let kind = rng.below(KINDS.len());
     if kind == 8 {
         return glyph_case(rng);
+    }
+    if kind == 9 {
+        return checkered_case(rng);
     }
     let (width, height) = size(rng);
     let channels = 3 + usize::from(rng.one_in(3));

@@ -1,5 +1,5 @@
 //! Bitmaps stored in each order of the first three channels: a texel that two of them flag gets the same bits in both, and the corner cells are the same.
-//! Which texels are flagged may differ. How many such texels a rule without an order of zeros would have told apart is counted, so that the trial can fail.
+//! Which texels are flagged, and how many range tests are made, may differ. How many such texels a rule without an order of zeros would have told apart is counted, so that the trial can fail.
 
 use crate::cases::{accepted, glyph_case, Case};
 use crate::judge::{CORNER, ERROR};

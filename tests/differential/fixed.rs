@@ -1,6 +1,6 @@
 //! The fixed list: some hundreds of small cases, each branch among them, with their answers. tests/fixed/README.md has the format.
 
-use crate::cases::{case, every_place, Case};
+use crate::cases::{case, checkered, every_place, Case};
 use crate::judge::{Answer, Input, Seen, BRANCHES};
 use crate::shrink;
 use crate::sides::{bits, by_judge, compare, Outcome, Totals};
@@ -47,7 +47,34 @@ pub fn corner_figures() -> Vec<Case> {
     list
 }
 
-/// The scope document's figures over bitmaps, case P first, and the two points below them, corners beside edges, and zeros.
+/// Range tests that are made and left out. First 3 x 3 texels whose middle one takes all 84; then one for each early stop and each part of the order.
+pub fn test_figures() -> Vec<Case> {
+    let with = |width: usize, height: usize, mode: u8, lengths: [f64; 3], samples: &[f32]| {
+        let mut case = figure(width, height, mode, 0.0, samples);
+        case.input.lengths = lengths;
+        case
+    };
+    let board: Vec<f32> = checkered(3, 3).into_iter().flatten().map(|v| 0.5 + v).collect();
+    let mut list: Vec<Case> = [1, 2, 3, 0].map(|mode| with(3, 3, mode, [16.0; 3], &board)).to_vec();
+    // The first root is an artifact by its plain range, two turning points are inside, and a root, two pairs and three neighbours are left out.
+    list.push(with(3, 3, 1, [16.0, 16.0, 0.0], &board));
+    // The lower right neighbour alone has an artifact: the lower left one comes before it, the upper left one after it.
+    let mut corner = board.clone();
+    corner[6..9].copy_from_slice(&[0.625, 0.25, 0.625]);
+    list.push(with(3, 3, 3, [16.0, 16.0, 0.0], &corner));
+    // The second of two roots, at 3/4, alone is an artifact.
+    list.push(with(2, 2, 3, [16.0, 16.0, 0.25], &[2.5, 1.75, 1.75, -0.25, 1.0, 1.0, -0.25, 1.0, 1.0, 0.75, 0.0, 0.75]));
+    // Case P with its artifact at the second and at the third pair.
+    list.push(figure(2, 1, 1, 0.25, &[0.75, 1.0, 0.0, 0.75, 0.0, 1.0]));
+    list.push(figure(2, 1, 1, 0.25, &[0.0, 0.75, 1.0, 1.0, 0.75, 0.0]));
+    // Texels of case P by turns: below and above are artifacts, left and right are not; and in a row the right neighbour is left out.
+    let turns: Vec<f32> = (0..9).flat_map(|k| if k % 2 == 0 { [1.0, 0.0, 0.75] } else { [0.0, 1.0, 0.75] }).collect();
+    list.push(with(3, 3, 1, [1.0, 0.25, 1.0], &turns));
+    list.push(figure(3, 1, 1, 0.25, &turns[..9]));
+    list
+}
+
+/// The scope document's figures over bitmaps, case P first, and the two points below them, corners beside edges, counts of range tests, and zeros.
 fn figures() -> Vec<Case> {
     let p = [1.0, 0.0, 0.75, 0.0, 1.0, 0.75];
     let c2 = [1.0, 0.625, 0.75, 0.625, 1.0, 0.75];
@@ -69,6 +96,7 @@ fn figures() -> Vec<Case> {
         list.push(outlined(figure(2, 2, 2, 0.0, &[0.25; 12]), colours, x, 0.0));
     }
     list.extend(corner_figures());
+    list.extend(test_figures());
     // Zeros of both signs, whose median's sign the original leaves open: +0 below 5 and -0 above -5, in each order of the channels.
     for [a, b, c] in [[0, 1, 2], [0, 2, 1], [1, 0, 2], [1, 2, 0], [2, 0, 1], [2, 1, 0]] {
         for (t, n) in [([-0.0, 0.0, 5.0], [0.0, 0.25, 0.0]), ([-0.0, 0.0, -5.0], [0.0, -0.25, 0.0])] {
@@ -111,7 +139,7 @@ fn put_case(out: &mut Vec<u8>, case: &Case, outcome: &Outcome) {
     }
     let a = outcome.answer;
     out.push(a.refusal);
-    for v in [a.place, a.protected, a.error, a.corner] {
+    for v in [a.place, a.protected, a.error, a.corner, a.tests] {
         put64(out, v);
     }
     for v in &outcome.samples {
@@ -157,8 +185,10 @@ impl Reader<'_> {
         let coords = (0..k).map(|_| self.f64()).collect();
         let k = self.size();
         let ends = (0..k).map(|_| self.size()).collect();
-        let answer = Answer { refusal: self.byte(), place: self.size(), protected: self.size(), error: self.size(), corner: self.size() };
-        let outcome = Outcome { answer, samples: self.samples(n), stencil: self.take(m).to_vec() };
+        let refusal = self.byte();
+        let [place, protected, error, corner, tests] = [(); 5].map(|_| self.size());
+        let answer = Answer { refusal, place, protected, error, corner, tests };
+        let outcome = Outcome { answer, samples: self.samples(n), stencil: self.take(m).to_vec(), tests: vec![] };
         let input = Input { width, height, channels, mode, ratio, lengths, colours, coords, ends };
         (Case { kind: "fixed list", input, samples, stencil }, outcome)
     }
@@ -205,13 +235,13 @@ pub fn make(file: &str) -> bool {
                 return false;
             }
         };
-        let fresh = (0..BRANCHES.len()).any(|k| seen.0[k] > 0 && wanting(k, &times));
+        let fresh = (0..BRANCHES.len()).any(|k| seen.counts[k] > 0 && wanting(k, &times));
         let a = outcome.answer;
         let new_place = a.refusal != 0 && places.insert((a.refusal, a.place));
         let new_kind = a.refusal == 0 && a.error > 0 && kinds.insert((candidate.kind, candidate.input.mode, candidate.input.channels));
         if must_keep || fresh || new_place || new_kind {
             for k in 0..BRANCHES.len() {
-                times[k] += u64::from(seen.0[k] > 0);
+                times[k] += u64::from(seen.counts[k] > 0);
             }
             put_case(&mut out, &candidate, &outcome);
             kept += 1;

@@ -1,6 +1,6 @@
 //! The proved pass against the original and against the second judge, on the same inputs.
 //!
-//! `run COUNT SEED`: every refusal at every place, then COUNT cases; totals, and how often each branch was reached. What is spoilt about corners has to be seen.
+//! `run COUNT SEED`: every refusal at every place, then COUNT cases; totals, and how often each branch was reached. What is spoilt about corners and counts has to be seen.
 //! `monotony COUNT SEED`: pairs of passes in demand 3's relation and in the corners', and pairs with the relation broken.
 //! `again COUNT SEED`: what a pass leaves as the input of the next.
 //! `channels COUNT SEED`: bitmaps with their first three channels stored in each order.
@@ -52,6 +52,7 @@ fn run(count: u64, seed: u64) -> bool {
     let missing = print_branches(&seen);
     let can_fail = spoilt::all_seen();
     println!("seed {seed}: {} cases, {} accepted with {} texels, {} protected, {} of these by a corner, {} flagged", totals.cases, totals.accepted, totals.texels, totals.protected, totals.corner, totals.flagged);
+    println!("{} range tests compared, the most for a texel {}", totals.tests, totals.most_tests);
     let refused: Vec<String> = (1..10).map(|k| format!("{k}: {}", totals.refused[k])).collect();
     println!("refused {}", refused.join(", "));
     println!("compared with the original {}, with the proved pass {}", totals.by_oracle, totals.by_pass);
@@ -64,7 +65,7 @@ fn run(count: u64, seed: u64) -> bool {
 /// Prints the counts and answers how many branches were not reached.
 fn print_branches(seen: &Seen) -> usize {
     let mut missing = 0;
-    for (name, count) in BRANCHES.iter().zip(&seen.0) {
+    for (name, count) in BRANCHES.iter().zip(&seen.counts) {
         println!("{count:>12}  {name}");
         missing += usize::from(*count == 0);
     }

@@ -2,7 +2,7 @@
 
 use crate::cases::{contours_of, set_contours, Case};
 use crate::judge::Seen;
-use crate::sides::{compare, Totals};
+use crate::sides::{by_judge, compare, Totals};
 use std::fmt::Write;
 use std::ops::Range;
 
@@ -20,6 +20,7 @@ pub fn text(case: &Case) -> String {
             let values: Vec<String> = texel.iter().map(|v| format!("{v:?} ({:08X})", v.to_bits())).collect();
             let _ = writeln!(s, "  texel {k}: {}", values.join(" "));
         }
+        let _ = writeln!(s, "  range tests of each texel, judged: {:?}", by_judge(case, &mut Seen::new()).tests);
     }
     s
 }

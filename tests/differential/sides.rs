@@ -1,31 +1,38 @@
 //! The sides that answer a case, and what it means that they agree.
 
 use crate::cases::Case;
-use crate::judge::{judge, Answer, Seen};
+use crate::judge::{judge_counting, Answer, Counting, Seen, ERROR, MOST_TESTS};
 #[cfg(oracle)]
-use crate::judge::{CORNER, ERROR, PROTECTED};
+use crate::judge::{CORNER, PROTECTED};
 use crate::rungtwine::raw::rungtwine_error_correction;
 
 pub struct Outcome {
     pub answer: Answer,
     pub samples: Vec<f32>,
     pub stencil: Vec<u8>,
+    /// The range tests of each texel, which the judge alone tells apart; the proved pass has their sum in its answer.
+    pub tests: Vec<u32>,
 }
 
 pub fn by_judge(case: &Case, seen: &mut Seen) -> Outcome {
-    let (mut samples, mut stencil) = (case.samples.clone(), case.stencil.clone());
-    let answer = judge(&case.input, &mut samples, &mut stencil, seen);
-    Outcome { answer, samples, stencil }
+    by_judge_counting(case, Counting::Rule, seen)
 }
 
-/// The original's samples and stencils, for a case that is accepted.
+/// The judge with its range tests counted in this way.
+pub fn by_judge_counting(case: &Case, counting: Counting, seen: &mut Seen) -> Outcome {
+    let (mut samples, mut stencil) = (case.samples.clone(), case.stencil.clone());
+    let (answer, tests) = judge_counting(&case.input, &mut samples, &mut stencil, counting, seen);
+    Outcome { answer, samples, stencil, tests }
+}
+
+/// The original's samples and the rest of its answer, for a case that is accepted.
 #[cfg(oracle)]
-pub fn by_oracle(case: &Case) -> (Vec<f32>, oracle::Stencils) {
+pub fn by_oracle(case: &Case) -> (Vec<f32>, oracle::Answered) {
     let i = &case.input;
     let task = oracle::Task::new(i.mode, i.ratio, i.lengths, &i.colours, &i.coords, &i.ends);
     let mut samples = case.samples.clone();
-    let stencils = oracle::answer(i.width, i.height, i.channels, &mut samples, &task);
-    (samples, stencils)
+    let answered = oracle::answer(i.width, i.height, i.channels, &mut samples, &task);
+    (samples, answered)
 }
 
 const ROOM: usize = 16;
@@ -41,7 +48,7 @@ pub fn by_pass(case: &Case) -> Result<Outcome, String> {
     let mut stencil = vec![CELL_GUARD; m + 2 * ROOM];
     stencil[ROOM..ROOM + m].copy_from_slice(&case.stencil);
     let unwritten = usize::MAX - 12345;
-    let [mut place, mut protected, mut error, mut corner] = [unwritten; 4];
+    let [mut place, mut protected, mut error, mut corner, mut tests] = [unwritten; 5];
     let refusal = unsafe {
         rungtwine_error_correction(
             i.width,
@@ -66,6 +73,7 @@ pub fn by_pass(case: &Case) -> Result<Outcome, String> {
             &mut protected,
             &mut error,
             &mut corner,
+            &mut tests,
         )
     };
     let kept = |v: &&f32| v.to_bits() == SAMPLE_GUARD;
@@ -76,9 +84,10 @@ pub fn by_pass(case: &Case) -> Result<Outcome, String> {
         return Err("wrote beside the stencil".into());
     }
     Ok(Outcome {
-        answer: Answer { refusal, place, protected, error, corner },
+        answer: Answer { refusal, place, protected, error, corner, tests },
         samples: samples[ROOM..ROOM + n].to_vec(),
         stencil: stencil[ROOM..ROOM + m].to_vec(),
+        tests: vec![],
     })
 }
 
@@ -95,6 +104,8 @@ pub struct Totals {
     pub protected: u64,
     pub corner: u64,
     pub flagged: u64,
+    pub tests: u64,
+    pub most_tests: u32,
     pub refused: [u64; 10],
     pub zero_signs: u64,
     pub by_oracle: u64,
@@ -103,9 +114,9 @@ pub struct Totals {
 
 /// The original's flags, none where it makes no stencil, are our bits 1 and 2, and what its corners alone protect is our bit 4.
 #[cfg(oracle)]
-fn against_stencils(stencils: &oracle::Stencils, judged: &[u8]) -> Result<(), String> {
+fn against_stencils(answered: &oracle::Answered, judged: &[u8]) -> Result<(), String> {
     for (k, &cell) in judged.iter().enumerate() {
-        let (whole, corner) = (stencils.whole.as_ref().map_or(0, |w| w[k]), stencils.corners[k]);
+        let (whole, corner) = (answered.whole.as_ref().map_or(0, |w| w[k]), answered.corners[k]);
         if whole != cell & (ERROR | PROTECTED) {
             return Err(format!("original: cell {k} is {whole}, judged {cell}"));
         }
@@ -116,14 +127,27 @@ fn against_stencils(stencils: &oracle::Stencils, judged: &[u8]) -> Result<(), St
     Ok(())
 }
 
+/// The original makes as many range tests for each texel.
+#[cfg(oracle)]
+fn against_tests(answered: &oracle::Answered, judged: &[u32]) -> Result<(), String> {
+    if answered.tests.len() != judged.len() {
+        return Err(format!("original: {} texels, judged {}", answered.tests.len(), judged.len()));
+    }
+    match answered.tests.iter().zip(judged).position(|(o, j)| o != j) {
+        Some(k) => Err(format!("original: {} range tests for texel {k}, judged {}", answered.tests[k], judged[k])),
+        None => Ok(()),
+    }
+}
+
 #[cfg(oracle)]
 pub fn against_oracle(case: &Case, judged: &Outcome, totals: &mut Totals) -> Result<(), String> {
-    let (samples, stencils) = by_oracle(case);
+    let (samples, answered) = by_oracle(case);
     totals.by_oracle += 1;
-    if case.input.mode == 0 && (stencils.whole.is_some() || bits(&samples) != bits(&case.samples)) {
+    if case.input.mode == 0 && (answered.whole.is_some() || bits(&samples) != bits(&case.samples)) {
         return Err("original: Disabled did something".into());
     }
-    against_stencils(&stencils, &judged.stencil)?;
+    against_stencils(&answered, &judged.stencil)?;
+    against_tests(&answered, &judged.tests)?;
     for k in 0..samples.len() {
         let (o, j) = (samples[k], judged.samples[k]);
         if o.to_bits() != j.to_bits() {
@@ -157,6 +181,17 @@ pub fn against_pass(case: &Case, judged: &Outcome, totals: &mut Totals) -> Resul
     Ok(())
 }
 
+/// No texel has more range tests than there can be, one that is flagged has one at least, and the answer has their sum.
+fn hold_tests(judged: &Outcome) -> Result<(), String> {
+    for (k, (&tests, cell)) in judged.tests.iter().zip(&judged.stencil).enumerate() {
+        if tests > MOST_TESTS || (cell & ERROR != 0 && tests == 0) {
+            return Err(format!("judged: {tests} range tests for texel {k}, whose cell is {cell}"));
+        }
+    }
+    let sum: usize = judged.tests.iter().map(|&n| n as usize).sum();
+    if sum == judged.answer.tests { Ok(()) } else { Err(format!("judged: {sum} range tests, {} answered", judged.answer.tests)) }
+}
+
 /// The judge's answer, once every side that is there agrees with it.
 pub fn compare(case: &Case, seen: &mut Seen, totals: &mut Totals) -> Result<Outcome, String> {
     let judged = by_judge(case, seen);
@@ -173,6 +208,9 @@ pub fn compare(case: &Case, seen: &mut Seen, totals: &mut Totals) -> Result<Outc
         totals.protected += a.protected as u64;
         totals.corner += a.corner as u64;
         totals.flagged += a.error as u64;
+        totals.tests += a.tests as u64;
+        totals.most_tests = totals.most_tests.max(judged.tests.iter().copied().max().unwrap_or(0));
+        hold_tests(&judged)?;
         #[cfg(oracle)]
         against_oracle(case, &judged, totals)?;
     }

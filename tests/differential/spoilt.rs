@@ -1,10 +1,11 @@
-//! Whether the comparison sees what a pass could get wrong about corners: the judge's answers to figures in which an edge, a corner and both protect a texel
-//! are spoilt, one way at a time, and every side has to differ from them.
+//! Whether the comparison sees what a pass could get wrong about corners and about the count of range tests: the judge's answers to figures are spoilt, one way
+//! at a time, and every side has to differ from them. In the corners' figures an edge, a corner and both protect a texel; in the others range tests are
+//! made and left out.
 
 use crate::cases::Case;
-use crate::fixed::corner_figures;
-use crate::judge::{Seen, CORNER, PROTECTED};
-use crate::sides::{against_pass, by_judge, Outcome, Totals};
+use crate::fixed::{corner_figures, test_figures};
+use crate::judge::{Counting, Seen, CORNER, PROTECTED};
+use crate::sides::{against_pass, by_judge, by_judge_counting, Outcome, Totals};
 
 /// What is spoilt, in which mode's figure, and how. An edge alone protects its first texel, an edge and a corner the second, a corner alone the third.
 const WAYS: [(&str, u8, fn(&mut Outcome)); 7] = [
@@ -17,36 +18,104 @@ const WAYS: [(&str, u8, fn(&mut Outcome)); 7] = [
     ("a corner in Disabled", 0, |o| o.stencil[2] |= CORNER),
 ];
 
-/// Whether each side differs from what was spoilt.
-fn seen(case: &Case, spoilt: &Outcome) -> bool {
-    #[cfg(oracle)]
-    if crate::sides::against_oracle(case, spoilt, &mut Totals::default()).is_ok() {
-        return false;
-    }
-    against_pass(case, spoilt, &mut Totals::default()).is_err()
+/// Every wrong way of counting that the judge knows.
+const COUNTINGS: [Counting; 10] = [
+    Counting::RootsCutShort,
+    Counting::RootsGoOn,
+    Counting::PairsGoOn,
+    Counting::NeighboursGoOn,
+    Counting::RootsOtherwise,
+    Counting::PairsOtherwise,
+    Counting::SidesOtherwise,
+    Counting::DiagonalsOtherwise,
+    Counting::CandidatesAlone,
+    Counting::DisabledToo,
+];
+
+/// Whether the original differs from what was spoilt.
+#[cfg(oracle)]
+fn seen_by_original(case: &Case, spoilt: &Outcome) -> bool {
+    crate::sides::against_oracle(case, spoilt, &mut Totals::default()).is_err()
 }
 
-/// Whether every way is seen, and a corner count that is the protected cells' or 0.
-pub fn all_seen() -> bool {
-    let mut missed = 0;
+/// Without the original there is nothing that it could miss.
+#[cfg(not(oracle))]
+fn seen_by_original(_: &Case, _: &Outcome) -> bool {
+    true
+}
+
+/// Whether each side differs from what was spoilt.
+fn seen(case: &Case, spoilt: &Outcome) -> bool {
+    seen_by_original(case, spoilt) && against_pass(case, spoilt, &mut Totals::default()).is_err()
+}
+
+/// Counts what was not seen, and says it.
+fn miss(missed: &mut usize, seen: bool, what: &str) {
+    if !seen {
+        *missed += 1;
+        println!("not seen: {what}");
+    }
+}
+
+/// Every way to spoil corners, and a corner count that is the protected cells' or 0.
+fn corners(missed: &mut usize) {
     let figures = corner_figures();
     let of_mode = |mode: u8| figures.iter().find(|c| c.input.mode == mode).expect("a figure in each mode");
     for (name, mode, spoil) in WAYS {
         let case = of_mode(mode);
         let mut outcome = by_judge(case, &mut Seen::new());
         spoil(&mut outcome);
-        if !seen(case, &outcome) {
-            missed += 1;
-            println!("not seen: {name}");
-        }
+        miss(missed, seen(case, &outcome), name);
     }
     for of_protected in [true, false] {
         let mut outcome = by_judge(of_mode(2), &mut Seen::new());
         outcome.answer.corner = if of_protected { outcome.answer.protected } else { 0 };
-        if against_pass(of_mode(2), &outcome, &mut Totals::default()).is_ok() {
-            missed += 1;
-            println!("not seen: {} corner cells counted", outcome.answer.corner);
-        }
+        let seen = against_pass(of_mode(2), &outcome, &mut Totals::default()).is_err();
+        miss(missed, seen, &format!("{} corner cells counted", outcome.answer.corner));
     }
+}
+
+/// Every wrong way of counting gives another sum in one of the figures at least, and each such sum is seen.
+fn countings(missed: &mut usize) {
+    for counting in COUNTINGS {
+        let mut told = 0;
+        for case in test_figures() {
+            let wrong = by_judge_counting(&case, counting, &mut Seen::new());
+            if wrong.answer.tests != by_judge(&case, &mut Seen::new()).answer.tests {
+                told += 1;
+                miss(missed, seen(&case, &wrong), &format!("{} range tests counted by {counting:?}", wrong.answer.tests));
+            }
+        }
+        miss(missed, told > 0, &format!("{counting:?}, in any figure"));
+    }
+}
+
+/// In every figure: one test more and one less, one that is another texel's, which the original alone tells texel by texel, and one in a refusal.
+fn single_tests(missed: &mut usize) {
+    for mut case in test_figures() {
+        let spoil = |from: u32, to: u32| {
+            let mut outcome = by_judge(&case, &mut Seen::new());
+            let k = outcome.tests.iter().position(|&n| n >= from)?;
+            outcome.tests[k] -= from;
+            *outcome.tests.last_mut()? += to;
+            outcome.answer.tests = outcome.answer.tests + to as usize - from as usize;
+            Some(outcome)
+        };
+        miss(missed, spoil(0, 1).is_some_and(|o| seen(&case, &o)), "one range test more");
+        miss(missed, spoil(1, 0).map_or(case.input.mode == 0, |o| seen(&case, &o)), "one range test less");
+        miss(missed, spoil(1, 1).map_or(case.input.mode == 0, |o| seen_by_original(&case, &o)), "a range test of another texel");
+        case.input.mode = 4;
+        let mut refused = by_judge(&case, &mut Seen::new());
+        refused.answer.tests = 1;
+        miss(missed, against_pass(&case, &refused, &mut Totals::default()).is_err(), "a range test in a refusal");
+    }
+}
+
+/// Whether everything that is spoilt is seen.
+pub fn all_seen() -> bool {
+    let mut missed = 0;
+    corners(&mut missed);
+    countings(&mut missed);
+    single_tests(&mut missed);
     missed == 0
 }

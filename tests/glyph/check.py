@@ -84,6 +84,7 @@ def check_answer(data, says):
     answer = glyph.Answer("answer", says, read)
     named = {(int(x), int(y)): int(channel) for x, y, channel in re.findall(r"^(\d+) (\d+) [0-9A-F]{8} ch (\d+)$", says, re.M)}
     need(answer.carriers == named, f"the channels of {data[:80].hex()}")
+    need(says.split("\n")[1].endswith(f" tests {answer.tests}"), f"the range tests of {data[:80].hex()}")
     for y, (old, new) in enumerate(zip(read.rows, answer.corrected())):
         for x in range(read.size[0]):
             texel, after = old[x * channels:(x + 1) * channels], new[x * channels:(x + 1) * channels]
@@ -161,7 +162,7 @@ def whole(picture, width, height, what):
 def answered(width, height, value, mark, channel):
     """A field of equal texels, and an answer that marks each of them and names this channel."""
     read = glyph.from_fields("in", cases.bitmap(width, height, 3, cases.PLAIN, [], value * (width * height)))
-    answer = glyph.Answer("in", f"size {width} {height} 3\nprotected 0 error 0 corner 0\n" + ("." * width + "\n") * height, read)
+    answer = glyph.Answer("in", f"size {width} {height} 3\nprotected 0 error 0 corner 0 tests {84 * width * height}\n" + ("." * width + "\n") * height, read)
     answer.rows, answer.errors, answer.protected, answer.corners = [mark * width] * height, 4096, 4096, 4096 if mark in "CD" else 0
     answer.carriers = {(x, y): channel for y in range(height) for x in range(width)} if mark in "EBD" else {}
     return read, answer
@@ -187,19 +188,19 @@ def check_marks():
 
 
 def check_legend():
-    """The legend fits with the largest counts, and tells each channel, a corner, an edge and EdgeOnly's own protection apart."""
+    """The legend fits with the largest counts, and tells each channel, a corner, an edge, EdgeOnly's own protection and another number of range tests apart."""
     seen = set()
-    for mark, channel, mode in (("B", 0, 2), ("B", 1, 2), ("B", 2, 2), ("D", 0, 2), ("B", 0, 3)):
+    for mark, channel, mode, less in (("B", 0, 2, 0), ("B", 1, 2, 0), ("B", 2, 2, 0), ("D", 0, 2, 0), ("B", 0, 3, 0), ("B", 0, 2, 1)):
         answer = answered(64, 64, [0.5, 0.5, 0.5], mark, channel)[1]
-        answer.glyph.mode = mode
+        answer.glyph.mode, answer.tests = mode, answer.tests - less
         picture = glyph.Picture(*glyph.LEGEND)
         glyph.draw_legend(picture, 0, 0, answer)
         seen.add(whole(picture, *glyph.LEGEND, "the legend"))
-    need(len(seen) == 5, "legends of different answers look alike")
+    need(len(seen) == 6, "legends of different answers look alike")
 
 
 GOOD = "size 2 1 3\nmode 1\nratio 1\nlengths 1 1 1\ncontour\n  red 1 1\nrow 0\n  1 0 0.75\n  0 0.75 0.75\n"
-ANSWER = "size 2 1 3\nprotected 0 error 2 corner 0\nEE\n0 0 3F400000 ch 2\n1 0 3F400000 ch 1\n"
+ANSWER = "size 2 1 3\nprotected 0 error 2 corner 0 tests 2\nEE\n0 0 3F400000 ch 2\n1 0 3F400000 ch 1\n"
 
 
 def bad_texts():
@@ -236,8 +237,12 @@ def bad_answers():
     yield ANSWER.replace("error 2", "error 1"), "b:2:19: 1 are counted here, and the rows have 2"
     yield ANSWER.replace("protected 0", "protected 1"), "b:2:11: 1 are counted here"
     yield ANSWER.replace("corner 0", "corner 1"), "b:2:28: 1 are counted here, and the rows have 0"
-    for line in ("protected 0 error 2", "protected 0 error 2 corner", "protected 0 error 2 corner 0 ", "protected 0 corner 0 error 2", "corner 0"):
-        yield ANSWER.replace("protected 0 error 2 corner 0", line), "b:2:1: 'protected COUNT error COUNT corner COUNT' should stand here"
+    for tests in (0, 1, 169):
+        yield (ANSWER.replace("tests 2", f"tests {tests}"),
+               f"b:2:36: {tests} range tests are counted here, and with these flags, size and mode there are from 2 to 168")
+    for line in ("protected 0 error 2", "protected 0 error 2 corner 0", "protected 0 error 2 corner 0 tests", "protected 0 error 2 corner 0 tests 2 ",
+                 "protected 0 error 2 corner 0 tests -2", "protected 0 error 2 tests 2 corner 0", "protected 0 corner 0 error 2 tests 2", "tests 2"):
+        yield ANSWER.replace("protected 0 error 2 corner 0 tests 2", line), "b:2:1: 'protected COUNT error COUNT corner COUNT tests COUNT' should stand here"
     yield ANSWER.replace("EE", "EX"), "b:3:1: row 0, 2 letters of . P E B C D"
     yield ANSWER.replace("EE", "EB"), "b:2:11: 0 are counted here, and the rows have 1"
     yield ANSWER.replace("EE", "ED").replace("protected 0", "protected 1"), "b:2:28: 0 are counted here, and the rows have 1"
@@ -282,10 +287,11 @@ def check_bad():
 
         put("good", glyph.to_fields(glyph.from_text("good", GOOD), "good"))
         put("wide", cases.bitmap(4096, 1, 3, cases.settings(0, 1.0, 1.0), [], [0.0] * 12288))
-        put("plain", "size 4096 1 3\nprotected 0 error 0 corner 0\n" + "." * 4096 + "\n")
+        put("plain", "size 4096 1 3\nprotected 0 error 0 corner 0 tests 0\n" + "." * 4096 + "\n")
+        put("tested", "size 4096 1 3\nprotected 0 error 0 corner 0 tests 1\n" + "." * 4096 + "\n")
         for name, size in (("single", (1, 1, 1)), ("rowless", (2, 0, 3)), ("narrow", (0, 2, 3))):
             put(name, cases.bitmap(*size, cases.PLAIN, [], [0.0] * (size[0] * size[1] * size[2])))
-            put(name + ".txt", "size {} {} {}\nprotected 0 error 0 corner 0\n".format(*size) + ("." * size[0] + "\n") * size[1])
+            put(name + ".txt", "size {} {} {}\nprotected 0 error 0 corner 0 tests 0\n".format(*size) + ("." * size[0] + "\n") * size[1])
         put("settings", "mode 1\nratio 1\nlengths 1 1 1\n")
         put("more", cases.figures()[0][1] + bytes(3))
         put("four", cases.bitmap(1, 1, 4, cases.PLAIN, [], [0.0] * 4))
@@ -300,6 +306,7 @@ def check_bad():
                 (1, "four: a PFM has three channels, and this field has 4", ["to-pfm", "four", "out", "out"]),
                 *((1, f"{name}.txt:1:6: the program refuses a field of this size", ["draw", name, name + ".txt", "out"]) for name in ("single", "rowless", "narrow")),
                 (1, "wide: drawn 32 pixels high it would be 131072 wide", ["draw", "wide", "plain", "out"]),
+                (1, "tested:2:36: 1 range tests are counted here, and with these flags, size and mode there are from 0 to 0", ["draw", "wide", "tested", "out"]),
                 (1, "nowhere/out: cannot be written", ["unpack", "good", "nowhere/out"]),
                 (2, "a command is missing", []), (2, "there is no command 'fold'", ["fold"]), (2, "pack takes TEXT FIELDS, and 1 words", ["pack", "a"]),
                 (2, "draw has no option '--size'", ["draw", "--size", "3", "good", "b", "out"]),

@@ -1,7 +1,8 @@
 //! The second judge: a plain, slow reading of the scope document in Rust, whose f32 and f64 are IEEE 754 with each operation rounded once.
 //! It is written from that document and from the readings of its open points, not from the original and not from the proved pass,
-//! and it judges what the original cannot: refusals, places, counts and the sign of a zero.
+//! and it judges what the original cannot: refusals, places, counts of cells and the sign of a zero.
 //! `Seen` counts how often each branch of the reading was reached.
+//! Range tests are read in two steps: first all that a texel gives rise to, whatever they say; then how many of them are made in order and with early stops.
 
 /// The largest size of a sample, a coordinate, a ratio or a length.
 pub const LIMIT: f64 = 1_048_576.0;
@@ -11,6 +12,8 @@ pub const ERROR: u8 = 1;
 pub const PROTECTED: u8 = 2;
 /// Stands beside PROTECTED where a corner protects.
 pub const CORNER: u8 = 4;
+/// The most range tests for a texel: three at each of four sides, and at each of four diagonals three pairs of two roots with three each.
+pub const MOST_TESTS: u32 = 84;
 
 /// What comes in, the two lent slices aside.
 #[derive(Clone, Debug)]
@@ -35,6 +38,8 @@ pub struct Answer {
     pub protected: usize,
     pub error: usize,
     pub corner: usize,
+    /// Range tests over the whole bitmap.
+    pub tests: usize,
 }
 
 macro_rules! branches {
@@ -202,6 +207,22 @@ branches! {
     DiagonalArtifact10: "diagonal, artifact at pair 1-0",
     DiagonalArtifact21: "diagonal, artifact at pair 2-1",
     DiagonalArtifact02: "diagonal, artifact at pair 0-2",
+    TestsOne: "tests, one at a root",
+    TestsTwo: "tests, two at a root",
+    TestsThree: "tests, three at a root",
+    TestsAfterPlain: "tests, a turning point's after an artifact by the plain range",
+    TestsAfterArtifact: "tests, fewer if a root's ended at its first artifact",
+    TestsLaterRoot: "tests, a later root left out",
+    TestsLaterPair: "tests, a later pair left out",
+    TestsLaterNeighbour: "tests, a later neighbour left out",
+    TestsRootOrder: "tests, others with the roots in another order",
+    TestsPairOrder: "tests, others with the pairs in another order",
+    TestsSideOrder: "tests, others with the sides in another order",
+    TestsDiagonalOrder: "tests, others with the diagonals in another order",
+    TestsNoCandidate: "tests, one that finds no candidate",
+    TestsNone: "tests, none for a texel",
+    TestsMost: "tests, 84 for a texel",
+    TestsDisabled: "tests, none in Disabled",
     FlagLinearOnly: "flag, by linear alone",
     FlagDiagonalOnly: "flag, by diagonal alone",
     FlagBoth: "flag, by both",
@@ -216,14 +237,18 @@ branches! {
 }
 
 /// How often each branch was reached.
-pub struct Seen(pub Vec<u64>);
+pub struct Seen {
+    pub counts: Vec<u64>,
+    /// A detector is beyond its first artifact, where nothing decides: what it looks at there reaches no branch.
+    beyond: bool,
+}
 
 impl Seen {
     pub fn new() -> Seen {
-        Seen(vec![0; BRANCHES.len()])
+        Seen { counts: vec![0; BRANCHES.len()], beyond: false }
     }
     fn hit(&mut self, b: Branch) {
-        self.0[b as usize] += 1;
+        self.counts[b as usize] += u64::from(!self.beyond);
     }
     fn hit_if(&mut self, yes: bool, b: Branch) {
         if yes {
@@ -567,6 +592,30 @@ fn protect(input: &Input, field: &Field, stencil: &mut [u8], seen: &mut Seen) {
     }
 }
 
+/// What a range test says.
+#[derive(Clone, Copy, PartialEq, Eq)]
+enum Said {
+    NoCandidate,
+    Candidate,
+    Artifact,
+}
+
+/// The range tests at a crossing or a root in their order, none where it is not strictly inside: the plain one, then one for each turning point.
+type Point = [Option<Said>; 3];
+/// A pair's roots in their order; a linear pair has its crossing alone.
+type Pair = [Point; 2];
+/// Every range test that a neighbour gives rise to, also beyond an artifact; none where its guard fails or it is out of bounds.
+type Neighbour = [Pair; 3];
+const UNTESTED: Neighbour = [[[None; 3]; 2]; 3];
+
+fn has_artifact(point: &Point) -> bool {
+    point.contains(&Some(Said::Artifact))
+}
+
+fn any_artifact(neighbours: &[Neighbour]) -> bool {
+    neighbours.iter().flatten().flatten().any(has_artifact)
+}
+
 /// What a detector is handed: the span of its direction and whether its texel is protected.
 #[derive(Clone, Copy)]
 struct Detector {
@@ -575,7 +624,7 @@ struct Detector {
 }
 
 impl Detector {
-    fn range_test(self, at: f64, bt: f64, xt: f64, am: f32, bm: f32, xm: f32, seen: &mut Seen) -> bool {
+    fn range_test(self, at: f64, bt: f64, xt: f64, am: f32, bm: f32, xm: f32, seen: &mut Seen) -> Said {
         use Branch::*;
         let above = am > 0.5 && bm > 0.5 && xm <= 0.5;
         let below = am < 0.5 && bm < 0.5 && xm >= 0.5;
@@ -586,7 +635,7 @@ impl Detector {
         seen.hit_if(below && xm == 0.5, CandidateBelowTie);
         if !(above || below || (!self.protected && not_median)) {
             seen.hit(if not_median { CandidateSaved } else { CandidateNo });
-            return false;
+            return Said::NoCandidate;
         }
         seen.hit_if(!above && !below, CandidateMedian);
         let (am, bm, xm) = (f64::from(am), f64::from(bm), f64::from(xm));
@@ -607,7 +656,7 @@ impl Detector {
                 OutBHigh
             });
         }
-        !within
+        if within { Said::Candidate } else { Said::Artifact }
     }
 }
 
@@ -626,36 +675,42 @@ fn guard(am: f32, bm: f32, guarded: Branch, tie: Branch, seen: &mut Seen) -> boo
     a >= b
 }
 
-fn linear(d: Detector, a: [f32; 3], b: [f32; 3], seen: &mut Seen) -> bool {
+/// The range test at the crossing of linear pair `p`.
+fn linear_pair(det: Detector, a: [f32; 3], b: [f32; 3], p: usize, seen: &mut Seen) -> Point {
     use Branch::*;
-    let (am, bm) = (median_of(a), median_of(b));
-    if !guard(am, bm, LinearGuarded, LinearTie, seen) {
-        return false;
+    let (i, j) = PAIRS[p];
+    let (da, db): (f32, f32) = (a[i] - a[j], b[i] - b[j]);
+    let divisor: f32 = da - db;
+    let t = f64::from(da) / f64::from(divisor);
+    if !strictly_inside(t) {
+        seen.hit(if t.is_nan() {
+            LinearNan
+        } else if t <= EPSILON {
+            LinearLow
+        } else {
+            LinearHigh
+        });
+        seen.hit_if(t == EPSILON, LinearLowEqual);
+        seen.hit_if(t == 1.0 - EPSILON, LinearHighEqual);
+        return [None; 3];
     }
-    for (p, (i, j)) in PAIRS.into_iter().enumerate() {
-        let (da, db): (f32, f32) = (a[i] - a[j], b[i] - b[j]);
-        let divisor: f32 = da - db;
-        let t = f64::from(da) / f64::from(divisor);
-        if !strictly_inside(t) {
-            seen.hit(if t.is_nan() {
-                LinearNan
-            } else if t <= EPSILON {
-                LinearLow
-            } else {
-                LinearHigh
-            });
-            seen.hit_if(t == EPSILON, LinearLowEqual);
-            seen.hit_if(t == 1.0 - EPSILON, LinearHighEqual);
-            continue;
-        }
-        seen.hit([LinearInside10, LinearInside21, LinearInside02][p]);
-        let xm = median(mix(a[0], b[0], t), mix(a[1], b[1], t), mix(a[2], b[2], t));
-        if d.range_test(0.0, 1.0, t, am, bm, xm, seen) {
-            seen.hit([LinearArtifact10, LinearArtifact21, LinearArtifact02][p]);
-            return true;
+    seen.hit([LinearInside10, LinearInside21, LinearInside02][p]);
+    let xm = median(mix(a[0], b[0], t), mix(a[1], b[1], t), mix(a[2], b[2], t));
+    let said = det.range_test(0.0, 1.0, t, median_of(a), median_of(b), xm, seen);
+    seen.hit_if(said == Said::Artifact, [LinearArtifact10, LinearArtifact21, LinearArtifact02][p]);
+    [Some(said), None, None]
+}
+
+fn linear(det: Detector, a: [f32; 3], b: [f32; 3], seen: &mut Seen) -> Neighbour {
+    let mut told = UNTESTED;
+    if guard(median_of(a), median_of(b), Branch::LinearGuarded, Branch::LinearTie, seen) {
+        for p in 0..3 {
+            told[p][0] = linear_pair(det, a, b, p, seen);
+            seen.beyond |= has_artifact(&told[p][0]);
         }
     }
-    false
+    seen.beyond = false;
+    told
 }
 
 /// The four texels of a diagonal test and the bilinear form along the diagonal, whose formulas the document takes from the original:
@@ -685,12 +740,11 @@ impl Bilinear {
     }
 }
 
-/// Whether the root is an artifact: its plain range test, and one for each turning point strictly inside 0..1.
-fn root_is_artifact(det: Detector, form: &Bilinear, am: f32, dm: f32, t: f64, turns: [f64; 2], seen: &mut Seen) -> bool {
+/// The range tests at a root: its plain one, and one for each turning point strictly inside 0..1.
+fn root_tests(det: Detector, form: &Bilinear, am: f32, dm: f32, t: f64, turns: [f64; 2], seen: &mut Seen) -> Point {
     use Branch::*;
     let xm = form.median_at(t);
-    let plain = det.range_test(0.0, 1.0, t, am, dm, xm, seen);
-    let mut says = [false; 2];
+    let mut told = [Some(det.range_test(0.0, 1.0, t, am, dm, xm, seen)), None, None];
     for (k, turn) in turns.into_iter().enumerate() {
         if !(turn > 0.0 && turn < 1.0) {
             seen.hit(if turn.is_nan() { TurnNan } else { TurnOut });
@@ -698,92 +752,209 @@ fn root_is_artifact(det: Detector, form: &Bilinear, am: f32, dm: f32, t: f64, tu
         }
         let em = form.median_at(turn);
         seen.hit_if(turn == t, TurnAtRoot);
-        says[k] = if turn > t {
+        told[k + 1] = Some(if turn > t {
             seen.hit([TurnUpper0, TurnUpper1][k]);
             det.range_test(0.0, turn, t, am, em, xm, seen)
         } else {
             seen.hit([TurnLower0, TurnLower1][k]);
             det.range_test(turn, 1.0, t, em, dm, xm, seen)
-        };
+        });
     }
+    let [plain, first, second] = told.map(|said| said == Some(Said::Artifact));
+    let made = told.iter().flatten().count();
+    seen.hit([TestsOne, TestsTwo, TestsThree][made - 1]);
+    seen.hit_if(plain && made > 1, TestsAfterPlain);
     seen.hit_if(plain, DiagonalByPlain);
-    seen.hit_if(!plain && says[0] && !says[1], DiagonalByTurn0);
-    seen.hit_if(!plain && says[1] && !says[0], DiagonalByTurn1);
-    plain || says[0] || says[1]
+    seen.hit_if(!plain && first && !second, DiagonalByTurn0);
+    seen.hit_if(!plain && second && !first, DiagonalByTurn1);
+    told
 }
 
-fn diagonal(det: Detector, a: [f32; 3], b: [f32; 3], c: [f32; 3], d: [f32; 3], seen: &mut Seen) -> bool {
+/// The range tests of diagonal pair `p` of the texels a, b, c and d, root by root.
+fn diagonal_pair(det: Detector, form: &Bilinear, [a, b, c, d]: [[f32; 3]; 4], p: usize, seen: &mut Seen) -> Pair {
     use Branch::*;
-    let (am, dm) = (median_of(a), median_of(d));
-    if !guard(am, dm, DiagonalGuarded, DiagonalTie, seen) {
-        return false;
-    }
-    let form = Bilinear::new(a, b, c, d);
-    for (p, (i, j)) in PAIRS.into_iter().enumerate() {
-        let d_a: f32 = a[i] - a[j];
-        let d_bc: f32 = b[i] - b[j] + c[i] - c[j];
-        let d_d: f32 = d[i] - d[j];
-        let (qa, qb): (f32, f32) = (d_d - d_bc + d_a, d_bc - d_a - d_a);
-        let (count, roots) = solve_quadratic(f64::from(qa), f64::from(qb), f64::from(d_a), seen);
-        let turns = [form.turning_point(j), form.turning_point(i)];
-        let inside = [count > 0 && strictly_inside(roots[0]), count > 1 && strictly_inside(roots[1])];
-        seen.hit_if(count == 1 && inside[0], RootOnly);
-        seen.hit_if(count == 2 && inside[0], RootFirst);
-        seen.hit_if(inside[1], RootSecond);
-        seen.hit_if(inside[0] && inside[1], RootBoth);
-        for k in 0..count {
-            let t = roots[k];
-            seen.hit_if(t <= EPSILON, RootLow);
-            seen.hit_if(t >= 1.0 - EPSILON, RootHigh);
-            seen.hit_if(t == EPSILON, RootLowEqual);
-            seen.hit_if(t == 1.0 - EPSILON, RootHighEqual);
-            if inside[k] && root_is_artifact(det, &form, am, dm, t, turns, seen) {
-                seen.hit([DiagonalArtifact10, DiagonalArtifact21, DiagonalArtifact02][p]);
-                seen.hit_if(count == 2, [DiagonalArtifactFirst, DiagonalArtifactSecond][k]);
-                return true;
-            }
+    let (i, j) = PAIRS[p];
+    let d_a: f32 = a[i] - a[j];
+    let d_bc: f32 = b[i] - b[j] + c[i] - c[j];
+    let d_d: f32 = d[i] - d[j];
+    let (qa, qb): (f32, f32) = (d_d - d_bc + d_a, d_bc - d_a - d_a);
+    let (count, roots) = solve_quadratic(f64::from(qa), f64::from(qb), f64::from(d_a), seen);
+    let turns = [form.turning_point(j), form.turning_point(i)];
+    let inside = [count > 0 && strictly_inside(roots[0]), count > 1 && strictly_inside(roots[1])];
+    seen.hit_if(count == 1 && inside[0], RootOnly);
+    seen.hit_if(count == 2 && inside[0], RootFirst);
+    seen.hit_if(inside[1], RootSecond);
+    seen.hit_if(inside[0] && inside[1], RootBoth);
+    let mut told = [[None; 3]; 2];
+    for k in 0..count {
+        let t = roots[k];
+        seen.hit_if(t <= EPSILON, RootLow);
+        seen.hit_if(t >= 1.0 - EPSILON, RootHigh);
+        seen.hit_if(t == EPSILON, RootLowEqual);
+        seen.hit_if(t == 1.0 - EPSILON, RootHighEqual);
+        if inside[k] {
+            told[k] = root_tests(det, form, median_of(a), median_of(d), t, turns, seen);
+        }
+        if has_artifact(&told[k]) {
+            seen.hit([DiagonalArtifact10, DiagonalArtifact21, DiagonalArtifact02][p]);
+            seen.hit_if(count == 2, [DiagonalArtifactFirst, DiagonalArtifactSecond][k]);
+            seen.beyond = true;
         }
     }
-    false
+    told
 }
 
-/// Whether the texel is an error, from its neighbourhood, its protected bit and the spans.
-fn verdict(input: &Input, field: &Field, x: usize, y: usize, protected: bool, seen: &mut Seen) -> bool {
-    use Branch::*;
-    let span = |k: usize| input.ratio * input.lengths[k];
+fn diagonal(det: Detector, texels: [[f32; 3]; 4], seen: &mut Seen) -> Neighbour {
+    let [a, b, c, d] = texels;
+    let mut told = UNTESTED;
+    if guard(median_of(a), median_of(d), Branch::DiagonalGuarded, Branch::DiagonalTie, seen) {
+        let form = Bilinear::new(a, b, c, d);
+        for p in 0..3 {
+            told[p] = diagonal_pair(det, &form, texels, p, seen);
+        }
+    }
+    seen.beyond = false;
+    told
+}
+
+/// The neighbours in the order in which they are asked: to the side, up or down, and their branches.
+const NEIGHBOURS: [(i64, i64, Branch); 8] = [
+    (-1, 0, Branch::LinearLeft),
+    (0, -1, Branch::LinearBelow),
+    (1, 0, Branch::LinearRight),
+    (0, 1, Branch::LinearAbove),
+    (-1, -1, Branch::DiagonalLowerLeft),
+    (1, -1, Branch::DiagonalLowerRight),
+    (-1, 1, Branch::DiagonalUpperLeft),
+    (1, 1, Branch::DiagonalUpperRight),
+];
+
+/// Every range test of a texel, from its neighbourhood, its protected bit and the spans.
+fn tests_around(input: &Input, field: &Field, x: usize, y: usize, protected: bool, seen: &mut Seen) -> [Neighbour; 8] {
+    let detector = |k: usize| Detector { span: input.ratio * input.lengths[k], protected };
     let a = field.texel(x, y);
     let (x, y) = (x as i64, y as i64);
     let at = |x: i64, y: i64| field.texel(x as usize, y as usize);
-    let mut by_linear = false;
-    for (dx, dy, name) in [(-1, 0, LinearLeft), (1, 0, LinearRight), (0, -1, LinearBelow), (0, 1, LinearAbove)] {
+    let mut told = [UNTESTED; 8];
+    for (k, (dx, dy, name)) in NEIGHBOURS.into_iter().enumerate() {
         if field.inside(x + dx, y + dy) {
             seen.hit(name);
-            let det = Detector { span: span(if dy == 0 { 0 } else { 1 }), protected };
-            by_linear |= linear(det, a, at(x + dx, y + dy), seen);
+            let other = at(x + dx, y + dy);
+            told[k] = match (dx, dy) {
+                (_, 0) => linear(detector(0), a, other, seen),
+                (0, _) => linear(detector(1), a, other, seen),
+                _ => diagonal(detector(2), [a, at(x + dx, y), at(x, y + dy), other], seen),
+            };
         }
     }
-    let mut by_diagonal = false;
-    for (dx, dy, name) in [
-        (-1, -1, DiagonalLowerLeft),
-        (1, -1, DiagonalLowerRight),
-        (-1, 1, DiagonalUpperLeft),
-        (1, 1, DiagonalUpperRight),
-    ] {
-        if field.inside(x + dx, y + dy) {
-            seen.hit(name);
-            let det = Detector { span: span(2), protected };
-            let (b, c, d) = (at(x + dx, y), at(x, y + dy), at(x + dx, y + dy));
-            by_diagonal |= diagonal(det, a, b, c, d, seen);
+    told
+}
+
+/// How range tests are counted. The first is the rule: every test at a root, then roots, pairs and neighbours in order up to the first with an artifact.
+/// Each of the others is wrong in one way; they are there so that the comparison can be shown to tell them from the rule.
+#[derive(Clone, Copy, PartialEq, Eq, Debug)]
+pub enum Counting {
+    Rule,
+    RootsCutShort,
+    RootsGoOn,
+    PairsGoOn,
+    NeighboursGoOn,
+    RootsOtherwise,
+    PairsOtherwise,
+    SidesOtherwise,
+    DiagonalsOtherwise,
+    CandidatesAlone,
+    DisabledToo,
+}
+
+/// Each wrong way for a texel, and the branch of a texel for which it gives another number than the rule.
+const WRONG_WAYS: [(Counting, Branch); 9] = [
+    (Counting::RootsCutShort, Branch::TestsAfterArtifact),
+    (Counting::RootsGoOn, Branch::TestsLaterRoot),
+    (Counting::PairsGoOn, Branch::TestsLaterPair),
+    (Counting::NeighboursGoOn, Branch::TestsLaterNeighbour),
+    (Counting::RootsOtherwise, Branch::TestsRootOrder),
+    (Counting::PairsOtherwise, Branch::TestsPairOrder),
+    (Counting::SidesOtherwise, Branch::TestsSideOrder),
+    (Counting::DiagonalsOtherwise, Branch::TestsDiagonalOrder),
+    (Counting::CandidatesAlone, Branch::TestsNoCandidate),
+];
+
+/// The tests of these in order, up to the first that has an artifact or of all of them, and whether one has.
+fn in_order<T>(list: impl IntoIterator<Item = T>, all: bool, one: impl Fn(T) -> (u32, bool)) -> (u32, bool) {
+    let (mut count, mut artifact) = (0, false);
+    for item in list {
+        if artifact && !all {
+            break;
         }
+        let (tests, found) = one(item);
+        count += tests;
+        artifact |= found;
     }
+    (count, artifact)
+}
+
+impl Counting {
+    fn test(self, said: Said) -> (u32, bool) {
+        (u32::from(self != Counting::CandidatesAlone || said != Said::NoCandidate), said == Said::Artifact)
+    }
+    fn point(self, point: &Point) -> (u32, bool) {
+        in_order(point.iter().flatten(), self != Counting::RootsCutShort, |&said| self.test(said))
+    }
+    fn pair(self, pair: &Pair) -> (u32, bool) {
+        let order = if self == Counting::RootsOtherwise { [1, 0] } else { [0, 1] };
+        in_order(order, self == Counting::RootsGoOn, |k: usize| self.point(&pair[k]))
+    }
+    fn neighbour(self, neighbour: &Neighbour) -> (u32, bool) {
+        let order = if self == Counting::PairsOtherwise { [2, 1, 0] } else { [0, 1, 2] };
+        in_order(order, self == Counting::PairsGoOn, |k: usize| self.pair(&neighbour[k]))
+    }
+    fn texel(self, around: &[Neighbour; 8]) -> u32 {
+        let order = match self {
+            Counting::SidesOtherwise => [0, 2, 1, 3, 4, 5, 6, 7],
+            Counting::DiagonalsOtherwise => [0, 1, 2, 3, 4, 6, 5, 7],
+            _ => [0, 1, 2, 3, 4, 5, 6, 7],
+        };
+        in_order(order, self == Counting::NeighboursGoOn, |k: usize| self.neighbour(&around[k])).0
+    }
+}
+
+/// Whether the texel is an error, and how many range tests are made for it.
+fn verdict(around: &[Neighbour; 8], protected: bool, counting: Counting, seen: &mut Seen) -> (bool, u32) {
+    use Branch::*;
+    let (by_linear, by_diagonal) = (any_artifact(&around[..4]), any_artifact(&around[4..]));
+    let flagged = by_linear || by_diagonal;
     seen.hit(match (by_linear, by_diagonal) {
         (true, false) => FlagLinearOnly,
         (false, true) => FlagDiagonalOnly,
         (true, true) => FlagBoth,
         (false, false) => FlagNone,
     });
-    seen.hit_if(protected && (by_linear || by_diagonal), FlagProtected);
-    by_linear || by_diagonal
+    seen.hit_if(protected && flagged, FlagProtected);
+    let tests = Counting::Rule.texel(around);
+    seen.hit_if(tests == 0, TestsNone);
+    seen.hit_if(tests == MOST_TESTS, TestsMost);
+    for (wrong, branch) in WRONG_WAYS {
+        seen.hit_if(tests > 0 && wrong.texel(around) != tests, branch);
+    }
+    (flagged, if counting == Counting::Rule { tests } else { counting.texel(around) })
+}
+
+/// Sets the bit of each texel that is an error, and answers the range tests of each.
+fn find_errors(input: &Input, field: &Field, stencil: &mut [u8], counting: Counting, seen: &mut Seen) -> Vec<u32> {
+    let mut tests = Vec::with_capacity(stencil.len());
+    for (k, cell) in stencil.iter_mut().enumerate() {
+        let protected = *cell & PROTECTED != 0;
+        let around = tests_around(input, field, k % field.width, k / field.width, protected, seen);
+        let (flagged, made) = verdict(&around, protected, counting, seen);
+        tests.push(made);
+        if flagged {
+            seen.hit_if(*cell & CORNER != 0, Branch::FlagCorner);
+            seen.hit_if(input.mode == 2 && *cell == PROTECTED, Branch::FlagEdge);
+            *cell |= ERROR;
+        }
+    }
+    tests
 }
 
 fn collapse(field_channels: usize, samples: &mut [f32], stencil: &[u8], seen: &mut Seen) {
@@ -799,11 +970,19 @@ fn collapse(field_channels: usize, samples: &mut [f32], stencil: &[u8], seen: &m
     }
 }
 
-/// The whole pass over lent samples and a lent stencil.
-pub fn judge(input: &Input, samples: &mut [f32], stencil: &mut [u8], seen: &mut Seen) -> Answer {
+/// The number of range tests of each texel in Disabled: none. That some would be made in another mode is counted.
+fn disabled_tests(input: &Input, field: &Field, counting: Counting, seen: &mut Seen) -> Vec<u32> {
+    let untested = vec![0; field.width * field.height];
+    let tests = find_errors(input, field, &mut vec![0; untested.len()], Counting::Rule, &mut Seen::new());
+    seen.hit_if(tests.iter().any(|&n| n > 0), Branch::TestsDisabled);
+    if counting == Counting::DisabledToo { tests } else { untested }
+}
+
+/// The whole pass over lent samples and a lent stencil: its answer, and the range tests of each texel, counted in this way; in a refusal there are no texels.
+pub fn judge_counting(input: &Input, samples: &mut [f32], stencil: &mut [u8], counting: Counting, seen: &mut Seen) -> (Answer, Vec<u32>) {
     use Branch::*;
     if let Some((refusal, place)) = refusal(input, samples, stencil.len(), seen) {
-        return Answer { refusal, place, ..Answer::default() };
+        return (Answer { refusal, place, ..Answer::default() }, vec![]);
     }
     let (w, h) = (input.width, input.height);
     seen.hit([Mode0, Mode1, Mode2, Mode3][input.mode as usize]);
@@ -815,20 +994,19 @@ pub fn judge(input: &Input, samples: &mut [f32], stencil: &mut [u8], seen: &mut 
     seen.hit_if(input.ends.is_empty(), NoContours);
     let field = Field { width: w, height: h, channels: input.channels, samples };
     protect(input, &field, stencil, seen);
-    if input.mode == 0 {
-        return Answer::default();
-    }
-    for y in 0..h {
-        for x in 0..w {
-            let cell = &mut stencil[y * w + x];
-            if verdict(input, &field, x, y, *cell & PROTECTED != 0, seen) {
-                seen.hit_if(*cell & CORNER != 0, FlagCorner);
-                seen.hit_if(input.mode == 2 && *cell == PROTECTED, FlagEdge);
-                *cell |= ERROR;
-            }
-        }
-    }
+    let tests = if input.mode == 0 {
+        disabled_tests(input, &field, counting, seen)
+    } else {
+        find_errors(input, &field, stencil, counting, seen)
+    };
     collapse(input.channels, samples, stencil, seen);
     let count = |bit: u8| stencil.iter().filter(|&&s| s & bit != 0).count();
-    Answer { refusal: 0, place: 0, protected: count(PROTECTED), error: count(ERROR), corner: count(CORNER) }
+    let sum = tests.iter().map(|&n| n as usize).sum();
+    (Answer { refusal: 0, place: 0, protected: count(PROTECTED), error: count(ERROR), corner: count(CORNER), tests: sum }, tests)
+}
+
+/// The whole pass by the rules.
+#[allow(dead_code)] // a program may ask for the counts of each texel instead
+pub fn judge(input: &Input, samples: &mut [f32], stencil: &mut [u8], seen: &mut Seen) -> Answer {
+    judge_counting(input, samples, stencil, Counting::Rule, seen).0
 }

@@ -56,6 +56,13 @@ C2 = [1.0, 0.625, 0.75, 0.625, 1.0, 0.75]
 C5 = [0.75, 0.25, 0.625, 0.25, 0.75, 0.375]
 C7 = [1.0, 0.0, 0.75, 0.5, 0.5, 0.75, 0.5, 0.5, 0.75, 0.0, 1.0, 0.75]
 GREY = [0.75] * 12
+BOARD = [0.5, 1.0, 1.5, 2.5, 0.75, -0.5]  # two texels with as many range tests between them as there can be
+
+
+def board(side, mode, *lengths):
+    """Those two by turns, like the fields of a chessboard: with long lengths each inner texel of the first kind has 84 range tests."""
+    texels = [BOARD[3 * ((x + y) % 2):][:3] for y in range(side) for x in range(side)]
+    return bitmap(side, side, 3, settings(mode, 1.0, *lengths), [], [v for texel in texels for v in texel])
 
 
 def good_fields():
@@ -79,7 +86,7 @@ def figures():
     def flagged(x, length, samples):
         return bitmap(2, 1, 3, settings(2, 1.0, length), [contour((3, x, 0.5), (6, 9.0, 9.0))], samples)
 
-    text_p = "size 2 1 3\nprotected 0 error 2 corner 0\nEE\n0 0 3F400000 ch 2\n1 0 3F400000 ch 2\n"
+    text_p = "size 2 1 3\nprotected 0 error 2 corner 0 tests 2\nEE\n0 0 3F400000 ch 2\n1 0 3F400000 ch 2\n"
     hundredth, inside = [0.0, 1.0, 0.0, 99.0, 0.0, 0.0], [0.0, 1.0, 0.0, 98.0, 0.0, 0.0]
     return [
         ("P", pair(1, 0.25, P), text_p),
@@ -97,12 +104,19 @@ def figures():
         ("C9, 7 and 3", corner((7, 1.0, 1.0), (3, 9.0, 9.0)), "..\n.."),
         ("point (0,0)", corner((3, 0.0, 0.0), (6, 9.0, 9.0)), "C.\n.."),
         ("x = 2.5", corner((3, 2.5, 1.0), (6, 9.0, 9.0)), "..\n.."),
-        ("an edge, both, a corner", beside(2), "size 4 1 3\nprotected 3 error 0 corner 2\nPCC.\n"),
-        ("the same in EdgeOnly", beside(3), "size 4 1 3\nprotected 4 error 0 corner 0\nPPPP\n"),
-        ("the same in Indiscriminate", beside(1), "size 4 1 3\nprotected 0 error 0 corner 0\n....\n"),
-        ("the same in Disabled", beside(0), "size 4 1 3\nprotected 0 error 0 corner 0\n....\n"),
-        ("P with a corner on one", flagged(0.0, 0.25, P), text_p.replace("protected 0", "protected 1").replace("corner 0\nEE", "corner 1\nDE")),
+        ("an edge, both, a corner", beside(2), "size 4 1 3\nprotected 3 error 0 corner 2 tests 6\nPCC.\n"),
+        ("the same in EdgeOnly", beside(3), "size 4 1 3\nprotected 4 error 0 corner 0 tests 6\nPPPP\n"),
+        ("the same in Indiscriminate", beside(1), "size 4 1 3\nprotected 0 error 0 corner 0 tests 6\n....\n"),
+        ("the same in Disabled", beside(0), "size 4 1 3\nprotected 0 error 0 corner 0 tests 0\n....\n"),
+        ("P with a corner on one", flagged(0.0, 0.25, P), text_p.replace("protected 0", "protected 1").replace("corner 0 tests 2\nEE", "corner 1 tests 2\nDE")),
         ("C2 with a corner on one", flagged(0.0, 0.0625, C2), "CE"),
+        ("P, the second pair", pair(1, 0.25, [P[i] for i in (2, 0, 1, 5, 3, 4)]), text_p.replace("tests 2", "tests 4").replace("ch 2", "ch 0")),
+        ("P, the third pair", pair(1, 0.25, [P[i] for i in (1, 2, 0, 4, 5, 3)]), text_p.replace("tests 2", "tests 6").replace("ch 2", "ch 1")),
+        ("84 for the middle", board(3, 1, 16.0), "size 3 3 3\nprotected 0 error 0 corner 0 tests 180\n" + "...\n" * 3),
+        ("the same in EdgeOnly", board(3, 3, 16.0), "size 3 3 3\nprotected 9 error 0 corner 0 tests 180\n" + "PPP\n" * 3),
+        ("the same in Disabled", board(3, 0, 16.0), "size 3 3 3\nprotected 0 error 0 corner 0 tests 0\n" + "...\n" * 3),
+        ("the same cut short", board(3, 1, 16.0, 16.0, 0.0), "size 3 3 3\nprotected 0 error 5 corner 0 tests 51\nE.E\n.E.\nE.E\n" + "".join(
+            f"{x} {y} 3F800000 ch 1\n" for x, y in ((0, 0), (2, 0), (1, 1), (0, 2), (2, 2)))),
         ("width 1", bitmap(1, 2, 3, PLAIN, [], GREY), ".\n."),
         ("width 0", bitmap(0, 1, 3, PLAIN, [], []), "refused 2 0\n"),
     ]
@@ -170,6 +184,7 @@ def limits():
             yield f"{w} x {h} x {c} and a byte less", bitmap(w, h, c, setting, [], values)[:-1]
         yield f"{w} x {h} x {c} without rows", size(w, h, c) + setting + END
         yield f"{w} x {h} x {c} alone", size(w, h, c)
+    yield "the most range tests", board(64, 1, 16.0)
     full = bitmap(1, 4096, 3, settings(2, 1.0, 0.25), [contour(*[(3 + i % 4, i % 3, i) for i in range(238)])], [((7 * i) % 16) / 16 for i in range(12288)])
     assert len(full) == 65536
     yield "65536 bytes", full

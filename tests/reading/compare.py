@@ -50,6 +50,8 @@ def check_reach(answers):
     wanted = [f"refused {n} {place}\n" for n, place in [(1, 0), (2, 0), (5, 0), (5, 1), (5, 2), (5, 3), (5, 4), (6, 0), (6, 15), (9, 0), (9, 3)]]
     missing = [w.strip() for w in wanted if w not in text]
     missing += [letter for letter in ".PEBCD" if not re.search(rf"^[.PEBCD]*[{letter}][.PEBCD]*$", text, re.M)]
+    tests = {*re.findall(r"^protected \d+ error \d+ corner \d+ tests (\d+)$", text, re.M)}
+    missing += [f"tests of {digits} digits" for digits in range(1, 7) if digits not in map(len, tests)] + ["tests 0"] * ("0" not in tests)
     places = set(re.findall(r"^bad input (\d+)$", text, re.M))
     if missing or len(places) < 100 or "65536" not in places:
         sys.exit(f"tests/reading: the inputs do not reach {', '.join(missing) or 'enough places'}")

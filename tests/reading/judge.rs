@@ -132,7 +132,8 @@ fn run(mut case: Case) -> String {
     if answer.refusal != 0 {
         return format!("refused {} {}\n", answer.refusal, answer.place);
     }
-    let mut text = format!("size {w} {h} {n}\nprotected {} error {} corner {}\n", answer.protected, answer.error, answer.corner);
+    let mut text = format!("size {w} {h} {n}\n");
+    text.push_str(&format!("protected {} error {} corner {} tests {}\n", answer.protected, answer.error, answer.corner, answer.tests));
     for row in stencil.chunks(w) {
         text.extend(row.iter().map(|&cell| mark(cell)));
         text.push('\n');

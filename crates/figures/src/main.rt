@@ -200,6 +200,47 @@ fn corners_apart() {
     beside(b"C12 disabled", 0);
 }
 
+// 3 x 3 texels of two kinds by turns, in any mode: in Indiscriminate the middle one takes 84 range tests, the most that a texel can.
+fn by_turns(name: &[u8], mode: u8) {
+    let mut xs = [
+        0.5f32,
+        1.0,
+        1.5,
+        2.5,
+        0.75,
+        -0.5,
+        0.5,
+        1.0,
+        1.5,
+        2.5,
+        0.75,
+        -0.5,
+        0.5,
+        1.0,
+        1.5,
+        2.5,
+        0.75,
+        -0.5,
+        0.5,
+        1.0,
+        1.5,
+        2.5,
+        0.75,
+        -0.5,
+        0.5,
+        1.0,
+        1.5,
+    ];
+    let mut stencil = [255u8; 9];
+    let t = run::with(3, 3, 3, mode, run::all(16.0));
+    run::plain(name, t, &mut xs, &mut stencil);
+}
+
+fn all_tests() {
+    by_turns(b"C13", 1);
+    by_turns(b"C13 disabled", 0);
+}
+
 fn protected_texels() {
     over(
         b"P, left texel protected",
@@ -246,6 +287,7 @@ fn main() {
     colours();
     protected_texels();
     corners_apart();
+    all_tests();
     refusals::sizes();
     refusals::settings();
     refusals::samples();

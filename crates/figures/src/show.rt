@@ -13,19 +13,20 @@ fn number(n: u64) {
     io::print_decimal(STDOUT_FILENO, n);
 }
 
-// The number, the place and the three counts.
+// The number, the place, the three counts and the number of range tests.
 fn answer(a: Answer) {
     match a {
-        Answer::Accepted(c) => {
+        Answer::Accepted(c, t) => {
             text(b" 0 0");
             number(c.protected as u64);
             number(c.error as u64);
             number(c.corner as u64);
+            number(t as u64);
         }
         Answer::Refused(n, p) => {
             number(n as u64);
             number(p as u64);
-            text(b" 0 0 0");
+            text(b" 0 0 0 0");
         }
     }
 }

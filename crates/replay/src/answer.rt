@@ -4,7 +4,7 @@ ghost use lib.ListN.{length};
 use correction::pass::Answer;
 use ground::bytes;
 
-// Refusal, place and the three counts; what an answer lacks is 0.
+// Refusal, place, the three counts and the number of range tests; what an answer lacks is 0.
 pub fn is_answer(list: &[u8], at: usize, a: Answer) -> bool
     requires { ⌜ at < 800000 ⌝ }
 {
@@ -13,15 +13,19 @@ pub fn is_answer(list: &[u8], at: usize, a: Answer) -> bool
     let protected = bytes::be64(list, at + 9);
     let error = bytes::be64(list, at + 17);
     let corner = bytes::be64(list, at + 25);
+    let tests = bytes::be64(list, at + 33);
     match a {
-        Answer::Accepted(c) => {
+        Answer::Accepted(c, t) => {
             number == 0
                 && (place == 0
                     && (protected == c.protected as u64
-                        && (error == c.error as u64 && corner == c.corner as u64)))
+                        && (error == c.error as u64
+                            && (corner == c.corner as u64 && tests == t as u64))))
         }
         Answer::Refused(n, p) => {
-            number == n && (place == p as u64 && (protected == 0 && (error == 0 && corner == 0)))
+            number == n
+                && (place == p as u64
+                    && (protected == 0 && (error == 0 && (corner == 0 && tests == 0))))
         }
     }
 }

@@ -97,7 +97,7 @@ pub fn end(c: Case) -> usize
     requires { ⌜ Sized 65 c ⌝ }
     ensures { λ r. ⌜ r ≤ 330000 ⌝ }
 {
-    answer_at(c) + 33 + 4 * c.samples + c.cells
+    answer_at(c) + 41 + 4 * c.samples + c.cells
 }
 
 // Whether it ends within the list, and there is room for what it holds.
@@ -195,7 +195,7 @@ fn is_right(list: &[u8], c: Case, a: Answer, samples: &[f32], cells: &[u8]) -> b
     requires { ⌜ (length (now samples) ≤ 64) × (length (now cells) ≤ 64) ⌝ }
 {
     let at = answer_at(c);
-    let after = at + 33;
+    let after = at + 41;
     let then = after + 4 * c.samples;
     answer::is_answer(list, at, a)
         && (answer::are_samples(list, after, samples) && answer::are_cells(list, then, cells))
