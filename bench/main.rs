@@ -1,8 +1,8 @@
 //! The proved pass beside the original, a straightforward Rust port: same inputs, same process, warm, medians of several runs.
 //! Times are the thread's own processor time (Linux), so that a busy machine disturbs them little.
 //!
-//! `bench [SIZE...]`: for squares of each SIZE, glyph-like and noise, Indiscriminate and EdgePriority, nanoseconds a texel and their ratio.
-//! Exit status 1 if the two differ in a sample, a zero's sign aside.
+//! `bench [SIZE...]`: for squares of each SIZE, glyph-like, noise and checkered, Indiscriminate and EdgePriority, range tests a texel, nanoseconds a texel and their ratio.
+//! Exit status 1 if the two differ in a sample, a zero's sign aside, or in the number of range tests.
 
 #[path = "../tests/differential/glyphs.rs"]
 #[allow(dead_code)]
@@ -14,7 +14,7 @@ mod rng;
 mod rungtwine;
 
 use rng::Rng;
-use rungtwine::{error_correction, Mode, Outlines, Settings};
+use rungtwine::{error_correction, Counts, Mode, Outlines, Settings};
 
 extern "C" {
     fn clock_gettime(clock: i32, time: *mut [i64; 2]) -> i32;
@@ -71,8 +71,14 @@ fn noise_field(size: usize) -> Field {
     Field { name: "noise", size, samples, lengths: [0.25, 0.25, 0.35], colours: vec![], coords: vec![], ends: vec![] }
 }
 
-/// One run of the proved pass: seconds, and the number of flagged texels.
-fn ours(field: &Field, mode: Mode, samples: &mut [f32], stencil: &mut [u8]) -> (f64, usize) {
+/// Figure C13 in every direction: each second texel takes all the range tests that a texel can, but at the border.
+fn checkered_field(size: usize) -> Field {
+    let samples = (0..size * size).flat_map(|k| if (k % size + k / size) % 2 == 0 { [0.5, 1.0, 1.5] } else { [2.5, 0.75, -0.5] }).collect();
+    Field { name: "checkered", size, samples, lengths: [16.0; 3], colours: vec![], coords: vec![], ends: vec![] }
+}
+
+/// One run of the proved pass: seconds, and what it counted.
+fn ours(field: &Field, mode: Mode, samples: &mut [f32], stencil: &mut [u8]) -> (f64, Counts) {
     samples.copy_from_slice(&field.samples);
     let [horizontal, vertical, diagonal] = field.lengths;
     let settings = Settings { ratio: RATIO, horizontal, vertical, diagonal };
@@ -80,7 +86,7 @@ fn ours(field: &Field, mode: Mode, samples: &mut [f32], stencil: &mut [u8]) -> (
     let start = now();
     let answer = error_correction((field.size, field.size, 3), samples, stencil, mode, settings, outlines);
     let seconds = now() - start;
-    (seconds, answer.expect("refused").error)
+    (seconds, answer.expect("refused"))
 }
 
 fn median(times: &mut [f64]) -> f64 {
@@ -96,15 +102,18 @@ fn row(field: &Field, mode: Mode) -> bool {
     let mut bitmap = oracle::bitmap_of::<3>(field.size, field.size, &field.samples);
     let runs = (7_000_000 / texels).clamp(3, 15);
     let (mut original, mut proved) = (Vec::new(), Vec::new());
-    let mut flagged = 0;
+    // Counted once and apart from what is timed: the original's own entry counts nothing.
+    let tests = oracle::answer(field.size, field.size, 3, &mut samples, &task).tests.iter().map(|&n| n as usize).sum::<usize>();
+    let (mut flagged, mut same_tests) = (0, true);
     // The first round warms both up and is not counted.
     for round in 0..=runs {
         bitmap.data_mut().copy_from_slice(&field.samples);
         let start = now();
         oracle::correct(&mut bitmap, &task);
         let seconds = now() - start;
-        let (own, error) = ours(field, mode, &mut samples, &mut stencil);
-        flagged = error;
+        let (own, counts) = ours(field, mode, &mut samples, &mut stencil);
+        flagged = counts.error;
+        same_tests &= counts.tests == tests;
         if round > 0 {
             original.push(seconds);
             proved.push(own);
@@ -113,19 +122,19 @@ fn row(field: &Field, mode: Mode) -> bool {
     let ns = |times: &mut [f64]| median(times) * 1e9 / texels as f64;
     let (o, p) = (ns(&mut original), ns(&mut proved));
     println!(
-        "| {} | {} | {mode:?} | {runs} | {flagged} | {o:.1} | {p:.1} | {:.2} |",
-        field.size, field.name, p / o
+        "| {} | {} | {mode:?} | {runs} | {flagged} | {:.2} | {o:.1} | {p:.1} | {:.2} |",
+        field.size, field.name, tests as f64 / texels as f64, p / o
     );
-    samples.iter().zip(bitmap.data()).all(|(a, b)| a == b)
+    same_tests && samples.iter().zip(bitmap.data()).all(|(a, b)| a == b)
 }
 
 fn main() {
     let sizes: Vec<usize> = std::env::args().skip(1).map(|a| a.parse().expect("a size")).collect();
-    println!("| size | field | mode | runs | flagged | original, ns/texel | proved, ns/texel | ratio |");
-    println!("|---|---|---|---|---|---|---|---|");
+    println!("| size | field | mode | runs | flagged | range tests/texel | original, ns/texel | proved, ns/texel | ratio |");
+    println!("|---|---|---|---|---|---|---|---|---|");
     let mut same = true;
     for size in sizes {
-        for field in [glyph_field(size), noise_field(size)] {
+        for field in [glyph_field(size), noise_field(size), checkered_field(size)] {
             for mode in [Mode::Indiscriminate, Mode::EdgePriority] {
                 same &= row(&field, mode);
             }

@@ -87,15 +87,15 @@ int main(void)
     memcpy(original, samples, count * sizeof *samples);
     uint8_t *stencil = room(cells, sizeof *stencil);
 
-    size_t place, protected_cells, error_cells, corner_cells;
+    size_t place, protected_cells, error_cells, corner_cells, tests;
     unsigned refusal = rungtwine_error_correction(width, height, channels, samples, count, stencil, cells, (uint8_t)mode, ratio, horizontal, vertical,
                                                   diagonal, colours, segments, coords, 2 * segments, ends, contours, &place, &protected_cells, &error_cells,
-                                                  &corner_cells);
+                                                  &corner_cells, &tests);
     if (refusal != 0) {
         printf("refused %u %zu\n", refusal, place);
         return 1;
     }
-    printf("protected %zu error %zu corner %zu\n", protected_cells, error_cells, corner_cells);
+    printf("protected %zu error %zu corner %zu tests %zu\n", protected_cells, error_cells, corner_cells, tests);
     rows(width, height, stencil);
     carriers(cells, channels, original, stencil);
     show(width, height, channels, original, samples, stencil, RUNGTWINE_ERROR);

@@ -64,7 +64,7 @@ fn main() {
     let outlines = Outlines { colours: &colours, coords: &coords, ends: &ends };
     match error_correction((width, height, channels), &mut samples, &mut stencil, mode, settings, outlines) {
         Ok(counts) => {
-            println!("protected {} error {} corner {}", counts.protected, counts.error, counts.corner);
+            println!("protected {} error {} corner {} tests {}", counts.protected, counts.error, counts.corner, counts.tests);
             for row in stencil.chunks(width) {
                 println!("{}", row.iter().map(|&cell| mark(cell)).collect::<String>());
             }
