@@ -3,5 +3,6 @@ pub mod Texel
 pub mod Finite
 pub mod Falls
 pub mod Verdict
+pub mod Guard
 pub mod Tests
 pub mod Alike

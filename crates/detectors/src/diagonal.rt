@@ -22,33 +22,33 @@ use ranges::config::Settings;
 use ranges::constants;
 
 // What both coefficients of channel i share: a less b less c.
-fn abc(m: [[f32; 3]; 4], i: usize) -> f32
+fn abc(m: &[[f32; 3]; 4], i: usize) -> f32
     requires { ⌜ i < 3 ⌝ }
-    ensures { λ r. ⌜ r ≡ Diagonal.abc m i ⌝ }
+    ensures { λ r. ⌜ r ≡ Diagonal.abc (now (m .entry)) i ⌝ }
 {
     m[0][i] - m[1][i] - m[2][i]
 }
 
 // The coefficient of t.
-fn linear_term(m: [[f32; 3]; 4], i: usize) -> f32
+fn linear_term(m: &[[f32; 3]; 4], i: usize) -> f32
     requires { ⌜ i < 3 ⌝ }
-    ensures { λ r. ⌜ r ≡ Diagonal.linearTerm m i ⌝ }
+    ensures { λ r. ⌜ r ≡ Diagonal.linearTerm (now (m .entry)) i ⌝ }
 {
     -m[0][i] - abc(m, i)
 }
 
 // The coefficient of t * t.
-fn square_term(m: [[f32; 3]; 4], i: usize) -> f32
+fn square_term(m: &[[f32; 3]; 4], i: usize) -> f32
     requires { ⌜ i < 3 ⌝ }
-    ensures { λ r. ⌜ r ≡ Diagonal.squareTerm m i ⌝ }
+    ensures { λ r. ⌜ r ≡ Diagonal.squareTerm (now (m .entry)) i ⌝ }
 {
     m[3][i] + abc(m, i)
 }
 
 // Where channel i turns.
-fn turning_point(m: [[f32; 3]; 4], i: usize) -> f64
+fn turning_point(m: &[[f32; 3]; 4], i: usize) -> f64
     requires { ⌜ i < 3 ⌝ }
-    ensures { λ r. ⌜ r ≡ Diagonal.turningPoint m i ⌝ }
+    ensures { λ r. ⌜ r ≡ Diagonal.turningPoint (now (m .entry)) i ⌝ }
 {
     let l = std::num::f32_to_f64_with_nan(linear_term(m, i));
     let q = std::num::f32_to_f64_with_nan(square_term(m, i));
@@ -66,16 +66,16 @@ fn curve(a: f32, l: f32, q: f32, t: f64) -> f32
 }
 
 // Channel i at t.
-fn curve_channel(m: [[f32; 3]; 4], t: f64, i: usize) -> f32
+fn curve_channel(m: &[[f32; 3]; 4], t: f64, i: usize) -> f32
     requires { ⌜ i < 3 ⌝ }
-    ensures { λ r. ⌜ r ≡ Diagonal.curveChannel m t i ⌝ }
+    ensures { λ r. ⌜ r ≡ Diagonal.curveChannel (now (m .entry)) t i ⌝ }
 {
     curve(m[0][i], linear_term(m, i), square_term(m, i), t)
 }
 
 // The median at t.
-fn interpolated_median_quad(m: [[f32; 3]; 4], t: f64) -> f32
-    ensures { λ r. ⌜ r ≡ Diagonal.curveMedian m t ⌝ }
+fn interpolated_median_quad(m: &[[f32; 3]; 4], t: f64) -> f32
+    ensures { λ r. ⌜ r ≡ Diagonal.curveMedian (now (m .entry)) t ⌝ }
 {
     let x = curve_channel(m, t, 0);
     let y = curve_channel(m, t, 1);
@@ -84,18 +84,18 @@ fn interpolated_median_quad(m: [[f32; 3]; 4], t: f64) -> f32
 }
 
 // The difference of pair p in the two side neighbours together.
-fn middle_difference(m: [[f32; 3]; 4], p: usize) -> f32
+fn middle_difference(m: &[[f32; 3]; 4], p: usize) -> f32
     requires { ⌜ p < 3 ⌝ }
-    ensures { λ r. ⌜ r ≡ Diagonal.middleDifference m p ⌝ }
+    ensures { λ r. ⌜ r ≡ Diagonal.middleDifference (now (m .entry)) p ⌝ }
 {
     let j = pairs::next(p);
     m[1][j] - m[1][p] + m[2][j] - m[2][p]
 }
 
 // The roots of pair p's difference, a quadratic in t.
-fn pair_roots(m: [[f32; 3]; 4], p: usize) -> Roots
+fn pair_roots(m: &[[f32; 3]; 4], p: usize) -> Roots
     requires { ⌜ p < 3 ⌝ }
-    ensures { λ r. ⌜ Listed (Diagonal.pairRoots m p) (r .count) (r .first) (r .second) ⌝ }
+    ensures { λ r. ⌜ Listed (Diagonal.pairRoots (now (m .entry)) p) (r .count) (r .first) (r .second) ⌝ }
 {
     let da = pairs::difference(m[0], p);
     let dbc = middle_difference(m, p);
@@ -125,8 +125,8 @@ fn turns(e: f64) -> bool
 }
 
 // The range test that a turning point e adds.
-fn turning_test(k: Classifier, am: f32, dm: f32, m: [[f32; 3]; 4], t: f64, xm: f32, e: f64) -> bool
-    ensures { λ r. ⌜ r ≡ Diagonal.turningTest (k .span) (k .protected) am dm m t xm e ⌝ }
+fn turning_test(k: Classifier, am: f32, dm: f32, m: &[[f32; 3]; 4], t: f64, xm: f32, e: f64) -> bool
+    ensures { λ r. ⌜ r ≡ Diagonal.turningTest (k .span) (k .protected) am dm (now (m .entry)) t xm e ⌝ }
 {
     turns(e) && moved_end(k, am, dm, interpolated_median_quad(m, e), e, t, xm)
 }
@@ -136,13 +136,13 @@ fn root_tests(
     k: Classifier,
     am: f32,
     dm: f32,
-    m: [[f32; 3]; 4],
+    m: &[[f32; 3]; 4],
     t: f64,
     xm: f32,
     e: f64,
     f: f64,
 ) -> bool
-    ensures { λ r. ⌜ r ≡ rootVerdict (k .span) (k .protected) am dm m t xm e f ⌝ }
+    ensures { λ r. ⌜ r ≡ rootVerdict (k .span) (k .protected) am dm (now (m .entry)) t xm e f ⌝ }
 {
     classifier::range_test(k, 0.0, 1.0, t, am, dm, xm)
         || (turning_test(k, am, dm, m, t, xm, e) || turning_test(k, am, dm, m, t, xm, f))
@@ -163,9 +163,9 @@ fn root_test_count(e: f64, f: f64) -> usize
 }
 
 // The verdict at root t of pair p.
-fn diagonal_at(k: Classifier, am: f32, dm: f32, m: [[f32; 3]; 4], p: usize, t: f64) -> usize
+fn diagonal_at(k: Classifier, am: f32, dm: f32, m: &[[f32; 3]; 4], p: usize, t: f64) -> usize
     requires { ⌜ p < 3 ⌝ }
-    ensures { λ r. ⌜ r ≡ verdict (Diagonal.diagonalAt (k .span) (k .protected) am dm m p t) (Diagonal.diagonalTestsAt m p t) ⌝ }
+    ensures { λ r. ⌜ r ≡ verdict (Diagonal.diagonalAt (k .span) (k .protected) am dm (now (m .entry)) p t) (Diagonal.diagonalTestsAt (now (m .entry)) p t) ⌝ }
 {
     if pairs::inside(t) {
         let e = turning_point(m, p);
@@ -188,8 +188,8 @@ fn root_at(r: Roots, i: usize) -> f64
 }
 
 // The pairs in order, and of each the roots in order; the search stops at the first artifact.
-fn some_pair(k: Classifier, am: f32, dm: f32, m: [[f32; 3]; 4]) -> usize
-    ensures { λ r. ⌜ r ≡ verdict (any 3 (Diagonal.diagonalPair (k .span) (k .protected) am dm m)) (spent 3 (Diagonal.diagonalPair (k .span) (k .protected) am dm m) (Diagonal.diagonalPairTests (k .span) (k .protected) am dm m)) ⌝ }
+fn some_pair(k: Classifier, am: f32, dm: f32, m: &[[f32; 3]; 4]) -> usize
+    ensures { λ r. ⌜ r ≡ verdict (any 3 (Diagonal.diagonalPair (k .span) (k .protected) am dm (now (m .entry)))) (spent 3 (Diagonal.diagonalPair (k .span) (k .protected) am dm (now (m .entry))) (Diagonal.diagonalPairTests (k .span) (k .protected) am dm (now (m .entry)))) ⌝ }
 {
     let mut p = 0usize;
     let mut tests = 0usize;
@@ -212,18 +212,31 @@ fn some_pair(k: Classifier, am: f32, dm: f32, m: [[f32; 3]; 4]) -> usize
     found
 }
 
+// The verdict of texel m[0], whose median is am, against the one across, m[3], whose median is dm, where the guard lets it be tested.
+pub fn has_guarded_artifact(
+    s: Settings,
+    protected: bool,
+    am: f32,
+    dm: f32,
+    m: [[f32; 3]; 4],
+) -> usize
+    ensures { λ r. ⌜ r ≡ verdict (any 3 (Diagonal.diagonalPair (Config.diagonalSpan s) protected am dm m)) (spent 3 (Diagonal.diagonalPair (Config.diagonalSpan s) protected am dm m) (Diagonal.diagonalPairTests (Config.diagonalSpan s) protected am dm m)) ⌝ }
+{
+    let k = Classifier {
+        span: config::diagonal_span(s),
+        protected,
+    };
+    some_pair(k, am, dm, &m)
+}
+
 // The verdict of texel m[0], whose median is am, against the one across, m[3].
 pub fn has_diagonal_artifact(s: Settings, protected: bool, am: f32, m: [[f32; 3]; 4]) -> usize
     ensures { λ r. ⌜ r ≡ verdict (Diagonal.hasDiagonalArtifact (Config.diagonalSpan s) protected am m) (Diagonal.diagonalTests (Config.diagonalSpan s) protected am m) ⌝ }
 {
     let far = texel::median(m[3]);
     let dm = far.value;
-    if pairs::guard(am, dm) {
-        let k = Classifier {
-            span: config::diagonal_span(s),
-            protected,
-        };
-        return some_pair(k, am, dm, m);
+    if texel::guard(am, dm) {
+        return has_guarded_artifact(s, protected, am, dm, m);
     }
     0
 }

@@ -70,7 +70,7 @@ pub fn has_linear_artifact(
 {
     let m = texel::median(b);
     let bm = m.value;
-    if pairs::guard(am, bm) {
+    if texel::guard(am, bm) {
         let k = Classifier {
             span: config::side_span(s, upright),
             protected,

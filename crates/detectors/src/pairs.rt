@@ -1,16 +1,9 @@
-// What both detectors and the edges share: which texel of two is tested, where a crossing counts, the channel pairs, and the way between two texels.
+// What both detectors and the edges share: where a crossing counts, the channel pairs, and the way between two texels.
 ghost use mathlib.Core.Path.{_≡_};
 ghost use Prim.Native.Nat.{_<_};
 ghost use Rattle.detectors.specs.Pairs as Pairs;
 use numbers::scalar;
 use ranges::constants;
-
-// The farther one from the outline is tested.
-pub fn guard(am: f32, bm: f32) -> bool
-    ensures { λ r. ⌜ r ≡ Pairs.guard am bm ⌝ }
-{
-    scalar::abs32(am - constants::HALF) >= scalar::abs32(bm - constants::HALF)
-}
 
 // t lies strictly inside.
 pub fn inside(t: f64) -> bool

@@ -3,8 +3,12 @@
 use Rattle.ground.proofs.Laws.Alike.{Alike, alike}
 use Rattle.detectors.proofs.texel.median.Kinds as median-kinds
 use Rattle.detectors.proofs.texel.median.Reads as median
+use Rattle.detectors.proofs.texel.guard.Kinds as guard-kinds
+use Rattle.detectors.proofs.texel.guard.Reads as guard
 use Rattle.detectors.proofs.linear.has_linear_artifact.Kinds as has-linear-artifact-kinds
 use Rattle.detectors.proofs.linear.has_linear_artifact.Reads as has-linear-artifact
+use Rattle.detectors.proofs.diagonal.has_guarded_artifact.Kinds as has-guarded-artifact-kinds
+use Rattle.detectors.proofs.diagonal.has_guarded_artifact.Reads as has-guarded-artifact
 use Rattle.detectors.proofs.diagonal.has_diagonal_artifact.Kinds as has-diagonal-artifact-kinds
 use Rattle.detectors.proofs.diagonal.has_diagonal_artifact.Reads as has-diagonal-artifact
 use Rattle.detectors.proofs.edge.radius.Kinds as radius-kinds
@@ -18,9 +22,17 @@ use Rattle.detectors.proofs.edge.pair_protects.Reads as pair-protects
 pub median-alike : Alike 0 median-kinds.ps median-kinds.r median.Post
 median-alike κs a r s e f = alike
 
+-- Which texel of two is tested.
+pub guard-alike : Alike 0 guard-kinds.ps guard-kinds.r guard.Post
+guard-alike κs a r s e f = alike
+
 -- The verdict of the linear detector.
 pub has-linear-artifact-alike : Alike 0 has-linear-artifact-kinds.ps has-linear-artifact-kinds.r has-linear-artifact.Post
 has-linear-artifact-alike κs a r s e f = alike
+
+-- The verdict of the diagonal detector once its guard has passed.
+pub has-guarded-artifact-alike : Alike 0 has-guarded-artifact-kinds.ps has-guarded-artifact-kinds.r has-guarded-artifact.Post
+has-guarded-artifact-alike κs a r s e f = alike
 
 -- The verdict of the diagonal detector.
 pub has-diagonal-artifact-alike : Alike 0 has-diagonal-artifact-kinds.ps has-diagonal-artifact-kinds.r has-diagonal-artifact.Post

@@ -1,5 +1,6 @@
 -- `detectors::diagonal::diagonal_at` meets its contract. Assumes nothing.
 use mathlib.Core.Path.{_≡_, sym, _∙_}
+use denote.Ref.{now}
 use borrow.Author.Needs.{needs}
 use Rattle.detectors.specs.Verdict.{verdict}
 use Rattle.detectors.specs.Diagonal.{rootTests, diagonalAt, rootTestCount, diagonalTestsAt}
@@ -9,7 +10,7 @@ use Rattle.detectors.proofs.diagonal.diagonal_at.Tie as tie
 
 -- the verdict by what the tests said and how many they are
 whole : (c : tie.After-root-tests) → let s = c .before .before .before .before .before .before .before .before in let a = s .args in
-    verdict (c .root-tests .result) (c .before .root-test-count .result) ≡ verdict (diagonalAt (a .k .span) (a .k .protected) (a .am) (a .dm) (a .m) (a .p) (a .t)) (diagonalTestsAt (a .m) (a .p) (a .t))
+    verdict (c .root-tests .result) (c .before .root-test-count .result) ≡ verdict (diagonalAt (a .k .span) (a .k .protected) (a .am) (a .dm) (now (a .m)) (a .p) (a .t)) (diagonalTestsAt (now (a .m)) (a .p) (a .t))
 unfolding diagonalAt rootTests diagonalTestsAt rootTestCount
 whole c =
     let n = c .before in

@@ -2,21 +2,18 @@
 use borrow.Author.Needs.{needs}
 use mathlib.Core.Path.{ap, sym, _∙_}
 use Rattle.numbers.specs.declared.scalar.Middle.{Middle}
-use Rattle.detectors.specs.Diagonal.{diagonalPairs, hasDiagonalArtifact, diagonalPairsTests, diagonalTests}
-use Rattle.detectors.proofs.Laws.Verdict.{guarded-off, guarded-on}
+use Rattle.detectors.proofs.Laws.Guard.{untested, tested}
 use Rattle.detectors.proofs.diagonal.has_diagonal_artifact.Statement.{statement}
 use Rattle.detectors.proofs.diagonal.has_diagonal_artifact.Tie as tie
 
 returns : tie.Need-returns
-unfolding hasDiagonalArtifact diagonalPairs diagonalTests diagonalPairsTests
 returns c =
-    let s = c .before in
-    let g = s .before .before in
-    rw (← ap (λ (m : Middle). m .value) (g .before .median .ensures), ← s .diagonal-span .ensures) (c .some-pair .ensures ∙ guarded-on _ _ _ (sym (g .guard .ensures) ∙ s .before .if1 .taken))
+    let t = c .before in
+    let g = t .before in
+    c .has-guarded-artifact .ensures ∙ tested _ _ _ _ _ (ap (λ (m : Middle). m .value) (g .before .median .ensures)) (sym (g .guard .ensures) ∙ t .if1 .taken)
 
 returns-2 : tie.Need-returns-2
-unfolding hasDiagonalArtifact diagonalPairs diagonalTests diagonalPairsTests
-returns-2 c = rw (← ap (λ (m : Middle). m .value) (c .before .before .median .ensures)) (guarded-off _ _ _ (sym (c .before .guard .ensures) ∙ c .if1 .left))
+returns-2 c = untested _ _ _ _ _ (ap (λ (m : Middle). m .value) (c .before .before .median .ensures)) (sym (c .before .guard .ensures) ∙ c .if1 .left)
 
 pub has-diagonal-artifact-spec : {M : Type 1} → statement M
-has-diagonal-artifact-spec = tie.close (tie.spec (λ c. search needs) (λ c κs. search needs) (λ c κs. search needs) (λ c κs. search needs) (λ c κs. search needs) returns returns-2)
+has-diagonal-artifact-spec = tie.close (tie.spec (λ c. search needs) (λ c κs. search needs) (λ c κs. search needs) (λ c κs. search needs) returns returns-2)

@@ -1,8 +1,8 @@
--- `detectors::pairs::guard` meets its contract. Assumes nothing.
+-- `detectors::texel::guard` meets its contract. Assumes nothing.
 use Rattle.detectors.specs.Pairs.{guard}
 use borrow.Author.Needs.{needs}
-use Rattle.detectors.proofs.pairs.guard.Statement.{statement}
-use Rattle.detectors.proofs.pairs.guard.Tie as tie
+use Rattle.detectors.proofs.texel.guard.Statement.{statement}
+use Rattle.detectors.proofs.texel.guard.Tie as tie
 
 returns : tie.Need-returns
 unfolding guard
