@@ -14,6 +14,7 @@ use crate::bitmap;
 use crate::bitmap::Centre;
 use detectors::diagonal;
 use detectors::linear;
+use detectors::texel;
 use detectors::verdict;
 use inputs::sizes::Bitmap;
 use inputs::stencil;
@@ -41,7 +42,7 @@ fn side_artifact(
     0
 }
 
-// Texel a of t against the diagonal neighbour at column nx and row ny, counted from 1.
+// Texel a of t against the diagonal neighbour at column nx and row ny, counted from 1. The two beside it are read only once the guard has passed.
 fn diagonal_artifact(
     xs: &[f32],
     b: Bitmap,
@@ -55,19 +56,20 @@ fn diagonal_artifact(
     requires { ⌜ (t .x < b .width) × (t .y < b .height) ⌝ }
     ensures { λ r. ⌜ r ≡ verdict (Errors.diagonalArtifact (texel (now (xs .entry)) (b .width) (b .channels)) (b .width) (b .height) (diagonalSpan s) protected (t .median) (t .texel) (t .x) (t .y) nx ny) (Errors.acrossTests (texel (now (xs .entry)) (b .width) (b .channels)) (b .width) (b .height) (diagonalSpan s) protected (t .median) (t .texel) (t .x) (t .y) nx ny) ⌝ }
 {
-    let a = t.texel;
     if bitmap::in_bounds(b, nx, ny) {
-        return diagonal::has_diagonal_artifact(
-            s,
-            protected,
-            t.median,
-            [
+        let d = bitmap::neighbour(xs, b, nx, ny);
+        let far = texel::median(d);
+        let dm = far.value;
+        if texel::guard(t.median, dm) {
+            let a = t.texel;
+            let m = [
                 a,
                 bitmap::texel(xs, b, nx - 1, t.y),
                 bitmap::texel(xs, b, t.x, ny - 1),
-                bitmap::neighbour(xs, b, nx, ny),
-            ],
-        );
+                d,
+            ];
+            return diagonal::has_guarded_artifact(s, protected, t.median, dm, m);
+        }
     }
     0
 }
