@@ -4,6 +4,7 @@
 //! `bench [SIZE...]`: for squares of each SIZE, glyph-like, noise and checkered, Indiscriminate and EdgePriority, range tests a texel, nanoseconds a texel and their ratio.
 //! Exit status 1 if the two differ in a sample, a zero's sign aside, or in the number of range tests.
 
+mod fields;
 #[path = "../tests/differential/glyphs.rs"]
 #[allow(dead_code)]
 mod glyphs;
@@ -13,24 +14,12 @@ mod rng;
 #[path = "../include/rungtwine.rs"]
 mod rungtwine;
 
-use rng::Rng;
+use fields::{fields, Field, RATIO};
 use rungtwine::{error_correction, Counts, Mode, Outlines, Settings};
 
 extern "C" {
     fn clock_gettime(clock: i32, time: *mut [i64; 2]) -> i32;
 }
-
-struct Field {
-    name: &'static str,
-    size: usize,
-    samples: Vec<f32>,
-    lengths: [f64; 3],
-    colours: Vec<u8>,
-    coords: Vec<f64>,
-    ends: Vec<usize>,
-}
-
-const RATIO: f64 = 10.0 / 9.0;
 
 /// Seconds of processor time of this thread.
 fn now() -> f64 {
@@ -38,43 +27,6 @@ fn now() -> f64 {
     let mut time = [0i64; 2];
     assert!(unsafe { clock_gettime(THREAD_CPU_TIME, &mut time) } == 0);
     time[0] as f64 + time[1] as f64 * 1e-9
-}
-
-fn glyph_field(size: usize) -> Field {
-    let mut rng = Rng::new(11, size as u64);
-    let glyph = glyphs::glyph(&mut rng, size, size);
-    let range = 4.0;
-    let samples = glyphs::field(&glyph, size, size, 3, range);
-    let step = 1.0 / range;
-    let mut field = Field {
-        name: "glyph",
-        size,
-        samples,
-        lengths: [step, step, std::f64::consts::SQRT_2 * step],
-        colours: vec![],
-        coords: vec![],
-        ends: vec![],
-    };
-    for contour in &glyph.contours {
-        for &(colour, x, y) in contour {
-            field.colours.push(colour);
-            field.coords.extend([x, y]);
-        }
-        field.ends.push(field.colours.len());
-    }
-    field
-}
-
-fn noise_field(size: usize) -> Field {
-    let mut rng = Rng::new(12, size as u64);
-    let samples = (0..size * size * 3).map(|_| rng.unit() as f32).collect();
-    Field { name: "noise", size, samples, lengths: [0.25, 0.25, 0.35], colours: vec![], coords: vec![], ends: vec![] }
-}
-
-/// Figure C13 in every direction: each second texel takes all the range tests that a texel can, but at the border.
-fn checkered_field(size: usize) -> Field {
-    let samples = (0..size * size).flat_map(|k| if (k % size + k / size) % 2 == 0 { [0.5, 1.0, 1.5] } else { [2.5, 0.75, -0.5] }).collect();
-    Field { name: "checkered", size, samples, lengths: [16.0; 3], colours: vec![], coords: vec![], ends: vec![] }
 }
 
 /// One run of the proved pass: seconds, and what it counted.
@@ -134,7 +86,7 @@ fn main() {
     println!("|---|---|---|---|---|---|---|---|---|");
     let mut same = true;
     for size in sizes {
-        for field in [glyph_field(size), noise_field(size), checkered_field(size)] {
+        for field in fields(size) {
             for mode in [Mode::Indiscriminate, Mode::EdgePriority] {
                 same &= row(&field, mode);
             }

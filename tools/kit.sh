@@ -1,15 +1,14 @@
-# Sourced by the scripts beside it: where the Rattle kit is, and a module of rt's compiled for the processor of this machine.
+# Sourced by scripts that use the Rattle kit: where it is, and a module of rt's kept on its way or compiled for the processor of this machine.
 rt=$(command -v rt) || { echo "${0##*/}: there is no rt on the PATH" >&2; exit 1; }
 kit=$(dirname "$(dirname "$(readlink -f "$rt")")")
 machine=$(uname -m)
 toolchain=$kit/on/$machine/toolchain
 
-# native_module FLAGS KEEP WORD...: $stand/module.o, the LLVM module that `rt WORD...` compiles on its way, compiled for this machine at -O3 by the kit's own clang.
+# keep_module KEEP WORD...: $stand/module.bc, the LLVM module that `rt WORD...` compiles on its way.
 # rt runs over a stand-in for the kit whose clang goes through its words first: KEEP, arms of a case over $word, copies the module to $kept.
-native_module() {
-    flags=$1
-    keep=$2
-    shift 2
+keep_module() {
+    keep=$1
+    shift
     stand=$(mktemp -d)
     trap 'rm -rf "$stand"' EXIT
     mkdir -p "$stand/kit/on/$machine/toolchain/bin"
@@ -28,6 +27,22 @@ STAND_IN
     chmod +x "$stand/kit/on/$machine/toolchain/bin/clang"
     RATTLE_HOME=$stand/kit rt "$@"
     [ -f "$stand/module.bc" ] || { echo "${0##*/}: no module was compiled on the way" >&2; exit 1; }
+}
+
+# native_clang WORD...: the kit's own clang over a module, for this machine.
+native_clang() {
+    "$toolchain/bin/clang" --target="$machine-unknown-linux-gnu" -Wno-override-module "$@"
+}
+
+# How the module of a library is kept and compiled.
+library_keep='*.bc) cp "$word" "$kept" ;;'
+library_flags="-ffunction-sections -fdata-sections -fPIC"
+
+# native_module FLAGS KEEP WORD...: $stand/module.o, the module that `rt WORD...` compiles on its way, compiled for this machine at -O3.
+native_module() {
+    flags=$1
+    shift
+    keep_module "$@"
     # shellcheck disable=SC2086 # the flags are separate on purpose
-    "$toolchain/bin/clang" --target="$machine-unknown-linux-gnu" -Wno-override-module $flags -O3 -c -x ir "$stand/module.bc" -o "$stand/module.o"
+    native_clang $flags -O3 -c -x ir "$stand/module.bc" -o "$stand/module.o"
 }

@@ -957,6 +957,42 @@ fn find_errors(input: &Input, field: &Field, stencil: &mut [u8], counting: Count
     tests
 }
 
+/// The texels that finding reads for one, in order: itself, then each neighbour that is inside when its own test begins, up to the first with an artifact.
+/// Of a diagonal that is the texel across, for the guard; where that passes, the ones beside in the row and in the column as well.
+fn reads_for(input: &Input, field: &Field, x: usize, y: usize, protected: bool, seen: &mut Seen) -> Vec<(usize, usize)> {
+    let around = tests_around(input, field, x, y, protected, seen);
+    let am = median_of(field.texel(x, y));
+    let mut read = vec![(x, y)];
+    for (neighbour, (dx, dy, _)) in around.iter().zip(NEIGHBOURS) {
+        let (nx, ny) = (x as i64 + dx, y as i64 + dy);
+        if !field.inside(nx, ny) {
+            continue;
+        }
+        let (nx, ny) = (nx as usize, ny as usize);
+        read.push((nx, ny));
+        let across = dx != 0 && dy != 0;
+        if across && guard(am, median_of(field.texel(nx, ny)), Branch::DiagonalGuarded, Branch::DiagonalTie, seen) {
+            read.extend([(nx, y), (x, ny)]);
+        }
+        if any_artifact(std::slice::from_ref(neighbour)) {
+            break;
+        }
+    }
+    read
+}
+
+/// The texels that finding reads for each, over the samples before the pass and the stencil after it; none in Disabled.
+#[allow(dead_code)] // most programs do not ask what is read
+pub fn reads(input: &Input, samples: &[f32], stencil: &[u8]) -> Vec<Vec<(usize, usize)>> {
+    if input.mode == 0 {
+        return vec![];
+    }
+    let field = Field { width: input.width, height: input.height, channels: input.channels, samples };
+    let seen = &mut Seen::new();
+    let one = |(k, cell): (usize, &u8)| reads_for(input, &field, k % input.width, k / input.width, cell & PROTECTED != 0, seen);
+    stencil.iter().enumerate().map(one).collect()
+}
+
 fn collapse(field_channels: usize, samples: &mut [f32], stencil: &[u8], seen: &mut Seen) {
     for (cell, texel) in stencil.iter().zip(samples.chunks_mut(field_channels)) {
         if cell & ERROR != 0 {
