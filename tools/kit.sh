@@ -25,8 +25,8 @@ for word in "\$@"; do case \$word in $keep esac; done
 exec "$toolchain/bin/clang" "\$@"
 STAND_IN
     chmod +x "$stand/kit/on/$machine/toolchain/bin/clang"
-    RATTLE_HOME=$stand/kit rt "$@"
-    [ -f "$stand/module.bc" ] || { echo "${0##*/}: no module was compiled on the way" >&2; exit 1; }
+    RATTLE_HOME=$stand/kit rt "$@" || return
+    [ -f "$stand/module.bc" ] || { echo "${0##*/}: no module was compiled on the way" >&2; return 1; }
 }
 
 # native_clang WORD...: the kit's own clang over a module, for this machine.
@@ -42,7 +42,7 @@ library_flags="-ffunction-sections -fdata-sections -fPIC"
 native_module() {
     flags=$1
     shift
-    keep_module "$@"
+    keep_module "$@" || return
     # shellcheck disable=SC2086 # the flags are separate on purpose
     native_clang $flags -O3 -c -x ir "$stand/module.bc" -o "$stand/module.o"
 }
