@@ -2,6 +2,7 @@
 pub mod Order
 pub mod Monotone
 pub mod Exact
+pub mod Difference
 pub mod Bounds
 pub mod Rank
 pub mod Scalar
@@ -11,4 +12,5 @@ pub mod SquareRoot
 pub mod Nearest
 pub mod Constants
 pub mod EquationSolver
+pub mod RootCount
 pub mod Alike

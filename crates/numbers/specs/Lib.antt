@@ -5,4 +5,5 @@ pub mod Scalar
 pub mod Orders
 pub mod SquareRoot
 pub mod EquationSolver
+pub mod RootCount
 pub mod Inner

@@ -2,30 +2,36 @@
 --     round-held, round-value        a value that the format holds is what its own fraction, and any of its value, rounds to
 --     narrow-held                    a value of binary32 narrows to itself
 --     mul-held, mul-by-one           a product whose exact value the format holds is that value, so one with 1 is the value
---     mul-exact                      the product in binary64 of two finite values of binary32 is exact, so it is finite
+--     Short                          x is ±n / 2 ^ l, n is a number of at most p digits with zeros after it, and x is below 2 ^ t in size
+--     mul-short                      the product in binary64 of two such is exact where the digits of both are at most 53 and their scales fit: nothing underflows or overflows
+--     steps-value                    a value that a format holds is a whole number of its smallest values
+--     single-short                   a finite value of binary32 has at most 24 digits, counted in 2 ^ -149, and is below 2 ^ 128
+--     mul-exact                      so the product in binary64 of two finite values of binary32 is exact
 --     Adds                           x + y = v, as whole numbers over the product of the three denominators: what is positive on either side and negative on the other
 --     add-exact, sub-exact           a sum and a difference that are exactly a value of the format other than zero are that value
 --     add-exact-zero                 a sum that is exactly zero is a zero
 --     add-exact-eq, sub-exact-eq     so they equal any value of the format that they are exactly, a zero of either sign
 --     add-zero-eq, add-zero-nonzero  a value with a zero added equals itself, and one that is not zero is itself
-use mathlib.Core.Path.{_≡_, refl, sym, ap, _∙_}
-use Prim.Native.Nat.{ℕ, zero, suc, _+_, _*_, _^_, _<_}
-use native.Mathlib.Nat.{le-refl, le-of-eq, le-of-lt, lt-of-le-of-lt, zero-lt-suc, zero-mul, mul-pos, mul-le-mul}
+use mathlib.Core.Path.{_≡_, refl, sym, ap, _∙_, subst}
+use Prim.Native.Nat.{ℕ, zero, suc, _+_, _-_, _*_, _/_, _^_, _≤_, _<_}
+use native.Mathlib.Nat.{le-refl, le-of-eq, le-of-lt, lt-of-le-of-lt, lt-of-lt-of-le, zero-lt-suc, zero-mul, mul-pos, mul-assoc, mul-mul-mul-comm, mul-le-mul, mul-lt-mul-of-pos-right, mul-div-cancel, eq-of-mul-eq-mul-right}
 use native.Mathlib.Omega.{arith}
 use mathlib.Core.Bool.{Bool, true, false, not}
 use lib.IntN.{ℤ, pos}
-use lib.Dec.{T, lit<}
-use lib.Pow.{pow-add}
-use lib.Ieee.{Float, nan, inf, fin, Format, binary32, binary64, up, down, unlike, round, add, sub, mul, neg, eq, fits, isNan, ofBits}
+use lib.Dec.{T, lit≤}
+use lib.Pow.{pow-add, pow-pos, pow-mono, shl-lt}
+use lib.Ieee.{Float, nan, inf, fin, Format, binary32, binary64, low, up, down, unlike, round, add, sub, mul, neg, eq, fits, isNan, ofBits}
 use lib.Ieee.Fits.{up-pos, down-pos, round-fits}
 use lib.Ieee.Exact.{HasValue, round-exact}
 use lib.Ieee.Scale.{round-same}
 use Rattle.numbers.specs.Constants.{oneOf}
 use Rattle.numbers.specs.Rounding.{narrowOf}
 use Rattle.numbers.specs.Nearest.{sumSize, sumSign}
+use Rattle.numbers.specs.RootCount.{steps}
 use Rattle.numbers.proofs.floats.Differences.{scale-plus, scale-minus, summed, unlike-false, zero-of}
 use Rattle.numbers.proofs.Laws.Order.{plus, minus, eq-refl, eq-zeros}
-use Rattle.numbers.proofs.floats.Values.{with-value}
+use Rattle.numbers.proofs.floats.Values.{with-value, mul-value}
+use Rattle.numbers.proofs.floats.Patterns.{shifted}
 use Rattle.numbers.proofs.floats.Held.{held, count, value-unique}
 
 -- ---- rounding
@@ -65,29 +71,84 @@ mul-by-one f x p = ap (mul f x) (one-is f) ∙ go x p
     go (inf s) p = unfold mul in ap inf (unlike-false s)
     go (fin s m e) p = mul-held f s m e false 1 (pos 0) (fin s m e) p (sym (unlike-false s), omega arith)
 
+-- ---- products of few digits
+pub record Short (p l t : ℕ) (x : Float) (s : Bool) (n : ℕ) : Type 0 where
+  pub digits : ℕ
+  pub zeros : ℕ
+  pub few : digits < 2 ^ p
+  pub is : n ≡ digits * 2 ^ zeros
+  pub fine : n < 2 ^ (l + t)
+  pub value : HasValue x s n (2 ^ l)
+
+-- two numbers below powers of 2
+times-lt : (a b p q : ℕ) → a < 2 ^ p → b < 2 ^ q → a * b < 2 ^ (p + q)
+times-lt a b p q h k = subst (λ (x : ℕ). a * b < x) (sym (pow-add 2 p q)) (lt-of-le-of-lt (mul-le-mul (le-refl a) (le-of-lt k)) (mul-lt-mul-of-pos-right h (pow-pos q)))
+
+-- a number of smallest values, brought to binary64's
+brought : (n d z l : ℕ) → l ≤ 1074 → n ≡ d * 2 ^ z → n * 2 ^ 1074 ≡ d * 2 ^ (z + (1074 - l)) * 2 ^ l
+brought n d z l L e =
+    shifted n l 1074 L ∙ ap (λ (x : ℕ). x * 2 ^ l) (ap (λ (x : ℕ). x * 2 ^ (1074 - l)) e ∙ mul-assoc d (2 ^ z) (2 ^ (1074 - l)) ∙ ap (λ (x : ℕ). d * x) (sym (pow-add 2 z (1074 - l))))
+
+-- and it stays below 2 ^ 1024
+brought-fine : (n d z l t : ℕ) → l ≤ 1074 → t ≤ 1024 → n ≡ d * 2 ^ z → n < 2 ^ (l + t) → d * 2 ^ (z + (1074 - l)) < 2 ^ (1074 + 1024)
+brought-fine n d z l t L U e h =
+    lt-of-le-of-lt (le-of-eq (ap (λ (x : ℕ). d * x) (pow-add 2 z (1074 - l)) ∙ sym (mul-assoc d (2 ^ z) (2 ^ (1074 - l))) ∙ ap (λ (x : ℕ). x * 2 ^ (1074 - l)) (sym e)))
+    (lt-of-lt-of-le (shl-lt (l + t) (1074 - l) h) (pow-mono {i = l + t + (1074 - l)} {j = 2098} (omega arith)))
+
+pub mul-short : (p q k l t u : ℕ) (x y : Float) (s r : Bool) (n o : ℕ) → p + q ≤ 53 → k + l ≤ 1074 → t + u ≤ 1024
+    → Short p k t x s n → Short q l u y r o → Short (p + q) (k + l) (t + u) (mul binary64 x y) (unlike s r) (n * o)
+mul-short p q k l t u x y s r n o P L U a b =
+    let d = a .digits * b .digits in
+    let z = a .zeros + b .zeros in
+    let few : d < 2 ^ (p + q) = times-lt (a .digits) (b .digits) p q (a .few) (b .few) in
+    let is : n * o ≡ d * 2 ^ z = (λ i. a .is i * b .is i) ∙ mul-mul-mul-comm (a .digits) (2 ^ a .zeros) (b .digits) (2 ^ b .zeros) ∙ ap (λ (w : ℕ). d * w) (sym (pow-add 2 (a .zeros) (b .zeros))) in
+    let fine : n * o < 2 ^ (k + l + (t + u)) = subst (λ (w : ℕ). n * o < 2 ^ w) (omega arith) (times-lt n o (k + t) (l + u) (a .fine) (b .fine)) in
+    record {
+      digits = d;
+      zeros = z;
+      few = few;
+      is = is;
+      fine = fine;
+      value = subst (λ (v : Float). HasValue v (unlike s r) (n * o) (2 ^ (k + l)))
+          (sym (mul-value binary64 x y s r n (2 ^ k) o (2 ^ l) (pow-pos k) (pow-pos l) (a .value) (b .value) ∙ ap (round binary64 (unlike s r) (n * o)) (sym (pow-add 2 k l))))
+          (round-exact binary64 (unlike s r) (n * o) (2 ^ (k + l)) d (z + (1074 - (k + l))) (pow-pos (k + l)) (lt-of-lt-of-le few (pow-mono {i = p + q} {j = 53} P)) (brought-fine (n * o) d z (k + l) (t + u) L U is fine) (brought (n * o) d z (k + l) L is));
+    }
+
+-- a value that a format holds is counted by its smallest values
+steps-is : (f : Format) (s : Bool) (m : ℕ) (e : ℤ) (p : T (fits f (fin s m e))) → steps f m e ≡ count f m e (held f s m e p)
+steps-is f s m e p = let h = held f s m e p in ap (λ (x : ℕ). x / down e) (h .value) ∙ mul-div-cancel (count f m e h) (down-pos e)
+
+pub steps-value : (f : Format) (s : Bool) (m : ℕ) (e : ℤ) → T (fits f (fin s m e)) → HasValue (fin s m e) s (steps f m e) (2 ^ low f)
+steps-value f s m e p = let h = held f s m e p in (refl, h .value ∙ ap (λ (x : ℕ). x * down e) (sym (steps-is f s m e p)))
+
+pub single-short : (s : Bool) (m : ℕ) (e : ℤ) → T (fits binary32 (fin s m e)) → Short 24 149 128 (fin s m e) s (steps binary32 m e)
+single-short s m e p =
+    let h = held binary32 s m e p in
+    let is = steps-is binary32 s m e p in
+    record {
+      digits = h .digits;
+      zeros = h .zeros;
+      few = h .few;
+      is = is;
+      fine = subst (λ (x : ℕ). x < 2 ^ (149 + 128)) (sym is) (h .fine);
+      value = steps-value binary32 s m e p;
+    }
+
+-- over the product of the two denominators
 pub mul-exact : (s : Bool) (m : ℕ) (e : ℤ) (t : Bool) (n : ℕ) (d : ℤ) → T (fits binary32 (fin s m e)) → T (fits binary32 (fin t n d))
     → HasValue (mul binary64 (fin s m e) (fin t n d)) (unlike s t) (m * up e * (n * up d)) (down e * down d)
-unfolding mul
 mul-exact s m e t n d p q =
-    let h = held binary32 s m e p in
-    let k = held binary32 t n d q in
-    let z = h .zeros + k .zeros + 776 in
-    let same : h .digits * k .digits * 2 ^ z ≡ count binary32 m e h * count binary32 n d k * 2 ^ 776 = spread (h .digits) (k .digits) (h .zeros) (k .zeros) in
-    round-exact binary64 (unlike s t) (m * up e * (n * up d)) (down e * down d) (h .digits * k .digits) z (mul-pos (down-pos e) (down-pos d))
-    (lt-of-le-of-lt (mul-le-mul (le-of-lt (h .few)) (le-of-lt (k .few))) (lit< tt))
-    (lt-of-le-of-lt (le-of-eq same) (lt-of-le-of-lt (mul-le-mul (mul-le-mul (le-of-lt (h .fine)) (le-of-lt (k .fine))) (le-refl (2 ^ 776))) (lit< tt)))
-    (whole (m * up e) (n * up d) (count binary32 m e h) (count binary32 n d k) (down e) (down d) (2 ^ 149) (2 ^ 776) (h .value) (k .value)
-    ∙ ap (λ (x : ℕ). x * (down e * down d)) (sym same))
+    let a = single-short s m e p in
+    let b = single-short t n d q in
+    let x = steps binary32 m e in
+    let y = steps binary32 n d in
+    with-value (λ v. HasValue v (unlike s t) (m * up e * (n * up d)) (down e * down d)) (mul binary64 (fin s m e) (fin t n d)) (unlike s t) (x * y) (2 ^ 298)
+    (mul-short 24 24 149 149 128 128 (fin s m e) (fin t n d) s t x y (lit≤ tt) (lit≤ tt) (lit≤ tt) a b .value)
+    (λ k g v. (refl, eq-of-mul-eq-mul-right (2 ^ 298) (pow-pos 298) _ _ (over-own (k * up g) (down g) x y (m * up e) (down e) (n * up d) (down d) (2 ^ 298) (2 ^ 149) refl v (a .value .1) (b .value .1))))
   where
-    spread : (x y i j : ℕ) → x * y * 2 ^ (i + j + 776) ≡ x * 2 ^ i * (y * 2 ^ j) * 2 ^ 776
-    spread x y i j =
-        ap (λ (z : ℕ). x * y * z) (pow-add 2 (i + j) 776 ∙ ap (λ (z : ℕ). z * 2 ^ 776) (pow-add 2 i j)) ∙ regroup x y (2 ^ i) (2 ^ j) (2 ^ 776)
-      where
-        regroup : (x y p q r : ℕ) → x * y * (p * q * r) ≡ x * p * (y * q) * r
-        regroup x y p q r = omega arith
-
-    whole : (a b A B c g L R : ℕ) → a * L ≡ A * c → b * L ≡ B * g → a * b * (L * L * R) ≡ A * B * R * (c * g)
-    whole a b A B c g L R e h = omega arith ∙ ap (λ (x : ℕ). x * (b * L) * R) e ∙ ap (λ (x : ℕ). A * c * x * R) h ∙ omega arith
+    over-own : (K G x y X c Y g R L : ℕ) → L * L ≡ R → K * R ≡ x * y * G → X * L ≡ x * c → Y * L ≡ y * g → K * (c * g) * R ≡ X * Y * G * R
+    over-own K G x y X c Y g R L r v a b =
+        omega (arith, ap (λ (w : ℕ). w * (c * g)) v) ∙ sym (λ i. a i * b i * G) ∙ omega (arith, ap (λ (w : ℕ). X * Y * G * w) r)
 
 -- ---- sums
 abbrev pub Adds : Float → Float → Float → Type 0

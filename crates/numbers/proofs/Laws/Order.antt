@@ -3,6 +3,8 @@
 --     nought, minus-nought, one                 0, −0 and 1
 --     finite, finite-number                     neither a NaN nor an infinity, so no NaN
 --     le→at-most, at-most→le                    two finite values compare as their fractions, each over the other's denominator
+--     ltb-over, eqb-over, below-over, level-over  numbers over one denominator compare as their numerators, signed ones too
+--     lt-over, eq-over                          so do two values
 --     inf-le, le-inf                            -∞ is at most each value, and each at most ∞
 --     le-cases                                  what holds of -∞ and any number, of any number and ∞, and of two finite values in order holds wherever one value is at most another
 --     number-left, number-right                 of two values that compare neither is a NaN
@@ -24,15 +26,19 @@
 --     eq-held                                   two equal values that one format holds are the same value, or both zeros
 use mathlib.Core.Path.{_≡_, refl, sym, ap, _∙_, subst}
 use mathlib.Core.Logic.{_⊎_, inl, inr}
-use Prim.Native.Nat.{ℕ, zero, suc, _*_}
-use native.Mathlib.Nat.{zero-mul}
+use Prim.Native.Nat.{ℕ, zero, suc, _+_, _*_, _<_}
+use native.Mathlib.Nat.{zero-mul, mul-pos, mul-lt-mul-of-pos-right, lt-of-mul-lt-mul-right, eq-of-mul-eq-mul-right}
 use native.Mathlib.Omega.{arith}
-use mathlib.Core.Bool.{Bool, true, false, not, _||_, Bool·beq}
+use mathlib.Core.Bool.{Bool, true, false, not, _&&_, _||_, Bool·beq}
 use lib.IntN.{ℤ, pos}
-use lib.Dec.{T, not-T, eqb, eqb→eq}
-use lib.Ieee.{Float, nan, inf, fin, Format, up, down, neg, le, lt, eq, isNan, fits}
+use lib.Dec.{T, not-T, ltb, eqb, eqb→eq}
+use lib.Ieee.{Float, nan, inf, fin, Format, up, down, neg, below, level, le, lt, eq, isNan, fits}
 use lib.Ieee.Fits.{up-pos, down-pos, and-l, and-r}
+use lib.Ieee.Exact.{HasValue}
+use borrow.Author.Tests.{ltb-true, eqb-true, lt-ltb, eq-eqb}
+use Rattle.ground.proofs.Laws.Bools.{both-ways}
 use Rattle.numbers.specs.Scalar.{absOf}
+use Rattle.numbers.proofs.floats.Values.{with-value}
 use Rattle.numbers.proofs.floats.Held.{value-unique}
 use Rattle.numbers.proofs.floats.Differences.{or-split, or-l, or-r, of-below, of-not-below, of-level, at-most, of-at-most, flip, nothing, through, zero-of}
 -- `AtMost s a t b` is ±a ≤ ±b of signed whole numbers, negative where s or t is true.
@@ -64,6 +70,47 @@ le→at-most s m e t n d h = at-most s (m * up e * down d) t (n * up d * down e)
 pub at-most→le : (s : Bool) (m : ℕ) (e : ℤ) (t : Bool) (n : ℕ) (d : ℤ) → AtMost s (m * up e * down d) t (n * up d * down e) → T (le (fin s m e) (fin t n d))
 unfolding le
 at-most→le s m e t n d h = of-at-most s (m * up e * down d) t (n * up d * down e) h
+
+-- ---- two values over one denominator
+-- X / c and Y / c are a / k and b / k
+pub ltb-over : (X Y a b c k : ℕ) → 0 < c → 0 < k → X * c ≡ a * k → Y * c ≡ b * k → ltb X Y ≡ ltb a b
+ltb-over X Y a b c k C K p q =
+    both-ways (ltb X Y) (ltb a b)
+    (λ t. lt-ltb a b (lt-of-mul-lt-mul-right k (subst (λ (z : ℕ). z < b * k) p (subst (λ (z : ℕ). X * c < z) q (mul-lt-mul-of-pos-right (ltb-true X Y t) C)))))
+    (λ t. lt-ltb X Y (lt-of-mul-lt-mul-right c (subst (λ (z : ℕ). z < Y * c) (sym p) (subst (λ (z : ℕ). a * k < z) (sym q) (mul-lt-mul-of-pos-right (ltb-true a b t) K)))))
+
+pub eqb-over : (X Y a b c k : ℕ) → 0 < c → 0 < k → X * c ≡ a * k → Y * c ≡ b * k → eqb X Y ≡ eqb a b
+eqb-over X Y a b c k C K p q =
+    both-ways (eqb X Y) (eqb a b)
+    (λ t. eq-eqb a b (eq-of-mul-eq-mul-right k K a b (sym p ∙ ap (λ (z : ℕ). z * c) (eqb-true X Y t) ∙ q)))
+    (λ t. eq-eqb X Y (eq-of-mul-eq-mul-right c C X Y (p ∙ ap (λ (z : ℕ). z * k) (eqb-true a b t) ∙ sym q)))
+
+pub below-over : (s : Bool) (X : ℕ) (t : Bool) (Y a b c k : ℕ) → 0 < c → 0 < k → X * c ≡ a * k → Y * c ≡ b * k → below s X t Y ≡ below s a t b
+below-over false X false Y a b c k C K p q = ltb-over X Y a b c k C K p q
+below-over false X true Y a b c k C K p q = refl
+below-over true X false Y a b c k C K p q = ltb-over 0 (X + Y) 0 (a + b) c k C K (zero-mul c ∙ sym (zero-mul k)) (omega (arith, p, q))
+below-over true X true Y a b c k C K p q = ltb-over Y X b a c k C K q p
+
+pub level-over : (s : Bool) (X : ℕ) (t : Bool) (Y a b c k : ℕ) → 0 < c → 0 < k → X * c ≡ a * k → Y * c ≡ b * k → level s X t Y ≡ level s a t b
+level-over s X t Y a b c k C K p q = λ i. eqb-over X Y a b c k C K p q i && (Bool·beq s t || eqb-over X 0 a 0 c k C K p (zero-mul c ∙ sym (zero-mul k)) i)
+
+-- by the two fractions
+over : {R : Type 0} (g : Float → Float → R) (w : Bool → ℕ → Bool → ℕ → R) → ((s : Bool) (m : ℕ) (e : ℤ) (t : Bool) (n : ℕ) (d : ℤ) → g (fin s m e) (fin t n d) ≡ w s (m * up e * down d) t (n * up d * down e))
+    → ((s : Bool) (X : ℕ) (t : Bool) (Y a b c k : ℕ) → 0 < c → 0 < k → X * c ≡ a * k → Y * c ≡ b * k → w s X t Y ≡ w s a t b)
+    → (x y : Float) (s : Bool) (a : ℕ) (t : Bool) (b c : ℕ) → 0 < c → HasValue x s a c → HasValue y t b c → g x y ≡ w s a t b
+over g w is same x y s a t b c C h k =
+    with-value (λ x. g x y ≡ w s a t b) x s a c h
+    (λ m e p. with-value (λ y. g (fin s m e) y ≡ w s a t b) y t b c k
+    (λ n d q. is s m e t n d
+    ∙ same s (m * up e * down d) t (n * up d * down e) a b c (down e * down d) C (mul-pos (down-pos e) (down-pos d)) (omega (arith, ap (λ (z : ℕ). z * down d) p)) (omega (arith, ap (λ (z : ℕ). z * down e) q))))
+
+pub lt-over : (x y : Float) (s : Bool) (a : ℕ) (t : Bool) (b c : ℕ) → 0 < c → HasValue x s a c → HasValue y t b c → lt x y ≡ below s a t b
+unfolding lt
+lt-over = over lt below (λ s m e t n d. refl) below-over
+
+pub eq-over : (x y : Float) (s : Bool) (a : ℕ) (t : Bool) (b c : ℕ) → 0 < c → HasValue x s a c → HasValue y t b c → eq x y ≡ level s a t b
+unfolding eq
+eq-over = over eq level (λ s m e t n d. refl) level-over
 
 -- ---- the order by cases
 pub inf-le : (x : Float) → T (not (isNan x)) → T (le (inf true) x)

@@ -23,7 +23,7 @@ use Rattle.numbers.proofs.floats.Patterns.{toBits-val, written-is}
 
 -- ---- distances, counted in the format's smallest values
 -- c times as far
-apart-scale : (a b c : ℕ) → apart (a * c) (b * c) ≡ apart a b * c
+pub apart-scale : (a b c : ℕ) → apart (a * c) (b * c) ≡ apart a b * c
 apart-scale a b c = elim (le-or-lt a b) [
   | inl l ↦
       let d = le-dest l in

@@ -2,7 +2,8 @@
 --     with-value            what holds of each finite value of the sign and the fraction holds of the value
 --     value-no-nan          it is no NaN
 --     same-value            it has one numerator over one denominator
---     add-value, mul-value  a sum and a product of two without a sign are the rounded sum and product of their fractions
+--     add-value             a sum of two without a sign is the rounded sum of their fractions
+--     mul-value             a product is the rounded product of them
 use mathlib.Core.Path.{_≡_, sym, ap, _∙_, subst}
 use mathlib.Core.Bool.{Bool, false, not}
 use Prim.Native.Nat.{ℕ, _+_, _*_, _<_}
@@ -10,7 +11,7 @@ use native.Mathlib.Nat.{mul-pos, mul-mul-mul-comm, eq-of-mul-eq-mul-right}
 use native.Mathlib.Omega.{arith}
 use lib.IntN.{ℤ}
 use lib.Dec.{T}
-use lib.Ieee.{Float, nan, inf, fin, Format, up, down, round, add, mul, isNan}
+use lib.Ieee.{Float, nan, inf, fin, Format, up, down, unlike, round, add, mul, isNan}
 use lib.Ieee.Fits.{down-pos}
 use lib.Ieee.Exact.{HasValue}
 use lib.Ieee.Scale.{round-same}
@@ -35,10 +36,10 @@ add-value f x y a b c C h k =
     (λ n d q. round-same f false (m * up e * down d + n * up d * down e) (down e * down d) (a + b) c (mul-pos (down-pos e) (down-pos d)) C
     (omega (arith, ap (λ (z : ℕ). z * down d) p, ap (λ (z : ℕ). z * down e) q))))
 
-pub mul-value : (f : Format) (x y : Float) (a c b d : ℕ) → 0 < c → 0 < d → HasValue x false a c → HasValue y false b d → mul f x y ≡ round f false (a * b) (c * d)
+pub mul-value : (f : Format) (x y : Float) (s t : Bool) (a c b d : ℕ) → 0 < c → 0 < d → HasValue x s a c → HasValue y t b d → mul f x y ≡ round f (unlike s t) (a * b) (c * d)
 unfolding mul
-mul-value f x y a c b d C D h k =
-    with-value (λ x. mul f x y ≡ round f false (a * b) (c * d)) x false a c h
-    (λ m e p. with-value (λ y. mul f (fin false m e) y ≡ round f false (a * b) (c * d)) y false b d k
-    (λ n g q. round-same f false (m * up e * (n * up g)) (down e * down g) (a * b) (c * d) (mul-pos (down-pos e) (down-pos g)) (mul-pos C D)
+mul-value f x y s t a c b d C D h k =
+    with-value (λ x. mul f x y ≡ round f (unlike s t) (a * b) (c * d)) x s a c h
+    (λ m e p. with-value (λ y. mul f (fin s m e) y ≡ round f (unlike s t) (a * b) (c * d)) y t b d k
+    (λ n g q. round-same f (unlike s t) (m * up e * (n * up g)) (down e * down g) (a * b) (c * d) (mul-pos (down-pos e) (down-pos g)) (mul-pos C D)
     (mul-mul-mul-comm (m * up e) (n * up g) c d ∙ (λ i. p i * q i) ∙ mul-mul-mul-comm a (down e) b (down g))))

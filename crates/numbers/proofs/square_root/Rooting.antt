@@ -130,7 +130,7 @@ larger x = mul binary64 x (ofBits binary64 4850376798678024192)
 
 larger-value : (x : Float) (N : ℕ) → HasValue x false N (2 ^ 1074) → N < 4503599627370496 → HasValue (larger x) false (N * 2 ^ 54) (2 ^ 1074)
 larger-value x N h l =
-    subst (λ (y : Float). HasValue y false (N * 2 ^ 54) (2 ^ 1074)) (sym (mul-value binary64 x (ofBits binary64 4850376798678024192) N (2 ^ 1074) (2 ^ 54) 1 (pow-pos 1074) (lit< tt) h scale-value))
+    subst (λ (y : Float). HasValue y false (N * 2 ^ 54) (2 ^ 1074)) (sym (mul-value binary64 x (ofBits binary64 4850376798678024192) false false N (2 ^ 1074) (2 ^ 54) 1 (pow-pos 1074) (lit< tt) h scale-value))
     (round-exact binary64 false (N * 2 ^ 54) (2 ^ 1074) N 54 (pow-pos 1074) (omega arith) (lt-of-lt-of-le (shl-lt 52 54 l) (lit≤ tt)) refl)
 
 small-value : (b : ℕ) → b < 4503599627370496 → HasValue (ofBits binary64 b) false b (2 ^ 1074)
