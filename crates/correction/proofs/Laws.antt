@@ -3,6 +3,7 @@ pub mod Answer
 pub mod Leaves
 pub mod Neighbourhood
 pub mod Finite
+pub mod RootCount
 pub mod Again
 pub mod Rewired
 pub mod Alike

@@ -1,8 +1,8 @@
 -- The pass: what it answers, and what it leaves in the stencil and in the samples, for every input. Definitions only.
 use mathlib.Core.Path.{_≡_}
-use Prim.Native.Nat.{ℕ, _*_, _/_, _%_}
+use Prim.Native.Nat.{ℕ, _-_, _*_, _/_, _%_}
 use mathlib.Core.Bool.{Bool, true, false, cond, not, _&&_, _||_}
-use mathlib.Core.List.{List}
+use mathlib.Core.List.{List, [], _∷_}
 use lib.Dec.{eqb}
 use lib.Ieee.{Float}
 use Rattle.correction.specs.declared.pass.Answer.{Answer}
@@ -20,6 +20,10 @@ use Rattle.correction.specs.Collapse.{collapsed}
 -- the texels of the bitmap
 unfoldable pub texels : Input → ℕ → ℕ → List Float
 texels i x y = texel (i .samples) (i .width) (i .channels) x y
+
+-- the four texels of the diagonal test of texel x, y against the one at column nx and row ny, counted from 1
+abbrev pub fourAt : Input → ℕ → ℕ → ℕ → ℕ → List (List Float)
+fourAt i x y nx ny = texels i x y ∷ texels i (nx - 1) y ∷ texels i x (ny - 1) ∷ texels i (nx - 1) (ny - 1) ∷ []
 
 -- EdgePriority: a corner protects texel x, y, whether an edge does or not; in no other mode does one.
 unfoldable pub cornered : Input → ℕ → ℕ → Bool

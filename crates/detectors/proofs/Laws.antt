@@ -1,6 +1,7 @@
 -- What the pass may know of the detectors.
 pub mod Texel
 pub mod Finite
+pub mod RootCount
 pub mod Falls
 pub mod Verdict
 pub mod Guard

@@ -59,9 +59,16 @@ curveMedian m t = medianOf (curveChannel m t 0) (curveChannel m t 1) (curveChann
 unfoldable pub middleDifference : List (List Float) → ℕ → Float
 middleDifference m p = sub binary32 (add binary32 (sub binary32 (ofB m (next p)) (ofB m p)) (ofC m (next p))) (ofC m p)
 
--- the roots of the pair quadratic, from the differences of a, of b and c, and of d
+-- the pair quadratic's coefficients, from the differences of a, of b and c, and of d: of t·t, and of t; the constant is that of a
+abbrev pub squareCoefficient : Float → Float → Float → Float
+squareCoefficient dA dBC dD = add binary32 (sub binary32 dD dBC) dA
+
+abbrev pub linearCoefficient : Float → Float → Float
+linearCoefficient dA dBC = sub binary32 (sub binary32 dBC dA) dA
+
+-- its roots
 unfoldable pub quadraticRoots : Float → Float → Float → List Float
-quadraticRoots dA dBC dD = rootsOf (add binary32 (sub binary32 dD dBC) dA) (sub binary32 (sub binary32 dBC dA) dA) dA
+quadraticRoots dA dBC dD = rootsOf (squareCoefficient dA dBC dD) (linearCoefficient dA dBC) dA
 
 unfoldable pub pairRoots : List (List Float) → ℕ → List Float
 pairRoots m p = quadraticRoots (difference (getD m 0 []) p) (middleDifference m p) (difference (getD m 3 []) p)

@@ -4,5 +4,6 @@ pub mod Verdict
 pub mod Pairs
 pub mod Linear
 pub mod Diagonal
+pub mod RootCount
 pub mod Edge
 pub mod Inner

@@ -27,7 +27,7 @@ use Rattle.ranges.proofs.Laws.Finite.{Span, AllFinite}
 use Rattle.detectors.proofs.Laws.Finite.{SmallTexel, SmallFour, linear-finite, diagonal-finite, upper-finite, lower-finite}
 use Rattle.correction.specs.Bitmap.{texel, inBounds}
 use Rattle.inputs.specs.Checks.{Input, badLength, oversize, refusalNumber, accepted}
-use Rattle.correction.specs.Pass.{texels}
+use Rattle.correction.specs.Pass.{texels, fourAt}
 use Rattle.correction.proofs.bitmap.Sizes.{lies}
 use Rattle.inputs.proofs.Laws.Checks.{sizes, Passed, passed, length-bounds, size-bounds}
 use Rattle.correction.proofs.bitmap.Places as places
@@ -85,10 +85,6 @@ unfolding diagonalSpan
 diagonal-span s p q = product-span (s .ratio) (s .diagonal) p q
 
 -- ---- the pass
--- the four texels of the diagonal test of texel x, y against the one at column nx and row ny, counted from 1
-abbrev pub fourAt : Input → ℕ → ℕ → ℕ → ℕ → List (List Float)
-fourAt i x y nx ny = texels i x y ∷ texels i (nx - 1) y ∷ texels i x (ny - 1) ∷ texels i (nx - 1) (ny - 1) ∷ []
-
 -- The tests of texel x, y against each neighbour at column nx and row ny, counted from 1, compare finite values at each t that is inside,
 -- and at each turning point e strictly between 0 and 1: `side` those of a side neighbour, `root` that of a diagonal one,
 -- `upper` and `lower` those with one end moved to e.
@@ -98,7 +94,7 @@ pub record Compares (i : Input) (x y : ℕ) : Type 0 where
   pub upper : (nx ny : ℕ) (t e : Float) → inBounds (i .width) (i .height) nx ny ≡ true → inside t ≡ true → lt (zeroOf binary64) e ≡ true → lt e (oneOf binary64) ≡ true → lt t e ≡ true → AllFinite (compared (diagonalSpan (i .settings)) (zeroOf binary64) e t (texelMedian (texels i x y)) (curveMedian (fourAt i x y nx ny) e) (curveMedian (fourAt i x y nx ny) t))
   pub lower : (nx ny : ℕ) (t e : Float) → inBounds (i .width) (i .height) nx ny ≡ true → inside t ≡ true → lt (zeroOf binary64) e ≡ true → lt e (oneOf binary64) ≡ true → lt t e ≡ false → AllFinite (compared (diagonalSpan (i .settings)) e (oneOf binary64) t (curveMedian (fourAt i x y nx ny) e) (texelMedian (texels i (nx - 1) (ny - 1))) (curveMedian (fourAt i x y nx ny) t))
 
-small-four : (i : Input) → Passed i → (x y nx ny : ℕ) → x < i .width → y < i .height → inBounds (i .width) (i .height) nx ny ≡ true → SmallFour (fourAt i x y nx ny)
+pub small-four : (i : Input) → Passed i → (x y nx ny : ℕ) → x < i .width → y < i .height → inBounds (i .width) (i .height) nx ny ≡ true → SmallFour (fourAt i x y nx ny)
 small-four i p x y nx ny inX inY e =
     let n = places.inside (i .width) (i .height) nx ny e in
     record {

@@ -1,6 +1,7 @@
 -- Results of operations on bounded values are finite and bounded. Assumes nothing.
 --     Within                                    x is finite, and at most 2 ^ k in size
 --     within-more, within-finite, within-no-nan  so it is with any larger bound, and it is finite and no NaN
+--     within-held                               so one that a format holds is a finite value of it
 --     neg-within, abs-within                    the negative and the size are as large
 --     min-within, max-within, median-within     what is chosen keeps the bound of all
 --     within-of-le, le-of-within                the bound as a comparison
@@ -23,6 +24,7 @@ use lib.Ieee.Order.{round-mono}
 use Rattle.numbers.specs.Constants.{zeroOf, oneOf}
 use Rattle.numbers.specs.Rounding.{narrowOf}
 use Rattle.numbers.specs.Nearest.{sumSize, sumSign}
+use Rattle.numbers.specs.RootCount.{Finite}
 use Rattle.numbers.specs.Scalar.{mixOf, minOf, maxOf, medianOf, absOf}
 use Rattle.numbers.proofs.floats.Differences.{summed, sum-size, round-neg, Signed, round-signed}
 use Rattle.numbers.proofs.Laws.Order.{AtMost, nought, one, finite, finite-number, le→at-most, at-most→le, number-right, le-of-lt, not-below, not-above}
@@ -48,6 +50,9 @@ within-finite k x w = within-cases finite k x w (λ s m e l. tt)
 
 pub within-no-nan : (k : ℕ) (x : Float) → Within k x → T (not (isNan x))
 within-no-nan k x w = finite-number x (within-finite k x w)
+
+pub within-held : (k : ℕ) (f : Format) (x : Float) → Within k x → T (fits f x) → Finite f x
+within-held k f x w = within-cases (λ x. T (fits f x) → Finite f x) k x w (λ s m e l p. p)
 
 -- ---- signs and selection
 pub neg-within : (k : ℕ) (x : Float) → Within k x → Within k (neg x)

@@ -1,0 +1,115 @@
+-- Of small texels a diagonal pair has as many roots as whole numbers say, and a side pair's crossing is divided by zero only where there is none. Assumes nothing.
+-- The count is that of the coefficients as they are stored: they are rounded differences, and where a root lies is rounded too.
+--     coefficients-finite             the pair quadratic's coefficients are finite values of binary32
+--     pair-roots-true                 so the number of its roots is the true one
+--     side-divisor                    the divisor of a side pair's crossing is zero just where the two differences are equal
+--     side-none                       and then no crossing is inside
+use mathlib.Core.Path.{_≡_, refl, sym, _∙_, subst}
+use mathlib.Core.Logic.{_⊎_, inl, inr}
+use mathlib.Core.Bool.{Bool, true, false, cond, false≢true}
+use mathlib.Core.List.{List, []}
+use Prim.Native.Nat.{ℕ, zero, suc, _*_, _<_}
+use native.Mathlib.Nat.{eq-zero-or-pos, mul-pos, zero-mul}
+use native.Mathlib.Omega.{arith}
+use lib.Dec.{eqb}
+use lib.ListN.{length, getD}
+use lib.Ieee.{Float, nan, inf, fin, binary32, binary64, up, down, unlike, add, sub, div, eq, lt, ofBits}
+use lib.Ieee.Fits.{up-pos, add-fits, sub-fits}
+use borrow.Author.Tests.{eqb-true}
+use Rattle.ground.proofs.Laws.Bools.{both-hold}
+use Rattle.numbers.specs.Constants.{zeroOf}
+use Rattle.numbers.specs.RootCount.{Finite}
+use Rattle.numbers.proofs.Laws.Order.{finite}
+use Rattle.numbers.proofs.Laws.Bounds.{Within, within-finite, within-held, add-within, sub-within}
+use Rattle.numbers.proofs.Laws.Difference.{sub-zero}
+use Rattle.numbers.proofs.Laws.RootCount.{count-true}
+use Rattle.detectors.specs.Texel.{channel}
+use Rattle.detectors.specs.Pairs.{inside, next, difference}
+use Rattle.detectors.specs.Linear.{crossing}
+use Rattle.detectors.specs.Diagonal.{middleDifference, squareCoefficient, linearCoefficient, quadraticRoots, pairRoots}
+use Rattle.detectors.specs.RootCount.{quadraticCount, pairCount}
+use Rattle.detectors.proofs.Laws.Finite.{SmallTexel, SmallFour}
+
+-- ---- a pair's differences
+-- both channels of pair p are at most 2 ^ 20 in size
+pair-within : (a : List Float) (p : ℕ) → SmallTexel a → p < 3 → Within 20 (channel a (next p)) × Within 20 (channel a p)
+unfolding next
+pair-within a zero s h = (s .first, s .zeroth)
+pair-within a (suc zero) s h = (s .second, s .first)
+pair-within a (suc (suc zero)) s h = (s .zeroth, s .second)
+pair-within a (suc (suc (suc p))) s h = absurd (omega arith)
+
+difference-within : (a : List Float) (p : ℕ) → SmallTexel a → p < 3 → Within 21 (difference a p)
+unfolding difference
+difference-within a p s h =
+    let w = pair-within a p s h in
+    sub-within binary32 20 20 20 (channel a (next p)) (channel a p) (omega arith) (omega arith) (omega arith) (w .0) (w .1)
+
+middle-within : (m : List (List Float)) (p : ℕ) → SmallFour m → p < 3 → Within 23 (middleDifference m p)
+unfolding middleDifference
+middle-within m p s h =
+    let b = getD m 1 [] in
+    let c = getD m 2 [] in
+    let v = pair-within b p (s .b) h in
+    let w = pair-within c p (s .c) h in
+    let d = sub binary32 (channel b (next p)) (channel b p) in
+    sub-within binary32 22 20 22 (add binary32 d (channel c (next p))) (channel c p) (omega arith) (omega arith) (omega arith)
+    (add-within binary32 21 20 21 d (channel c (next p)) (omega arith) (omega arith) (omega arith) (sub-within binary32 20 20 20 (channel b (next p)) (channel b p) (omega arith) (omega arith) (omega arith) (v .0) (v .1)) (w .0)) (w .1)
+
+difference-finite : (a : List Float) (p : ℕ) → SmallTexel a → p < 3 → Finite binary32 (difference a p)
+unfolding difference
+difference-finite a p s h = within-held 21 binary32 (difference a p) (difference-within a p s h) (sub-fits binary32 (channel a (next p)) (channel a p))
+
+-- ---- the diagonal pair
+pub record Coefficients (m : List (List Float)) (p : ℕ) : Type 0 where
+  pub square : Finite binary32 (squareCoefficient (difference (getD m 0 []) p) (middleDifference m p) (difference (getD m 3 []) p))
+  pub linear : Finite binary32 (linearCoefficient (difference (getD m 0 []) p) (middleDifference m p))
+  pub constant : Finite binary32 (difference (getD m 0 []) p)
+
+pub coefficients-finite : (m : List (List Float)) (p : ℕ) → SmallFour m → p < 3 → Coefficients m p
+coefficients-finite m p s h =
+    let dA = difference (getD m 0 []) p in
+    let dBC = middleDifference m p in
+    let dD = difference (getD m 3 []) p in
+    let u : Within 21 dA = difference-within (getD m 0 []) p (s .a) h in
+    let v : Within 23 dBC = middle-within m p s h in
+    let w : Within 21 dD = difference-within (getD m 3 []) p (s .d) h in
+    record {
+      square = within-held 25 binary32 _ (add-within binary32 24 21 24 (sub binary32 dD dBC) dA (omega arith) (omega arith) (omega arith) (sub-within binary32 21 23 23 dD dBC (omega arith) (omega arith) (omega arith) w v) u) (add-fits binary32 (sub binary32 dD dBC) dA);
+      linear = within-held 25 binary32 _ (sub-within binary32 24 21 24 (sub binary32 dBC dA) dA (omega arith) (omega arith) (omega arith) (sub-within binary32 23 21 23 dBC dA (omega arith) (omega arith) (omega arith) v u) u) (sub-fits binary32 (sub binary32 dBC dA) dA);
+      constant = difference-finite (getD m 0 []) p (s .a) h;
+    }
+
+pub pair-roots-true : (m : List (List Float)) (p : ℕ) → SmallFour m → p < 3 → length (pairRoots m p) ≡ pairCount m p
+unfolding pairRoots quadraticRoots pairCount quadraticCount
+pair-roots-true m p s h = let c = coefficients-finite m p s h in count-true _ _ _ (c .square) (c .linear) (c .constant)
+
+-- ---- the side pair
+pub side-divisor : (a b : List Float) (p : ℕ) → SmallTexel a → SmallTexel b → p < 3 → eq (sub binary32 (difference a p) (difference b p)) (zeroOf binary64) ≡ eq (difference a p) (difference b p)
+unfolding ofBits difference
+side-divisor a b p s t h =
+    sub-zero binary32 (difference a p) (difference b p) (sub-fits binary32 (channel a (next p)) (channel a p)) (sub-fits binary32 (channel b (next p)) (channel b p))
+    (within-finite 21 (difference a p) (difference-within a p s h)) (within-finite 21 (difference b p) (difference-within b p t h))
+
+-- no n above 0 is a zero's
+no-digits : (n u c : ℕ) → 0 < u → n * u * 1 ≡ 0 * 1 * c → n ≡ 0
+no-digits n u c U e = elim (eq-zero-or-pos n) [ inl z ↦ z | inr h ↦ absurd (omega (arith, mul-pos h U, zero-mul c, e)) ]
+
+-- a finite value divided by a zero is a NaN or an infinity
+by-zero-outside : (b w : Bool) → inside (cond b nan (inf w)) ≡ false
+unfolding inside lt ofBits
+by-zero-outside true w = refl
+by-zero-outside false true = refl
+by-zero-outside false false = refl
+
+by-zero : (x d : Float) → finite x → eq d (zeroOf binary64) ≡ true → inside (div binary64 x d) ≡ false
+unfolding eq div ofBits
+by-zero (fin s m e) nan i h = absurd (false≢true h)
+by-zero (fin s m e) (inf t) i h = absurd (false≢true h)
+by-zero (fin s m e) (fin t n g) i h =
+    let z : n ≡ 0 = no-digits n (up g) (down g) (up-pos g) (eqb-true _ _ (both-hold _ _ h .0)) in
+    subst (λ (k : ℕ). inside (div binary64 (fin s m e) (fin t k g)) ≡ false) (sym z) (by-zero-outside (eqb m 0) (unlike s t))
+
+pub side-none : (a b : List Float) (p : ℕ) → SmallTexel a → SmallTexel b → p < 3 → eq (difference a p) (difference b p) ≡ true → inside (crossing (difference a p) (difference b p)) ≡ false
+unfolding crossing
+side-none a b p s t h e = by-zero (difference a p) (sub binary32 (difference a p) (difference b p)) (within-finite 21 (difference a p) (difference-within a p s h)) (side-divisor a b p s t h ∙ e)
