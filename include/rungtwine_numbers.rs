@@ -62,7 +62,12 @@ pub fn sqrt(x: f64) -> f64 {
     unsafe { raw::rungtwine_sqrt(x) }
 }
 
-/// The number of roots of `a * t * t + b * t + c`, and each of up to two, 0 where there is none.
+/// How many roots `a * t * t + b * t + c` has by the solver's rule, 0 to 2. Of three finite f32 values it is the exact number.
+pub fn root_count(a: f64, b: f64, c: f64) -> usize {
+    unsafe { raw::rungtwine_root_count(a, b, c) }
+}
+
+/// That number, and each of up to two, 0 where there is none.
 pub fn roots(a: f64, b: f64, c: f64) -> (usize, f64, f64) {
     unsafe { (raw::rungtwine_root_count(a, b, c), raw::rungtwine_first_root(a, b, c), raw::rungtwine_second_root(a, b, c)) }
 }

@@ -5,7 +5,8 @@ use Prim.Native.Nat.{ℕ}
 use mathlib.Core.List.{List, []}
 use lib.ListN.{getD}
 use lib.Ieee.{Float, binary32}
-use Rattle.numbers.specs.RootCount.{wholeOf, trueCount}
+use Rattle.numbers.specs.Whole.{wholeOf}
+use Rattle.numbers.specs.RootCount.{trueCount}
 use Rattle.detectors.specs.Pairs.{difference}
 use Rattle.detectors.specs.Diagonal.{middleDifference, squareCoefficient, linearCoefficient}
 

@@ -1,6 +1,7 @@
 -- What the crates above may know of the numbers.
 pub mod Order
 pub mod Monotone
+pub mod Whole
 pub mod Exact
 pub mod Difference
 pub mod Bounds

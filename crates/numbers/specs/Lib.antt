@@ -5,5 +5,6 @@ pub mod Scalar
 pub mod Orders
 pub mod SquareRoot
 pub mod EquationSolver
+pub mod Whole
 pub mod RootCount
 pub mod Inner

@@ -5,7 +5,7 @@
 --     side-divisor                    the divisor of a side pair's crossing is zero just where the two differences are equal
 --     side-none                       and then no crossing is inside
 use mathlib.Core.Path.{_≡_, refl, sym, _∙_, subst}
-use mathlib.Core.Logic.{_⊎_, inl, inr}
+use mathlib.Core.Logic.{inl, inr}
 use mathlib.Core.Bool.{Bool, true, false, cond, false≢true}
 use mathlib.Core.List.{List, []}
 use Prim.Native.Nat.{ℕ, zero, suc, _*_, _<_}
@@ -18,7 +18,7 @@ use lib.Ieee.Fits.{up-pos, add-fits, sub-fits}
 use borrow.Author.Tests.{eqb-true}
 use Rattle.ground.proofs.Laws.Bools.{both-hold}
 use Rattle.numbers.specs.Constants.{zeroOf}
-use Rattle.numbers.specs.RootCount.{Finite}
+use Rattle.numbers.specs.Whole.{Finite}
 use Rattle.numbers.proofs.Laws.Order.{finite}
 use Rattle.numbers.proofs.Laws.Bounds.{Within, within-finite, within-held, add-within, sub-within}
 use Rattle.numbers.proofs.Laws.Difference.{sub-zero}
@@ -86,10 +86,8 @@ pair-roots-true m p s h = let c = coefficients-finite m p s h in count-true _ _ 
 
 -- ---- the side pair
 pub side-divisor : (a b : List Float) (p : ℕ) → SmallTexel a → SmallTexel b → p < 3 → eq (sub binary32 (difference a p) (difference b p)) (zeroOf binary64) ≡ eq (difference a p) (difference b p)
-unfolding ofBits difference
-side-divisor a b p s t h =
-    sub-zero binary32 (difference a p) (difference b p) (sub-fits binary32 (channel a (next p)) (channel a p)) (sub-fits binary32 (channel b (next p)) (channel b p))
-    (within-finite 21 (difference a p) (difference-within a p s h)) (within-finite 21 (difference b p) (difference-within b p t h))
+unfolding ofBits
+side-divisor a b p s t h = sub-zero binary32 (difference a p) (difference b p) (difference-finite a p s h) (difference-finite b p t h)
 
 -- no n above 0 is a zero's
 no-digits : (n u c : ℕ) → 0 < u → n * u * 1 ≡ 0 * 1 * c → n ≡ 0

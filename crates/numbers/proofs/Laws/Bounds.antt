@@ -24,7 +24,7 @@ use lib.Ieee.Order.{round-mono}
 use Rattle.numbers.specs.Constants.{zeroOf, oneOf}
 use Rattle.numbers.specs.Rounding.{narrowOf}
 use Rattle.numbers.specs.Nearest.{sumSize, sumSign}
-use Rattle.numbers.specs.RootCount.{Finite}
+use Rattle.numbers.specs.Whole.{Finite}
 use Rattle.numbers.specs.Scalar.{mixOf, minOf, maxOf, medianOf, absOf}
 use Rattle.numbers.proofs.floats.Differences.{summed, sum-size, round-neg, Signed, round-signed}
 use Rattle.numbers.proofs.Laws.Order.{AtMost, nought, one, finite, finite-number, le→at-most, at-most→le, number-right, le-of-lt, not-below, not-above}

@@ -1,11 +1,11 @@
 -- A rounded difference of two finite values of a format is positive, zero or negative exactly as the true one is: it is a whole number of the format's smallest values. Assumes nothing.
 --     sub-positive, sub-zero, sub-negative  x - y is above 0 just where y is below x, equals 0 just where they are equal, and is below 0 just where x is below y
 use mathlib.Core.Path.{_≡_, refl, sym, ap, _∙_, subst}
-use mathlib.Core.Logic.{_⊎_, inl, inr}
+use mathlib.Core.Logic.{inl, inr}
 use Prim.Native.Nat.{ℕ, zero, suc, _+_, _*_, _^_, _≤_, _<_, zero-le}
 use native.Mathlib.Nat.{le-trans, le-of-eq, lt-irrefl, zero-lt-suc, zero-mul, one-mul, mul-pos, eq-zero-or-pos}
 use native.Mathlib.Omega.{arith}
-use mathlib.Core.Bool.{Bool, true, false, not, _&&_, _||_, cond, Bool·beq, false≢true}
+use mathlib.Core.Bool.{Bool, true, false, not, _&&_, _||_, cond, Bool·beq}
 use lib.IntN.{ℤ, pos, negsuc}
 use lib.Dec.{T, ltb, eqb}
 use lib.Pow.{pow-pos}
@@ -15,10 +15,11 @@ use lib.Ieee.Order.{round-mono}
 use borrow.Author.Tests.{ltb-true, eqb-true, lt-ltb, le-ltb, eq-eqb, ne-eqb}
 use Rattle.ground.proofs.Laws.Bools.{both-ways, holds, held as is-held}
 use Rattle.numbers.specs.Nearest.{apart, sumSize, sumSign}
+use Rattle.numbers.specs.Whole.{Finite}
 use Rattle.numbers.proofs.floats.Differences.{or-split, of-at-most, of-below, of-not-below, of-level, summed, round-neg, round-signed, round-zero, Signed}
 use Rattle.numbers.proofs.floats.Distances.{apart-scale}
 use Rattle.numbers.proofs.floats.Held.{held, count}
-use Rattle.numbers.proofs.Laws.Order.{plus, minus, nought, finite, le→at-most, lt-over, eq-over}
+use Rattle.numbers.proofs.Laws.Order.{plus, minus, nought, le→at-most, lt-over, eq-over}
 use Rattle.numbers.proofs.Laws.Exact.{round-value}
 
 -- ---- a fraction of at least the smallest value rounds to a value that is not zero
@@ -127,96 +128,91 @@ counted : (same : Bool) (A B X Y c L : ℕ) → A * L ≡ X * c → B * L ≡ Y 
 counted true A B X Y c L a b = omega (arith, a, b)
 counted false A B X Y c L a b = sym (apart-scale A B L) ∙ (λ i. apart (a i) (b i)) ∙ apart-scale X Y c
 
--- ---- its sign is the order of the two
--- ±r is q - p
-record Between (u : Bool) (r p q : ℕ) : Type 0 where
-  above : p < q → (not u && ltb 0 r) ≡ true
-  above-back : (not u && ltb 0 r) ≡ true → p < q
-  same : p ≡ q → eqb r 0 ≡ true
-  same-back : eqb r 0 ≡ true → p ≡ q
-  under : q < p → (u && ltb 0 r) ≡ true
-  under-back : (u && ltb 0 r) ≡ true → q < p
-
-between : (u : Bool) (r p q : ℕ) → plus u r + p ≡ minus u r + q → Between u r p q
-between true r p q e = record {
-  above = λ h. absurd (omega arith);
-  above-back = λ h. absurd (false≢true h);
-  same = λ h. eq-eqb r 0 (omega arith);
-  same-back = λ h. omega (arith, eqb-true r 0 h);
-  under = λ h. lt-ltb 0 r (omega arith);
-  under-back = λ h. omega (arith, ltb-true 0 r h);
-}
-between false r p q e = record {
-  above = λ h. lt-ltb 0 r (omega arith);
-  above-back = λ h. omega (arith, ltb-true 0 r h);
-  same = λ h. eq-eqb r 0 (omega arith);
-  same-back = λ h. omega (arith, eqb-true r 0 h);
-  under = λ h. absurd (omega arith);
-  under-back = λ h. absurd (false≢true h);
-}
-
-to-below : (s : Bool) (a : ℕ) (t : Bool) (b : ℕ) → plus s a + minus t b < plus t b + minus s a → below s a t b ≡ true
-to-below s a t b h = go (below s a t b) (of-not-below s a t b)
-  where
-    go : (x : Bool) → (T (not x) → plus t b + minus s a ≤ plus s a + minus t b) → x ≡ true
-    go true k = refl
-    go false k = absurd (omega (arith, k tt))
-
-to-level : (s : Bool) (a : ℕ) (t : Bool) (b : ℕ) → plus s a + minus t b ≡ plus t b + minus s a → level s a t b ≡ true
-to-level s a t b h = elim (or-split (below s a t b) (level s a t b) (of-at-most s a t b (le-of-eq h))) [
-  | inl l ↦ absurd (omega (arith, of-below s a t b l))
-  | inr l ↦ is-held (level s a t b) l
-]
-
--- the sum of ±a and the negative of ±b
-turned : (t : Bool) (b : ℕ) → (plus (not t) b ≡ minus t b) × (minus (not t) b ≡ plus t b)
-turned true b = (refl, refl)
-turned false b = (refl, refl)
-
-signs-of : (f : Format) (s : Bool) (m : ℕ) (e : ℤ) (t : Bool) (n : ℕ) (d : ℤ) → T (fits f (fin s m e)) → T (fits f (fin t n d))
-    → (u : Bool) × (r : ℕ) × Signs (sub f (fin s m e) (fin t n d)) u r × Between u r (minus s (m * up e * down d) + plus t (n * up d * down e)) (plus s (m * up e * down d) + minus t (n * up d * down e))
+sub-signs : (f : Format) (s : Bool) (m : ℕ) (e : ℤ) (t : Bool) (n : ℕ) (d : ℤ) → T (fits f (fin s m e)) → T (fits f (fin t n d))
+    → let a = m * up e * down d in
+    let b = n * up d * down e in
+    Signs (sub f (fin s m e) (fin t n d)) (sumSign s a (not t) b) (sumSize s a (not t) b)
 unfolding sub add neg
-signs-of f s m e t n d p q =
+sub-signs f s m e t n d p q =
     let a = m * up e * down d in
     let b = n * up d * down e in
     let c = down e * down d in
     let h = held f s m e p in
     let k = held f t n d q in
-    let w = summed f s a (not t) b c in
     let u = sumSign s a (not t) b in
     let r = sumSize s a (not t) b in
-    (u, r,
-    subst (λ (v : Float). Signs v u r) (sym (w .is))
+    let same = Bool·beq s (not t) in
+    let x = count f m e h in
+    let y = count f n d k in
+    subst (λ (v : Float). Signs v u r) (sym (summed f s a (not t) b c .is))
     (round-signs f u r c (mul-pos (down-pos e) (down-pos d))
-    (one-at-least r (cond (Bool·beq s (not t)) (count f m e h + count f n d k) (apart (count f m e h) (count f n d k))) c (2 ^ low f) (pow-pos (low f))
-    (counted (Bool·beq s (not t)) a b (count f m e h) (count f n d k) c (2 ^ low f) (omega (arith, ap (λ (x : ℕ). x * down d) (h .value))) (omega (arith, ap (λ (x : ℕ). x * down e) (k .value)))))),
-    between u r (minus s a + plus t b) (plus s a + minus t b) (omega (arith, w .value, turned t b .0, turned t b .1)))
+    (one-at-least r (cond same (x + y) (apart x y)) c (2 ^ low f) (pow-pos (low f))
+    (counted same a b x y c (2 ^ low f) (omega (arith, ap (λ (z : ℕ). z * down d) (h .value))) (omega (arith, ap (λ (z : ℕ). z * down e) (k .value))))))
+
+-- ---- and its sign is the order of the two
+-- ±a and ±b compare as plain numbers, what is negative being brought to the other side
+below-is : (s : Bool) (a : ℕ) (t : Bool) (b : ℕ) → below s a t b ≡ ltb (plus s a + minus t b) (plus t b + minus s a)
+below-is s a t b = go (below s a t b) (of-below s a t b) (of-not-below s a t b)
+  where
+    go : (x : Bool) → (T x → plus s a + minus t b < plus t b + minus s a) → (T (not x) → plus t b + minus s a ≤ plus s a + minus t b) → x ≡ ltb (plus s a + minus t b) (plus t b + minus s a)
+    go true h k = sym (lt-ltb _ _ (h tt))
+    go false h k = sym (le-ltb _ _ (k tt))
+
+level-is : (s : Bool) (a : ℕ) (t : Bool) (b : ℕ) → level s a t b ≡ eqb (plus s a + minus t b) (plus t b + minus s a)
+level-is s a t b = both-ways (level s a t b) (eqb x y) (λ h. eq-eqb x y (of-level s a t b (holds (level s a t b) h))) (λ h. back (eqb-true x y h))
+  where
+    x : ℕ
+    x = plus s a + minus t b
+
+    y : ℕ
+    y = plus t b + minus s a
+
+    back : x ≡ y → level s a t b ≡ true
+    back e = elim (or-split (below s a t b) (level s a t b) (of-at-most s a t b (le-of-eq e))) [
+      | inl l ↦ absurd (omega (arith, of-below s a t b l))
+      | inr l ↦ is-held (level s a t b) l
+    ]
+
+-- ±r is q - p
+record Ordered (u : Bool) (r p q : ℕ) : Type 0 where
+  positive : (not u && ltb 0 r) ≡ ltb p q
+  zero : eqb r 0 ≡ eqb q p
+  negative : (u && ltb 0 r) ≡ ltb q p
+
+ordered : (u : Bool) (r p q : ℕ) → plus u r + p ≡ minus u r + q → Ordered u r p q
+ordered true r p q e = record {
+  positive = sym (le-ltb p q (omega arith));
+  zero = both-ways (eqb r 0) (eqb q p) (λ h. eq-eqb q p (omega (arith, eqb-true r 0 h))) (λ h. eq-eqb r 0 (omega (arith, eqb-true q p h)));
+  negative = both-ways (ltb 0 r) (ltb q p) (λ h. lt-ltb q p (omega (arith, ltb-true 0 r h))) (λ h. lt-ltb 0 r (omega (arith, ltb-true q p h)));
+}
+ordered false r p q e = record {
+  positive = both-ways (ltb 0 r) (ltb p q) (λ h. lt-ltb p q (omega (arith, ltb-true 0 r h))) (λ h. lt-ltb 0 r (omega (arith, ltb-true p q h)));
+  zero = both-ways (eqb r 0) (eqb q p) (λ h. eq-eqb q p (omega (arith, eqb-true r 0 h))) (λ h. eq-eqb r 0 (omega (arith, eqb-true q p h)));
+  negative = sym (le-ltb q p (omega arith));
+}
+
+sum-ordered : (s : Bool) (a : ℕ) (t : Bool) (b : ℕ) → Ordered (sumSign s a (not t) b) (sumSize s a (not t) b) (plus t b + minus s a) (plus s a + minus t b)
+sum-ordered s a t b = ordered (sumSign s a (not t) b) (sumSize s a (not t) b) (plus t b + minus s a) (plus s a + minus t b) (omega (arith, summed binary64 s a (not t) b 1 .value, turned t .0, turned t .1))
+  where
+    turned : (t : Bool) → (plus (not t) b ≡ minus t b) × (minus (not t) b ≡ plus t b)
+    turned true = (refl, refl)
+    turned false = (refl, refl)
 
 -- ---- the three laws
-by-finite : (P : Float → Float → Type 0) (f : Format) → ((s : Bool) (m : ℕ) (e : ℤ) (t : Bool) (n : ℕ) (d : ℤ) → T (fits f (fin s m e)) → T (fits f (fin t n d)) → P (fin s m e) (fin t n d))
-    → (x y : Float) → T (fits f x) → T (fits f y) → finite x → finite y → P x y
-by-finite P f k (fin s m e) (fin t n d) p q i j = k s m e t n d p q
-
-pub sub-positive : (f : Format) (x y : Float) → T (fits f x) → T (fits f y) → finite x → finite y → lt nought (sub f x y) ≡ lt y x
-sub-positive f = by-finite (λ x y. lt nought (sub f x y) ≡ lt y x) f (λ s m e t n d p q.
+pub sub-positive : (f : Format) (x y : Float) → Finite f x → Finite f y → lt nought (sub f x y) ≡ lt y x
+sub-positive f (fin s m e) (fin t n d) p q =
     let a = m * up e * down d in
     let b = n * up d * down e in
-    let w = signs-of f s m e t n d p q in
-    let z = w .3 in
-    w .2 .positive ∙ unfold lt in both-ways (not (w .0) && ltb 0 (w .1)) (below t b s a) (λ h. to-below t b s a (omega (arith, z .above-back h))) (λ h. z .above (omega (arith, of-below t b s a (holds (below t b s a) h)))))
+    sub-signs f s m e t n d p q .positive ∙ sum-ordered s a t b .positive ∙ sym (unfold lt in below-is t b s a)
 
-pub sub-zero : (f : Format) (x y : Float) → T (fits f x) → T (fits f y) → finite x → finite y → eq (sub f x y) nought ≡ eq x y
-sub-zero f = by-finite (λ x y. eq (sub f x y) nought ≡ eq x y) f (λ s m e t n d p q.
+pub sub-zero : (f : Format) (x y : Float) → Finite f x → Finite f y → eq (sub f x y) nought ≡ eq x y
+sub-zero f (fin s m e) (fin t n d) p q =
     let a = m * up e * down d in
     let b = n * up d * down e in
-    let w = signs-of f s m e t n d p q in
-    let z = w .3 in
-    w .2 .zero ∙ unfold eq in both-ways (eqb (w .1) 0) (level s a t b) (λ h. to-level s a t b (omega (arith, z .same-back h))) (λ h. z .same (omega (arith, of-level s a t b (holds (level s a t b) h)))))
+    sub-signs f s m e t n d p q .zero ∙ sum-ordered s a t b .zero ∙ sym (unfold eq in level-is s a t b)
 
-pub sub-negative : (f : Format) (x y : Float) → T (fits f x) → T (fits f y) → finite x → finite y → lt (sub f x y) nought ≡ lt x y
-sub-negative f = by-finite (λ x y. lt (sub f x y) nought ≡ lt x y) f (λ s m e t n d p q.
+pub sub-negative : (f : Format) (x y : Float) → Finite f x → Finite f y → lt (sub f x y) nought ≡ lt x y
+sub-negative f (fin s m e) (fin t n d) p q =
     let a = m * up e * down d in
     let b = n * up d * down e in
-    let w = signs-of f s m e t n d p q in
-    let z = w .3 in
-    w .2 .negative ∙ unfold lt in both-ways (w .0 && ltb 0 (w .1)) (below s a t b) (λ h. to-below s a t b (omega (arith, z .under-back h))) (λ h. z .under (omega (arith, of-below s a t b (holds (below s a t b) h)))))
+    sub-signs f s m e t n d p q .negative ∙ sum-ordered s a t b .negative ∙ sym (unfold lt in below-is s a t b)

@@ -4,7 +4,6 @@
 --     mul-held, mul-by-one           a product whose exact value the format holds is that value, so one with 1 is the value
 --     Short                          x is ±n / 2 ^ l, n is a number of at most p digits with zeros after it, and x is below 2 ^ t in size
 --     mul-short                      the product in binary64 of two such is exact where the digits of both are at most 53 and their scales fit: nothing underflows or overflows
---     steps-value                    a value that a format holds is a whole number of its smallest values
 --     single-short                   a finite value of binary32 has at most 24 digits, counted in 2 ^ -149, and is below 2 ^ 128
 --     mul-exact                      so the product in binary64 of two finite values of binary32 is exact
 --     Adds                           x + y = v, as whole numbers over the product of the three denominators: what is positive on either side and negative on the other
@@ -13,26 +12,27 @@
 --     add-exact-eq, sub-exact-eq     so they equal any value of the format that they are exactly, a zero of either sign
 --     add-zero-eq, add-zero-nonzero  a value with a zero added equals itself, and one that is not zero is itself
 use mathlib.Core.Path.{_≡_, refl, sym, ap, _∙_, subst}
-use Prim.Native.Nat.{ℕ, zero, suc, _+_, _-_, _*_, _/_, _^_, _≤_, _<_}
-use native.Mathlib.Nat.{le-refl, le-of-eq, le-of-lt, lt-of-le-of-lt, lt-of-lt-of-le, zero-lt-suc, zero-mul, mul-pos, mul-assoc, mul-mul-mul-comm, mul-le-mul, mul-lt-mul-of-pos-right, mul-div-cancel, eq-of-mul-eq-mul-right}
+use Prim.Native.Nat.{ℕ, zero, suc, _+_, _-_, _*_, _^_, _≤_, _<_}
+use native.Mathlib.Nat.{le-refl, le-of-eq, le-of-lt, lt-of-le-of-lt, lt-of-lt-of-le, zero-lt-suc, zero-mul, mul-pos, mul-assoc, mul-mul-mul-comm, mul-le-mul, mul-lt-mul-of-pos-right, eq-of-mul-eq-mul-right}
 use native.Mathlib.Omega.{arith}
 use mathlib.Core.Bool.{Bool, true, false, not}
 use lib.IntN.{ℤ, pos}
 use lib.Dec.{T, lit≤}
 use lib.Pow.{pow-add, pow-pos, pow-mono, shl-lt}
-use lib.Ieee.{Float, nan, inf, fin, Format, binary32, binary64, low, up, down, unlike, round, add, sub, mul, neg, eq, fits, isNan, ofBits}
+use lib.Ieee.{Float, nan, inf, fin, Format, binary32, binary64, up, down, unlike, round, add, sub, mul, neg, eq, fits, isNan, ofBits}
 use lib.Ieee.Fits.{up-pos, down-pos, round-fits}
 use lib.Ieee.Exact.{HasValue, round-exact}
 use lib.Ieee.Scale.{round-same}
 use Rattle.numbers.specs.Constants.{oneOf}
 use Rattle.numbers.specs.Rounding.{narrowOf}
 use Rattle.numbers.specs.Nearest.{sumSize, sumSign}
-use Rattle.numbers.specs.RootCount.{steps}
+use Rattle.numbers.specs.Whole.{steps}
 use Rattle.numbers.proofs.floats.Differences.{scale-plus, scale-minus, summed, unlike-false, zero-of}
 use Rattle.numbers.proofs.Laws.Order.{plus, minus, eq-refl, eq-zeros}
+use Rattle.numbers.proofs.Laws.Whole.{steps-is, steps-value}
 use Rattle.numbers.proofs.floats.Values.{with-value, mul-value}
 use Rattle.numbers.proofs.floats.Patterns.{shifted}
-use Rattle.numbers.proofs.floats.Held.{held, count, value-unique}
+use Rattle.numbers.proofs.floats.Held.{held, value-unique}
 
 -- ---- rounding
 pub round-held : (f : Format) (s : Bool) (m : ℕ) (e : ℤ) → T (fits f (fin s m e)) → round f s (m * up e) (down e) ≡ fin s m e
@@ -113,13 +113,6 @@ mul-short p q k l t u x y s r n o P L U a b =
           (sym (mul-value binary64 x y s r n (2 ^ k) o (2 ^ l) (pow-pos k) (pow-pos l) (a .value) (b .value) ∙ ap (round binary64 (unlike s r) (n * o)) (sym (pow-add 2 k l))))
           (round-exact binary64 (unlike s r) (n * o) (2 ^ (k + l)) d (z + (1074 - (k + l))) (pow-pos (k + l)) (lt-of-lt-of-le few (pow-mono {i = p + q} {j = 53} P)) (brought-fine (n * o) d z (k + l) (t + u) L U is fine) (brought (n * o) d z (k + l) L is));
     }
-
--- a value that a format holds is counted by its smallest values
-steps-is : (f : Format) (s : Bool) (m : ℕ) (e : ℤ) (p : T (fits f (fin s m e))) → steps f m e ≡ count f m e (held f s m e p)
-steps-is f s m e p = let h = held f s m e p in ap (λ (x : ℕ). x / down e) (h .value) ∙ mul-div-cancel (count f m e h) (down-pos e)
-
-pub steps-value : (f : Format) (s : Bool) (m : ℕ) (e : ℤ) → T (fits f (fin s m e)) → HasValue (fin s m e) s (steps f m e) (2 ^ low f)
-steps-value f s m e p = let h = held f s m e p in (refl, h .value ∙ ap (λ (x : ℕ). x * down e) (sym (steps-is f s m e p)))
 
 pub single-short : (s : Bool) (m : ℕ) (e : ℤ) → T (fits binary32 (fin s m e)) → Short 24 149 128 (fin s m e) s (steps binary32 m e)
 single-short s m e p =

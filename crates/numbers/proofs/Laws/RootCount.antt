@@ -1,6 +1,4 @@
 -- The number of roots is the true one: of three finite values of binary32 the solver gives as many as whole numbers say, with nothing lost to rounding. Assumes nothing.
---     whole-of-value, whole-of-bits    the whole number that a value is, from its fraction and from its pattern
---     finite-of-bits                   a pattern whose exponent's field is not all ones is a finite value's
 --     dominance-exact                  10^12 times a value of binary32 is exact in binary64
 --     square-exact, product-exact      so are b·b and (4·a)·c: nothing is rounded, underflows or overflows
 --     linear-true                      so the linear rule applies exactly when a is 0 or |b| exceeds 10^12·|a|
@@ -9,57 +7,34 @@
 --     count-true, bits-true            together: how many roots there are, from the values and from their patterns
 --     solver-true                      what the public solver's promise makes of it
 --     count-scale                      the scale at which the three are whole numbers does not matter
+--     count-figures                    evaluated: (1, −3, 2), (1, 2, 1), (1, 1, 1) and (0, 0, 0) have two, one, none and none
 --     missed, invented, misruled       of values of binary64 it is not so: one root where there are two, one where there is none, and the wrong rule
 use mathlib.Core.Path.{_≡_, refl, sym, ap, _∙_, subst}
-use mathlib.Core.Logic.{_⊎_, inl, inr}
-use Prim.Native.Nat.{ℕ, zero, suc, _+_, _-_, _*_, _/_, _%_, _^_, _≤_, _<_}
-use native.Mathlib.Nat.{lt-irrefl, le-of-lt, le-of-eq, zero-lt-suc, eq-zero-or-pos, eq-or-lt-of-le, mul-pos, mul-one, mul-zero, mul-div-cancel, zero-mul}
+use mathlib.Core.Logic.{inl, inr}
+use Prim.Native.Nat.{ℕ, zero, suc, _+_, _-_, _*_, _^_, _≤_, _<_}
+use native.Mathlib.Nat.{le-of-lt, le-of-eq, zero-lt-suc, eq-zero-or-pos, eq-or-lt-of-le, mul-pos, mul-zero, zero-mul}
 use native.Mathlib.Omega.{arith}
-use mathlib.Core.Bool.{Bool, true, false, not, _&&_, _||_, Bool·beq, cond}
+use mathlib.Core.Bool.{Bool, true, false, _&&_, _||_, Bool·beq, cond}
 use mathlib.Core.List.{List, [], _∷_}
-use lib.IntN.{ℤ, pos, negsuc, negℤ, negℤ-negℤ, natAbs, subℕ, _+ℤ_, _-ℤ_, _*ℤ_}
-use lib.Dec.{T, ltb, eqb, leb, lit<, lit≤}
+use lib.IntN.{ℤ, pos, negsuc, negℤ, negℤ-negℤ, natAbs, _+ℤ_, _-ℤ_, _*ℤ_}
+use lib.Dec.{T, ltb, eqb, lit<, lit≤}
 use lib.ListN.{length}
 use lib.Pow.{pow-pos}
-use lib.Ieee.{Float, nan, inf, fin, Format, binary32, binary64, prec, low, up, down, hid, top, ones, unlike, odd, below, level, lt, eq, mul, sub, div, neg, fits, ofFields, ofBits}
-use lib.Ieee.Fits.{down-pos, mul-fits}
-use lib.Ieee.Exact.{HasValue, odd-sign}
-use lib.Ieee.Bits.{ofBits-fits}
-use borrow.Author.Tests.{ltb-true, eqb-true, lt-ltb, le-ltb, eq-eqb, ne-eqb}
+use lib.Ieee.{Float, fin, binary32, binary64, unlike, below, level, lt, eq, mul, sub, div, neg, fits, ofBits}
+use lib.Ieee.Fits.{mul-fits}
+use lib.Ieee.Exact.{HasValue}
+use borrow.Author.Tests.{lt-ltb, le-ltb, eq-eqb, ne-eqb}
 use Rattle.numbers.specs.Constants.{zeroOf, dominance, two, four}
 use Rattle.numbers.specs.Scalar.{absOf}
 use Rattle.numbers.specs.SquareRoot.{sqrtOf}
 use Rattle.numbers.specs.EquationSolver.{isLinear, linearRoots, discriminant, upperRoot, lowerRoot, squareRoots, rootsOf, Listed}
-use Rattle.numbers.specs.RootCount.{Finite, signed, steps, wholeOf, FiniteBits, stepsOfFields, wholeOfBits, trueLinear, trueDiscriminant, squareCount, linearCount, trueCount}
+use Rattle.numbers.specs.Whole.{Finite, signed, steps, wholeOf, FiniteBits, wholeOfBits}
+use Rattle.numbers.specs.RootCount.{trueLinear, trueDiscriminant, squareCount, linearCount, trueCount}
 use Rattle.numbers.proofs.floats.Compared.{le-or-lt}
-use Rattle.numbers.proofs.floats.Values.{with-value}
-use Rattle.numbers.proofs.Laws.Order.{nought, finite, abs-fits, lt-over, eq-over, ltb-over, eqb-over, below-over, level-over}
-use Rattle.numbers.proofs.Laws.Exact.{Short, mul-short, single-short, steps-value}
+use Rattle.numbers.proofs.Laws.Order.{nought, abs-fits, lt-over, eq-over, ltb-over, eqb-over, below-over, level-over}
+use Rattle.numbers.proofs.Laws.Whole.{value-held, steps-value, whole-of-bits, finite-of-bits, abs-signed}
+use Rattle.numbers.proofs.Laws.Exact.{Short, mul-short, single-short}
 use Rattle.numbers.proofs.Laws.Difference.{sub-positive, sub-zero, sub-negative}
-
--- ---- whole numbers
-pub whole-of-value : (f : Format) (x : Float) (s : Bool) (a : ℕ) → HasValue x s a (2 ^ low f) → wholeOf f x ≡ signed s a
-unfolding wholeOf
-whole-of-value f x s a h = with-value (λ x. wholeOf f x ≡ signed s a) x s a (2 ^ low f) h (λ m e p. ap (signed s) (ap (λ (k : ℕ). k / down e) p ∙ mul-div-cancel a (down-pos e)))
-
-fields-value : (f : Format) (s : Bool) (x t : ℕ) → x < ones f → HasValue (ofFields f s x t) s (stepsOfFields f x t) (2 ^ low f)
-unfolding ofFields
-fields-value f s zero t h = subst (λ (k : ℕ). HasValue (odd (prec f) s t 0 (low f)) s k (2 ^ low f)) (mul-one t) (odd-sign (prec f) s t 0 (low f))
-fields-value f s (suc x) t h =
-    subst (λ (b : Bool). HasValue (cond b (cond (eqb t 0) (inf s) nan) (odd (prec f) s (hid f + t) x (low f))) s ((hid f + t) * 2 ^ x) (2 ^ low f))
-    (sym (ne-eqb (suc x) (ones f) (λ e. lt-irrefl (ones f) (subst (λ (k : ℕ). k < ones f) e h)))) (odd-sign (prec f) s (hid f + t) x (low f))
-
-bits-value : (f : Format) (b : ℕ) → FiniteBits f b → HasValue (ofBits f b) (leb (top f) b) (stepsOfFields f (b % top f / hid f) (b % hid f)) (2 ^ low f)
-unfolding ofBits
-bits-value f b h = fields-value f (leb (top f) b) (b % top f / hid f) (b % hid f) h
-
-pub whole-of-bits : (f : Format) (b : ℕ) → FiniteBits f b → wholeOf f (ofBits f b) ≡ wholeOfBits f b
-unfolding wholeOfBits
-whole-of-bits f b h = whole-of-value f (ofBits f b) (leb (top f) b) (stepsOfFields f (b % top f / hid f) (b % hid f)) (bits-value f b h)
-
-pub finite-of-bits : (f : Format) (b : ℕ) → FiniteBits f b → Finite f (ofBits f b)
-finite-of-bits f b h =
-    with-value (λ x. T (fits f x) → Finite f x) (ofBits f b) (leb (top f) b) (stepsOfFields f (b % top f / hid f) (b % hid f)) (2 ^ low f) (bits-value f b h) (λ m e p q. q) (ofBits-fits f b)
 
 -- ---- the products, each exact
 false-unlike : (s : Bool) → unlike false s ≡ s
@@ -102,11 +77,6 @@ product-exact s m e t n d p q =
     (mul-short 1 24 0 149 3 128 four (fin s m e) false s 4 x (lit≤ tt) (lit≤ tt) (lit≤ tt) four-short (single-short s m e p)) (single-short t n d q) .value)
 
 -- ---- the linear rule
-abs-signed : (s : Bool) (n : ℕ) → natAbs (signed s n) ≡ n
-abs-signed false n = refl
-abs-signed true zero = refl
-abs-signed true (suc n) = refl
-
 -- a value is zero just where its whole number is
 zero-true : (x : Float) → Finite binary32 x → eq x (zeroOf binary64) ≡ eqb (natAbs (wholeOf binary32 x)) 0
 unfolding wholeOf ofBits
@@ -184,9 +154,9 @@ count-plus y x = ap (λ (z : ℤ). squareCount (pos x +ℤ z)) (negℤ-negℤ (p
 count-minus : (y x : ℕ) → squareCount (pos x -ℤ signed false y) ≡ bySizes false y x
 count-minus y x = elim (le-or-lt y x) [
   | inl h ↦ ap squareCount (minus-le x y h) ∙ square-count-pos (x - y) ∙ elim (eq-or-lt-of-le h) [
-      | inl e ↦ (λ i. cond (le-ltb 0 (x - y) (omega arith) i) 2 1) ∙ sym (λ i. cond (le-ltb y x (omega arith) i) 2 (cond (eq-eqb x y (sym e) i && true) 1 0))
-      | inr l ↦ (λ i. cond (lt-ltb 0 (x - y) (omega arith) i) 2 1) ∙ sym (λ i. cond (lt-ltb y x l i) 2 (cond (level false x false y) 1 0))
-    ]
+    | inl e ↦ (λ i. cond (le-ltb 0 (x - y) (omega arith) i) 2 1) ∙ sym (λ i. cond (le-ltb y x (omega arith) i) 2 (cond (eq-eqb x y (sym e) i && true) 1 0))
+    | inr l ↦ (λ i. cond (lt-ltb 0 (x - y) (omega arith) i) 2 1) ∙ sym (λ i. cond (lt-ltb y x l i) 2 (cond (level false x false y) 1 0))
+  ]
   | inr h ↦ ap squareCount (minus-gt x y h) ∙ square-count-negsuc (y - suc x) ∙ sym (λ i. cond (le-ltb y x (le-of-lt h) i) 2 (cond (ne-eqb x y (λ e. absurd (omega arith)) i && true) 1 0))
 ]
 
@@ -194,31 +164,43 @@ count-signed : (w : Bool) (y x : ℕ) → squareCount (pos x -ℤ signed w y) �
 count-signed true y x = count-plus y x
 count-signed false y x = count-minus y x
 
--- the rounded discriminant's sign is the order of the two exact products
-value-finite : (x : Float) (s : Bool) (a c : ℕ) → HasValue x s a c → finite x
-value-finite x s a c h = with-value finite x s a c h (λ m e p. tt)
+-- the rounded discriminant's sign is the order of the two exact products, 4ac with its sign and b·b
+module _ (s : Bool) (m : ℕ) (e : ℤ) (t : Bool) (n : ℕ) (d : ℤ) (u : Bool) (o : ℕ) (g : ℤ) (p : T (fits binary32 (fin s m e))) (q : T (fits binary32 (fin t n d))) (r : T (fits binary32 (fin u o g))) where
+  abbrev ac : Float
+  ac = mul binary64 (mul binary64 four (fin s m e)) (fin u o g)
 
-pub discriminant-positive : (s : Bool) (m : ℕ) (e : ℤ) (t : Bool) (n : ℕ) (d : ℤ) (u : Bool) (o : ℕ) (g : ℤ) → T (fits binary32 (fin s m e)) → T (fits binary32 (fin t n d)) → T (fits binary32 (fin u o g))
-    → lt (zeroOf binary64) (discriminant (fin s m e) (fin t n d) (fin u o g)) ≡ below (unlike s u) (4 * steps binary32 m e * steps binary32 o g) false (steps binary32 n d * steps binary32 n d)
-unfolding discriminant ofBits
-discriminant-positive s m e t n d u o g p q r =
-    let bb = mul binary64 (fin t n d) (fin t n d) in
-    let ac = mul binary64 (mul binary64 four (fin s m e)) (fin u o g) in
-    let h = square-exact t n d q in
-    let k = product-exact s m e u o g p r in
-    sub-positive binary64 bb ac (mul-fits binary64 (fin t n d) (fin t n d)) (mul-fits binary64 (mul binary64 four (fin s m e)) (fin u o g)) (value-finite bb _ _ _ h) (value-finite ac _ _ _ k)
-    ∙ lt-over ac bb (unlike s u) (4 * steps binary32 m e * steps binary32 o g) false (steps binary32 n d * steps binary32 n d) (2 ^ 298) (pow-pos 298) k h
+  abbrev bb : Float
+  bb = mul binary64 (fin t n d) (fin t n d)
 
-pub discriminant-zero : (s : Bool) (m : ℕ) (e : ℤ) (t : Bool) (n : ℕ) (d : ℤ) (u : Bool) (o : ℕ) (g : ℤ) → T (fits binary32 (fin s m e)) → T (fits binary32 (fin t n d)) → T (fits binary32 (fin u o g))
-    → eq (discriminant (fin s m e) (fin t n d) (fin u o g)) (zeroOf binary64) ≡ level false (steps binary32 n d * steps binary32 n d) (unlike s u) (4 * steps binary32 m e * steps binary32 o g)
-unfolding discriminant ofBits
-discriminant-zero s m e t n d u o g p q r =
-    let bb = mul binary64 (fin t n d) (fin t n d) in
-    let ac = mul binary64 (mul binary64 four (fin s m e)) (fin u o g) in
-    let h = square-exact t n d q in
-    let k = product-exact s m e u o g p r in
-    sub-zero binary64 bb ac (mul-fits binary64 (fin t n d) (fin t n d)) (mul-fits binary64 (mul binary64 four (fin s m e)) (fin u o g)) (value-finite bb _ _ _ h) (value-finite ac _ _ _ k)
-    ∙ eq-over bb ac false (steps binary32 n d * steps binary32 n d) (unlike s u) (4 * steps binary32 m e * steps binary32 o g) (2 ^ 298) (pow-pos 298) h k
+  abbrev sizeAc : ℕ
+  sizeAc = 4 * steps binary32 m e * steps binary32 o g
+
+  abbrev sizeBb : ℕ
+  sizeBb = steps binary32 n d * steps binary32 n d
+
+  ac-value : HasValue ac (unlike s u) sizeAc (2 ^ 298)
+  ac-value = product-exact s m e u o g p r
+
+  bb-value : HasValue bb false sizeBb (2 ^ 298)
+  bb-value = square-exact t n d q
+
+  ac-finite : Finite binary64 ac
+  ac-finite = value-held binary64 ac (unlike s u) sizeAc (2 ^ 298) ac-value (mul-fits binary64 (mul binary64 four (fin s m e)) (fin u o g))
+
+  bb-finite : Finite binary64 bb
+  bb-finite = value-held binary64 bb false sizeBb (2 ^ 298) bb-value (mul-fits binary64 (fin t n d) (fin t n d))
+
+  pub discriminant-positive : lt (zeroOf binary64) (discriminant (fin s m e) (fin t n d) (fin u o g)) ≡ below (unlike s u) sizeAc false sizeBb
+  unfolding discriminant ofBits
+  discriminant-positive = sub-positive binary64 bb ac bb-finite ac-finite ∙ lt-over ac bb (unlike s u) sizeAc false sizeBb (2 ^ 298) (pow-pos 298) ac-value bb-value
+
+  pub discriminant-zero : eq (discriminant (fin s m e) (fin t n d) (fin u o g)) (zeroOf binary64) ≡ level false sizeBb (unlike s u) sizeAc
+  unfolding discriminant ofBits
+  discriminant-zero = sub-zero binary64 bb ac bb-finite ac-finite ∙ eq-over bb ac false sizeBb (unlike s u) sizeAc (2 ^ 298) (pow-pos 298) bb-value ac-value
+
+  pub discriminant-negative : lt (discriminant (fin s m e) (fin t n d) (fin u o g)) (zeroOf binary64) ≡ below false sizeBb (unlike s u) sizeAc
+  unfolding discriminant ofBits
+  discriminant-negative = sub-negative binary64 bb ac bb-finite ac-finite ∙ lt-over bb ac false sizeBb (unlike s u) sizeAc (2 ^ 298) (pow-pos 298) bb-value ac-value
 
 -- ---- the count
 square-length : (a b d : Float) → length (squareRoots a b d) ≡ cond (lt (zeroOf binary64) d) 2 (cond (eq d (zeroOf binary64)) 1 0)
@@ -301,6 +283,11 @@ count-scale k K =
         let x : k * b * (k * b) * 1 ≡ b * b * (k * k) = omega arith in
         λ i. cond (eqb-over (k * a) 0 a 0 1 k one K (omega arith) none i || ltb-over (10 ^ 12 * (k * a)) (k * b) (10 ^ 12 * a) b 1 k one K (omega arith) (omega arith) i) (cond (eqb-over (k * b) 0 b 0 1 k one K (omega arith) none i) 0 1)
         (cond (below-over (unlike s u) (4 * (k * a) * (k * c)) false (k * b * (k * b)) (4 * a * c) (b * b) 1 (k * k) one K2 y x i) 2 (cond (level-over false (k * b * (k * b)) (unlike s u) (4 * (k * a) * (k * c)) (b * b) (4 * a * c) 1 (k * k) one K2 x y i) 1 0))
+
+-- two, one, none, and none where every x would do
+pub count-figures : (trueCount (pos 1) (negsuc 2) (pos 2) ≡ 2) × (trueCount (pos 1) (pos 2) (pos 1) ≡ 1) × (trueCount (pos 1) (pos 1) (pos 1) ≡ 0) × (trueCount (pos 0) (pos 0) (pos 0) ≡ 0)
+unfolding trueCount trueLinear trueDiscriminant squareCount linearCount
+count-figures = (refl, refl, refl, refl)
 
 -- ---- the converse: three finite values of binary64 that are none of binary32, the count that the solver gives of them, and the true one
 pub record Miscounted (a b c : Float) (given true-one : ℕ) : Type 0 where
