@@ -202,7 +202,7 @@ fn subnormal(r: &mut Rng) -> Triple {
     signs(r, t)
 }
 
-/// b is the f32 nearest to 10^12·a, or up to two beside it.
+/// b is the f32 nearest to 10^12·a, or up to two beside it. No f32 but 0 is 10^12 times another: 5^12 alone has 28 digits.
 fn dominated(r: &mut Rng) -> Triple {
     loop {
         let a = if r.one_in(4) { f32::from_bits(r.next() as u32 & 0x7f_ffff) } else { any_finite(r).abs() };

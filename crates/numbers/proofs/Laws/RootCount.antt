@@ -7,22 +7,25 @@
 --     count-true, bits-true            together: how many roots there are, from the values and from their patterns
 --     solver-true                      what the public solver's promise makes of it
 --     count-scale                      the scale at which the three are whole numbers does not matter
+--     linear-one-way                   where the linear rule applies to an a that is not 0 the quadratic goes one way from 0 to 1, so it has at most one root there
+--     linear-far                       and where it has no root at all, −c/b is beyond 10^11 in size
 --     count-figures                    evaluated: (1, −3, 2), (1, 2, 1), (1, 1, 1) and (0, 0, 0) have two, one, none and none
 --     missed, invented, misruled       of values of binary64 it is not so: one root where there are two, one where there is none, and the wrong rule
 use mathlib.Core.Path.{_≡_, refl, sym, ap, _∙_, subst}
 use mathlib.Core.Logic.{inl, inr}
 use Prim.Native.Nat.{ℕ, zero, suc, _+_, _-_, _*_, _^_, _≤_, _<_}
-use native.Mathlib.Nat.{le-of-lt, le-of-eq, zero-lt-suc, eq-zero-or-pos, eq-or-lt-of-le, mul-pos, mul-zero, zero-mul}
+use native.Mathlib.Nat.{lt-irrefl, le-refl, lt-of-le-of-lt, mul-le-mul, mul-lt-mul-of-pos-right, le-of-lt, le-of-eq, zero-lt-suc, eq-zero-or-pos, eq-or-lt-of-le, mul-pos, mul-zero, zero-mul}
 use native.Mathlib.Omega.{arith}
 use mathlib.Core.Bool.{Bool, true, false, _&&_, _||_, Bool·beq, cond}
 use mathlib.Core.List.{List, [], _∷_}
 use lib.IntN.{ℤ, pos, negsuc, negℤ, negℤ-negℤ, natAbs, _+ℤ_, _-ℤ_, _*ℤ_}
-use lib.Dec.{T, ltb, eqb, lit<, lit≤}
+use lib.Dec.{T, ltb, eqb, ltb→lt, eqb→eq, lit<, lit≤}
 use lib.ListN.{length}
 use lib.Pow.{pow-pos}
 use lib.Ieee.{Float, fin, binary32, binary64, unlike, below, level, lt, eq, mul, sub, div, neg, fits, ofBits}
 use lib.Ieee.Fits.{mul-fits}
 use lib.Ieee.Exact.{HasValue}
+use Rattle.ground.proofs.Laws.Bools.{holds}
 use borrow.Author.Tests.{lt-ltb, le-ltb, eq-eqb, ne-eqb}
 use Rattle.numbers.specs.Constants.{zeroOf, dominance, two, four}
 use Rattle.numbers.specs.Scalar.{absOf}
@@ -31,6 +34,7 @@ use Rattle.numbers.specs.EquationSolver.{isLinear, linearRoots, discrimi
 use Rattle.numbers.specs.Whole.{Finite, signed, steps, wholeOf, FiniteBits, wholeOfBits}
 use Rattle.numbers.specs.RootCount.{trueLinear, trueDiscriminant, squareCount, linearCount, trueCount}
 use Rattle.numbers.proofs.floats.Compared.{le-or-lt}
+use Rattle.numbers.proofs.floats.Differences.{or-split}
 use Rattle.numbers.proofs.Laws.Order.{nought, abs-fits, lt-over, eq-over, ltb-over, eqb-over, below-over, level-over}
 use Rattle.numbers.proofs.Laws.Whole.{value-held, steps-value, whole-of-bits, finite-of-bits, abs-signed}
 use Rattle.numbers.proofs.Laws.Exact.{Short, mul-short, single-short}
@@ -284,6 +288,61 @@ count-scale k K =
         λ i. cond (eqb-over (k * a) 0 a 0 1 k one K (omega arith) none i || ltb-over (10 ^ 12 * (k * a)) (k * b) (10 ^ 12 * a) b 1 k one K (omega arith) (omega arith) i) (cond (eqb-over (k * b) 0 b 0 1 k one K (omega arith) none i) 0 1)
         (cond (below-over (unlike s u) (4 * (k * a) * (k * c)) false (k * b * (k * b)) (4 * a * c) (b * b) 1 (k * k) one K2 y x i) 2 (cond (level-over false (k * b * (k * b)) (unlike s u) (4 * (k * a) * (k * c)) (b * b) (4 * a * c) 1 (k * k) one K2 x y i) 1 0))
 
+-- ---- where the linear rule applies to an a that is not 0
+dominates : (a b : ℤ) → trueLinear a b ≡ true → 0 < natAbs a → 10 ^ 12 * natAbs a < natAbs b
+unfolding trueLinear
+dominates a b h A = elim (or-split (eqb (natAbs a) 0) (ltb (10 ^ 12 * natAbs a) (natAbs b)) (holds _ h)) [
+  | inl z ↦ absurd (lt-irrefl 0 (subst (λ (k : ℕ). 0 < k) (eqb→eq (natAbs a) 0 z) A))
+  | inr l ↦ ltb→lt (10 ^ 12 * natAbs a) (natAbs b) l
+]
+
+-- from p / q on to r / q the square term changes by less than the linear one, so the whole goes one way
+pub linear-one-way : (a b : ℤ) (p r q : ℕ) → trueLinear a b ≡ true → 0 < natAbs a → p < r → r ≤ q → natAbs a * (r * r - p * p) < natAbs b * (q * (r - p))
+linear-one-way a b p r q h A l m =
+    let d = r - p in
+    let e : r ≡ p + d = omega arith in
+    subst (λ (k : ℕ). natAbs a * (k * k - p * p) < natAbs b * (q * d)) (sym e) (go (natAbs a) (natAbs b) d (dominates a b h A) (omega arith) (omega arith))
+  where
+    between : (d : ℕ) → (p + d) * (p + d) - p * p ≡ d * (p + (p + d))
+    between d = omega arith
+
+    go : (x y d : ℕ) → 10 ^ 12 * x < y → 0 < d → p + d ≤ q → x * ((p + d) * (p + d) - p * p) < y * (q * d)
+    go x y d k D m =
+        let Q : 0 < q = omega arith in
+        let ends : p + (p + d) ≤ 2 * q = omega arith in
+        let twice : 2 * x < y = omega arith in
+        lt-of-le-of-lt (le-of-eq (ap (λ (w : ℕ). x * w) (between d)))
+        (lt-of-le-of-lt (mul-le-mul (le-refl x) (mul-le-mul (le-refl d) ends)) (lt-of-le-of-lt (le-of-eq (swap x d)) (mul-lt-mul-of-pos-right twice (mul-pos Q D))))
+      where
+        swap : (x d : ℕ) → x * (d * (2 * q)) ≡ 2 * x * (q * d)
+        swap x d = omega arith
+
+-- and where no number is a root at all, −c/b is beyond 10^11
+pub linear-far : (a b c : ℤ) → trueLinear a b ≡ true → 0 < natAbs a → squareCount (trueDiscriminant a b c) ≡ 0 → 10 ^ 11 * natAbs b < natAbs c
+linear-far =
+    by-sign (λ a. (b c : ℤ) → trueLinear a b ≡ true → 0 < natAbs a → squareCount (trueDiscriminant a b c) ≡ 0 → 10 ^ 11 * natAbs b < natAbs c)
+    (λ s a. by-sign (λ b. (c : ℤ) → trueLinear (signed s a) b ≡ true → 0 < natAbs (signed s a) → squareCount (trueDiscriminant (signed s a) b c) ≡ 0 → 10 ^ 11 * natAbs b < natAbs c)
+    (λ t b. by-sign (λ c. trueLinear (signed s a) (signed t b) ≡ true → 0 < natAbs (signed s a) → squareCount (trueDiscriminant (signed s a) (signed t b) c) ≡ 0 → 10 ^ 11 * natAbs (signed t b) < natAbs c)
+    (λ u c h A z.
+    let k : 10 ^ 12 * a < b = subst (λ (w : ℕ). 10 ^ 12 * w < b) (abs-signed s a) (subst (λ (w : ℕ). 10 ^ 12 * natAbs (signed s a) < w) (abs-signed t b) (dominates (signed s a) (signed t b) h A)) in
+    subst (λ (w : ℕ). 10 ^ 11 * w < natAbs (signed u c)) (sym (abs-signed t b)) (subst (λ (w : ℕ). 10 ^ 11 * b < w) (sym (abs-signed u c))
+    (far (unlike s u) a b c k (sym (count-signed (unlike s u) (4 * a * c) (b * b)) ∙ sym (ap squareCount (discriminant-signed s a t b u c)) ∙ z))))))
+  where
+    not-two : (b : Bool) → _≡_ {A = ℕ} (cond true 2 (cond b 1 0)) 0 → ⊥
+    not-two b e = omega arith
+
+    -- what no root says of the sizes
+    no-less : (w : Bool) (y x : ℕ) → bySizes w y x ≡ 0 → x ≤ y
+    no-less true y x z = elim (le-or-lt x y) [ inl l ↦ l | inr l ↦ absurd (not-two (level false x true y) (sym (ap (λ (b : Bool). cond b 2 (cond (level false x true y) 1 0)) (lt-ltb 0 (y + x) (omega arith))) ∙ z)) ]
+    no-less false y x z = elim (le-or-lt x y) [ inl l ↦ l | inr l ↦ absurd (not-two (level false x false y) (sym (ap (λ (b : Bool). cond b 2 (cond (level false x false y) 1 0)) (lt-ltb y x l)) ∙ z)) ]
+
+    far : (w : Bool) (a b c : ℕ) → 10 ^ 12 * a < b → bySizes w (4 * a * c) (b * b) ≡ 0 → 10 ^ 11 * b < c
+    far w a b c k z = elim (le-or-lt c (10 ^ 11 * b)) [
+      | inl l ↦ absurd (omega (arith, no-less w (4 * a * c) (b * b) z, mul-le-mul (le-refl (4 * a)) l, mul-le-mul k (le-refl b)))
+      | inr l ↦ l
+    ]
+
+-- ---- figures
 -- two, one, none, and none where every x would do
 pub count-figures : (trueCount (pos 1) (negsuc 2) (pos 2) ≡ 2) × (trueCount (pos 1) (pos 2) (pos 1) ≡ 1) × (trueCount (pos 1) (pos 1) (pos 1) ≡ 0) × (trueCount (pos 0) (pos 0) (pos 0) ≡ 0)
 unfolding trueCount trueLinear trueDiscriminant squareCount linearCount
