@@ -1,7 +1,7 @@
 //! Holds the number of roots that the proved solver gives against exact whole-number arithmetic.
 //!
 //! `compare COUNT [SEED]`: that many triples of f32 coefficients, a line for each kind of triple with how its triples divide, and how many differ; exit status 1 if
-//! any does, if a kind meets a case that it is there for at no time, or if one of the three f64 triples that are counted wrongly is not.
+//! any does, if a kind never meets a case that it is there for, or if one of the three f64 triples that the solver is known to count wrongly is counted otherwise.
 
 #[path = "../../include/rungtwine_numbers.rs"]
 mod proved;
