@@ -1,7 +1,8 @@
 -- Of small texels a diagonal pair has as many roots as whole numbers say, and a side pair's crossing is divided by zero only where there is none. Assumes nothing.
 -- The count is that of the coefficients as they are stored: they are rounded differences, and where a root lies is rounded too.
---     coefficients-finite             the pair quadratic's coefficients are finite values of binary32
---     pair-roots-true                 so the number of its roots is the true one
+--     Coefficients                    the three coefficients of pair p's quadratic are finite values of binary32
+--     coefficients-finite             those of small texels are
+--     pair-roots-true                 and then the number of its roots is the true one
 --     side-divisor                    the divisor of a side pair's crossing is zero just where the two differences are equal
 --     side-none                       and then no crossing is inside
 use mathlib.Core.Path.{_≡_, refl, sym, _∙_, subst}
@@ -80,9 +81,9 @@ coefficients-finite m p s h =
       constant = difference-finite (getD m 0 []) p (s .a) h;
     }
 
-pub pair-roots-true : (m : List (List Float)) (p : ℕ) → SmallFour m → p < 3 → length (pairRoots m p) ≡ pairCount m p
+pub pair-roots-true : (m : List (List Float)) (p : ℕ) → Coefficients m p → length (pairRoots m p) ≡ pairCount m p
 unfolding pairRoots quadraticRoots pairCount quadraticCount
-pair-roots-true m p s h = let c = coefficients-finite m p s h in count-true _ _ _ (c .square) (c .linear) (c .constant)
+pair-roots-true m p c = count-true _ _ _ (c .square) (c .linear) (c .constant)
 
 -- ---- the side pair
 pub side-divisor : (a b : List Float) (p : ℕ) → SmallTexel a → SmallTexel b → p < 3 → eq (sub binary32 (difference a p) (difference b p)) (zeroOf binary64) ≡ eq (difference a p) (difference b p)
