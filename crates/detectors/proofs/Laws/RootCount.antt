@@ -5,23 +5,20 @@
 --     pair-roots-true                 and then the number of its roots is the true one
 --     side-divisor                    the divisor of a side pair's crossing is zero just where the two differences are equal
 --     side-none                       and then no crossing is inside
-use mathlib.Core.Path.{_≡_, refl, sym, _∙_, subst}
+use mathlib.Core.Path.{_≡_, refl, ap, _∙_}
 use mathlib.Core.Logic.{inl, inr}
-use mathlib.Core.Bool.{Bool, true, false, cond, false≢true}
+use mathlib.Core.Bool.{Bool, true, false}
 use mathlib.Core.List.{List, []}
-use Prim.Native.Nat.{ℕ, zero, suc, _*_, _<_}
-use native.Mathlib.Nat.{eq-zero-or-pos, mul-pos, zero-mul}
+use Prim.Native.Nat.{ℕ, zero, suc, _<_}
 use native.Mathlib.Omega.{arith}
-use lib.Dec.{eqb}
 use lib.ListN.{length, getD}
-use lib.Ieee.{Float, nan, inf, fin, binary32, binary64, up, down, unlike, add, sub, div, eq, lt, ofBits}
-use lib.Ieee.Fits.{up-pos, add-fits, sub-fits}
-use borrow.Author.Tests.{eqb-true}
-use Rattle.ground.proofs.Laws.Bools.{both-hold}
+use lib.Ieee.{Float, nan, inf, binary32, binary64, add, sub, div, eq, lt, ofBits}
+use lib.Ieee.Fits.{add-fits, sub-fits}
 use Rattle.numbers.specs.Constants.{zeroOf}
 use Rattle.numbers.specs.Whole.{Finite}
 use Rattle.numbers.proofs.Laws.Order.{finite}
 use Rattle.numbers.proofs.Laws.Bounds.{Within, within-finite, within-held, add-within, sub-within}
+use Rattle.numbers.proofs.Laws.Exact.{div-by-zero}
 use Rattle.numbers.proofs.Laws.Difference.{sub-zero}
 use Rattle.numbers.proofs.Laws.RootCount.{count-true}
 use Rattle.detectors.specs.Texel.{channel}
@@ -90,24 +87,19 @@ pub side-divisor : (a b : List Float) (p : ℕ) → SmallTexel a → SmallTexel 
 unfolding ofBits
 side-divisor a b p s t h = sub-zero binary32 (difference a p) (difference b p) (difference-finite a p s h) (difference-finite b p t h)
 
--- no n above 0 is a zero's
-no-digits : (n u c : ℕ) → 0 < u → n * u * 1 ≡ 0 * 1 * c → n ≡ 0
-no-digits n u c U e = elim (eq-zero-or-pos n) [ inl z ↦ z | inr h ↦ absurd (omega (arith, mul-pos h U, zero-mul c, e)) ]
-
--- a finite value divided by a zero is a NaN or an infinity
-by-zero-outside : (b w : Bool) → inside (cond b nan (inf w)) ≡ false
+-- neither a NaN nor an infinity is inside
+nan-outside : inside nan ≡ false
 unfolding inside lt ofBits
-by-zero-outside true w = refl
-by-zero-outside false true = refl
-by-zero-outside false false = refl
+nan-outside = refl
+
+inf-outside : (s : Bool) → inside (inf s) ≡ false
+unfolding inside lt ofBits
+inf-outside true = refl
+inf-outside false = refl
 
 by-zero : (x d : Float) → finite x → eq d (zeroOf binary64) ≡ true → inside (div binary64 x d) ≡ false
-unfolding eq div ofBits
-by-zero (fin s m e) nan i h = absurd (false≢true h)
-by-zero (fin s m e) (inf t) i h = absurd (false≢true h)
-by-zero (fin s m e) (fin t n g) i h =
-    let z : n ≡ 0 = no-digits n (up g) (down g) (up-pos g) (eqb-true _ _ (both-hold _ _ h .0)) in
-    subst (λ (k : ℕ). inside (div binary64 (fin s m e) (fin t k g)) ≡ false) (sym z) (by-zero-outside (eqb m 0) (unlike s t))
+unfolding ofBits
+by-zero x d i h = elim (div-by-zero binary64 x d i h) [ inl e ↦ ap inside e ∙ nan-outside | inr e ↦ ap inside (e .1) ∙ inf-outside (e .0) ]
 
 pub side-none : (a b : List Float) (p : ℕ) → SmallTexel a → SmallTexel b → p < 3 → eq (difference a p) (difference b p) ≡ true → inside (crossing (difference a p) (difference b p)) ≡ false
 unfolding crossing

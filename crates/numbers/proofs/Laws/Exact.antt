@@ -6,29 +6,33 @@
 --     mul-short                      the product in binary64 of two such is exact where the digits of both are at most 53 and their scales fit: nothing underflows or overflows
 --     single-short                   a finite value of binary32 has at most 24 digits, counted in 2 ^ -149, and is below 2 ^ 128
 --     mul-exact                      so the product in binary64 of two finite values of binary32 is exact
+--     div-by-zero                    a finite value over a zero is a NaN or an infinity
 --     Adds                           x + y = v, as whole numbers over the product of the three denominators: what is positive on either side and negative on the other
 --     add-exact, sub-exact           a sum and a difference that are exactly a value of the format other than zero are that value
 --     add-exact-zero                 a sum that is exactly zero is a zero
 --     add-exact-eq, sub-exact-eq     so they equal any value of the format that they are exactly, a zero of either sign
 --     add-zero-eq, add-zero-nonzero  a value with a zero added equals itself, and one that is not zero is itself
 use mathlib.Core.Path.{_≡_, refl, sym, ap, _∙_, subst}
+use mathlib.Core.Logic.{_⊎_, inl, inr}
 use Prim.Native.Nat.{ℕ, zero, suc, _+_, _-_, _*_, _^_, _≤_, _<_}
 use native.Mathlib.Nat.{le-refl, le-of-eq, le-of-lt, lt-of-le-of-lt, lt-of-lt-of-le, zero-lt-suc, zero-mul, mul-pos, mul-assoc, mul-mul-mul-comm, mul-le-mul, mul-lt-mul-of-pos-right, eq-of-mul-eq-mul-right}
 use native.Mathlib.Omega.{arith}
-use mathlib.Core.Bool.{Bool, true, false, not}
+use mathlib.Core.Bool.{Bool, true, false, not, cond, false≢true}
 use lib.IntN.{ℤ, pos}
-use lib.Dec.{T, lit≤}
+use lib.Dec.{T, eqb, lit≤}
 use lib.Pow.{pow-add, pow-pos, pow-mono, shl-lt}
-use lib.Ieee.{Float, nan, inf, fin, Format, binary32, binary64, up, down, unlike, round, add, sub, mul, neg, eq, fits, isNan, ofBits}
+use lib.Ieee.{Float, nan, inf, fin, Format, binary32, binary64, up, down, unlike, round, add, sub, mul, div, neg, eq, fits, isNan, ofBits}
 use lib.Ieee.Fits.{up-pos, down-pos, round-fits}
 use lib.Ieee.Exact.{HasValue, round-exact}
 use lib.Ieee.Scale.{round-same}
+use borrow.Author.Tests.{eqb-true}
+use Rattle.ground.proofs.Laws.Bools.{both-hold}
 use Rattle.numbers.specs.Constants.{oneOf}
 use Rattle.numbers.specs.Rounding.{narrowOf}
 use Rattle.numbers.specs.Nearest.{sumSize, sumSign}
 use Rattle.numbers.specs.Whole.{steps}
 use Rattle.numbers.proofs.floats.Differences.{scale-plus, scale-minus, summed, unlike-false, zero-of}
-use Rattle.numbers.proofs.Laws.Order.{plus, minus, eq-refl, eq-zeros}
+use Rattle.numbers.proofs.Laws.Order.{plus, minus, nought, finite, eq-refl, eq-zeros}
 use Rattle.numbers.proofs.Laws.Whole.{steps-is, steps-value}
 use Rattle.numbers.proofs.floats.Values.{with-value, mul-value}
 use Rattle.numbers.proofs.floats.Patterns.{shifted}
@@ -142,6 +146,25 @@ mul-exact s m e t n d p q =
     over-own : (K G x y X c Y g R L : ℕ) → L * L ≡ R → K * R ≡ x * y * G → X * L ≡ x * c → Y * L ≡ y * g → K * (c * g) * R ≡ X * Y * G * R
     over-own K G x y X c Y g R L r v a b =
         omega (arith, ap (λ (w : ℕ). w * (c * g)) v) ∙ sym (λ i. a i * b i * G) ∙ omega (arith, ap (λ (w : ℕ). X * Y * G * w) r)
+
+-- ---- quotients
+over-zero : (f : Format) (s : Bool) (m : ℕ) (e : ℤ) (t : Bool) (d : ℤ) → (div f (fin s m e) (fin t 0 d) ≡ nan) ⊎ (div f (fin s m e) (fin t 0 d) ≡ inf (unlike s t))
+unfolding div
+over-zero f s m e t d = go (eqb m 0)
+  where
+    go : (b : Bool) → (cond b nan (inf (unlike s t)) ≡ nan) ⊎ (cond b nan (inf (unlike s t)) ≡ inf (unlike s t))
+    go true = inl refl
+    go false = inr refl
+
+pub div-by-zero : (f : Format) (x y : Float) → finite x → eq y nought ≡ true → (div f x y ≡ nan) ⊎ ((s : Bool) × (div f x y ≡ inf s))
+unfolding eq
+div-by-zero f (fin s m e) nan i h = absurd (false≢true h)
+div-by-zero f (fin s m e) (inf t) i h = absurd (false≢true h)
+div-by-zero f (fin s m e) (fin t n d) i h =
+    let none : n * up d * 1 ≡ 0 * 1 * down d = eqb-true _ _ (both-hold _ _ h .0) in
+    let z : n ≡ 0 = zero-of n (up d) (up-pos d) (omega (arith, none, zero-mul (down d))) in
+    subst (λ (k : ℕ). (div f (fin s m e) (fin t k d) ≡ nan) ⊎ ((w : Bool) × (div f (fin s m e) (fin t k d) ≡ inf w))) (sym z)
+    (elim (over-zero f s m e t d) [ inl p ↦ inl p | inr p ↦ inr (unlike s t, p) ])
 
 -- ---- sums
 abbrev pub Adds : Float → Float → Float → Type 0
