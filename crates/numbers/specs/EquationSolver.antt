@@ -29,11 +29,15 @@ upperRoot a b s = div binary64 (add binary64 (neg b) s) (mul binary64 two a)
 unfoldable pub lowerRoot : Float → Float → Float → Float
 lowerRoot a b s = div binary64 (sub binary64 (neg b) s) (mul binary64 two a)
 
--- D > 0 gives (−b+√D)/(2a), then (−b−√D)/(2a); D = 0 gives −b/(2a); otherwise none
-unfoldable pub squareRoots : Float → Float → Float → List Float
-squareRoots a b d =
-    cond (lt (zeroOf binary64) d) (upperRoot a b (sqrtOf d) ∷ lowerRoot a b (sqrtOf d) ∷ [])
+-- D > 0 gives (−b+s)/(2a), then (−b−s)/(2a), for the s that is taken for its root; D = 0 gives −b/(2a); otherwise none
+unfoldable pub squareRootsBy : Float → Float → Float → Float → List Float
+squareRootsBy s a b d =
+    cond (lt (zeroOf binary64) d) (upperRoot a b s ∷ lowerRoot a b s ∷ [])
     (cond (eq d (zeroOf binary64)) (div binary64 (neg b) (mul binary64 two a) ∷ []) [])
+
+-- with D's square root
+unfoldable pub squareRoots : Float → Float → Float → List Float
+squareRoots a b d = squareRootsBy (sqrtOf d) a b d
 
 -- the roots, in the order in which they are tried
 unfoldable pub rootsOf : Float → Float → Float → List Float

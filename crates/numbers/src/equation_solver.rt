@@ -1,8 +1,11 @@
 // Closed-form roots of a quadratic: the part of `geometry/equation_solver.rs` that the pass uses.
 ghost use mathlib.Core.Path.{_≡_};
-ghost use lib.Ieee.{binary64, lt};
-ghost use Rattle.numbers.specs.Constants.{zeroOf};
-ghost use Rattle.numbers.specs.EquationSolver.{linearRoots, squareRoots, rootsOf, Listed};
+ghost use mathlib.Core.Bool.{cond};
+ghost use mathlib.Core.List.{[], _∷_};
+ghost use lib.Ieee.{binary64, lt, eq, div, neg, mul};
+ghost use Rattle.numbers.specs.Constants.{zeroOf, two};
+ghost use Rattle.numbers.specs.EquationSolver as EquationSolver;
+ghost use Rattle.numbers.specs.EquationSolver.{linearRoots, upperRoot, lowerRoot, rootsOf, Listed};
 use crate::constants;
 use crate::scalar;
 use crate::square_root;
@@ -12,6 +15,13 @@ pub struct Roots {
     pub count: usize,
     pub first: f64,
     pub second: f64,
+}
+
+// a is 0, or b dominates it.
+fn is_linear(a: f64, b: f64) -> bool
+    ensures { λ r. ⌜ r ≡ EquationSolver.isLinear a b ⌝ }
+{
+    a == 0.0 || scalar::abs64(b) > constants::DOMINANCE * scalar::abs64(a)
 }
 
 // The root of b * x + c, if b is not 0.
@@ -32,6 +42,12 @@ fn solve_linear(b: f64, c: f64) -> Roots
     }
 }
 
+fn discriminant(a: f64, b: f64, c: f64) -> f64
+    ensures { λ r. ⌜ r ≡ EquationSolver.discriminant a b c ⌝ }
+{
+    b * b - 4.0 * a * c
+}
+
 // Two roots, where d is the discriminant.
 fn is_positive(d: f64) -> bool
     ensures { λ r. ⌜ r ≡ lt (zeroOf binary64) d ⌝ }
@@ -39,18 +55,21 @@ fn is_positive(d: f64) -> bool
     d > 0.0
 }
 
-// The roots where d is the discriminant and a is not 0.
-fn solve_square(a: f64, b: f64, d: f64) -> Roots
-    ensures { λ r. ⌜ Listed (squareRoots a b d) (r .count) (r .first) (r .second) ⌝ }
+// The roots where the discriminant is positive and s is its root.
+fn two_roots(a: f64, b: f64, s: f64) -> Roots
+    ensures { λ r. ⌜ Listed (upperRoot a b s ∷ lowerRoot a b s ∷ []) (r .count) (r .first) (r .second) ⌝ }
 {
-    if is_positive(d) {
-        let s = square_root::sqrt(d);
-        return Roots {
-            count: 2,
-            first: (-b + s) / (2.0 * a),
-            second: (-b - s) / (2.0 * a),
-        };
+    Roots {
+        count: 2,
+        first: (-b + s) / (2.0 * a),
+        second: (-b - s) / (2.0 * a),
     }
+}
+
+// The roots where the discriminant d is not positive.
+fn at_most_one_root(a: f64, b: f64, d: f64) -> Roots
+    ensures { λ r. ⌜ Listed (cond (eq d (zeroOf binary64)) (div binary64 (neg b) (mul binary64 two a) ∷ []) []) (r .count) (r .first) (r .second) ⌝ }
+{
     if d == 0.0 {
         return Roots {
             count: 1,
@@ -69,11 +88,12 @@ fn solve_square(a: f64, b: f64, d: f64) -> Roots
 pub fn solve_quadratic(a: f64, b: f64, c: f64) -> Roots
     ensures { λ r. ⌜ Listed (rootsOf a b c) (r .count) (r .first) (r .second) ⌝ }
 {
-    if a == 0.0 {
+    if is_linear(a, b) {
         return solve_linear(b, c);
     }
-    if scalar::abs64(b) > constants::DOMINANCE * scalar::abs64(a) {
-        return solve_linear(b, c);
+    let d = discriminant(a, b, c);
+    if is_positive(d) {
+        return two_roots(a, b, square_root::sqrt(d));
     }
-    solve_square(a, b, b * b - 4.0 * a * c)
+    at_most_one_root(a, b, d)
 }

@@ -2,8 +2,11 @@
 --     linear-at-zero, linear-dominated, not-linear  with a = 0, or where b dominates a, the equation is linear, and elsewhere not
 --     roots-linear, roots-square                so its roots are those of the linear rule, or of the rule with the discriminant
 --     linear-none, linear-one                   the linear rule gives no root where b = 0, and elsewhere −c/b
---     square-two, square-one, square-none       the other gives both roots where D > 0, one where D = 0, and none elsewhere
---     square-nan                                nor where D is a NaN
+--     by-two, by-one, by-none                   the other gives both roots where D > 0, one where D = 0, and none elsewhere, whatever s is taken for D's root
+--     by-fewer                                  so s matters only where D > 0
+--     square-two, square-one, square-none, square-fewer  as it is with D's square root
+--     square-nan                                which gives none where D is a NaN
+--     by-count                                  how many the other rule gives
 --     at-most-two                               there are at most two roots
 --     none-one-two                              a list of at most two values has none, one or two
 --     listed-is, listed-count, listed-same      what a count and two values say of such a list
@@ -13,7 +16,7 @@ use mathlib.Core.Logic.{_⊎_, inl, inr}
 use mathlib.Core.Bool.{Bool, true, false, _||_, cond}
 use mathlib.Core.List.{List, [], _∷_}
 use Prim.Native.Nat.{ℕ, _≤_}
-use native.Mathlib.Nat.{not-suc-le-zero, le-of-suc-le-suc}
+use native.Mathlib.Nat.{not-suc-le-zero, le-of-suc-le-suc, le-trans, le-of-eq as nat-le-of-eq}
 use lib.Dec.{T, not-T, lit≤}
 use lib.ListN.{length, getD, take}
 use lib.Ieee.{Float, nan, binary64, lt, eq, mul, div, neg, ofBits}
@@ -21,7 +24,7 @@ use lib.Ieee.Bits.{is-false}
 use Rattle.numbers.specs.Constants.{zeroOf, dominance, two}
 use Rattle.numbers.specs.Scalar.{absOf}
 use Rattle.numbers.specs.SquareRoot.{sqrtOf}
-use Rattle.numbers.specs.EquationSolver.{isLinear, linearRoots, discriminant, upperRoot, lowerRoot, squareRoots, rootsOf, Listed}
+use Rattle.numbers.specs.EquationSolver.{isLinear, linearRoots, discriminant, upperRoot, lowerRoot, squareRootsBy, squareRoots, rootsOf, Listed}
 use Rattle.numbers.proofs.Laws.Order.{lt-not-le, le-of-eq}
 
 -- ---- which of the two rules
@@ -54,11 +57,14 @@ pub linear-one : (b c : Float) → eq b (zeroOf binary64) ≡ false → linearRo
 unfolding linearRoots
 linear-one b c h = ap (λ (t : Bool). cond t [] (div binary64 (neg c) b ∷ [])) h
 
--- ---- the rule with the discriminant
-pub square-two : (a b d : Float) → lt (zeroOf binary64) d ≡ true → squareRoots a b d ≡ upperRoot a b (sqrtOf d) ∷ lowerRoot a b (sqrtOf d) ∷ []
-unfolding squareRoots
-square-two a b d h =
-    ap (λ (t : Bool). cond t (upperRoot a b (sqrtOf d) ∷ lowerRoot a b (sqrtOf d) ∷ []) (cond (eq d (zeroOf binary64)) (div binary64 (neg b) (mul binary64 two a) ∷ []) [])) h
+-- ---- the rule with the discriminant, whatever s is taken for its root
+pub by-two : (s a b d : Float) → lt (zeroOf binary64) d ≡ true → squareRootsBy s a b d ≡ upperRoot a b s ∷ lowerRoot a b s ∷ []
+unfolding squareRootsBy
+by-two s a b d h = ap (λ (t : Bool). cond t (upperRoot a b s ∷ lowerRoot a b s ∷ []) (cond (eq d (zeroOf binary64)) (div binary64 (neg b) (mul binary64 two a) ∷ []) [])) h
+
+pub by-fewer : (s a b d : Float) → lt (zeroOf binary64) d ≡ false → squareRootsBy s a b d ≡ cond (eq d (zeroOf binary64)) (div binary64 (neg b) (mul binary64 two a) ∷ []) []
+unfolding squareRootsBy
+by-fewer s a b d h = ap (λ (t : Bool). cond t (upperRoot a b s ∷ lowerRoot a b s ∷ []) (cond (eq d (zeroOf binary64)) (div binary64 (neg b) (mul binary64 two a) ∷ []) [])) h
 
 -- what equals 0 is not above it
 zero-not-above : (d : Float) → eq d (zeroOf binary64) ≡ true → lt (zeroOf binary64) d ≡ false
@@ -66,31 +72,57 @@ zero-not-above d h =
     let z = zeroOf binary64 in
     is-false (lt z d) (not-T (lt z d) (λ l. lt-not-le z d l (le-of-eq d z (subst T (sym h) tt))))
 
+pub by-one : (s a b d : Float) → eq d (zeroOf binary64) ≡ true → squareRootsBy s a b d ≡ div binary64 (neg b) (mul binary64 two a) ∷ []
+by-one s a b d h = by-fewer s a b d (zero-not-above d h) ∙ ap (λ (t : Bool). cond t (div binary64 (neg b) (mul binary64 two a) ∷ []) []) h
+
+pub by-none : (s a b d : Float) → lt (zeroOf binary64) d ≡ false → eq d (zeroOf binary64) ≡ false → squareRootsBy s a b d ≡ []
+by-none s a b d h k = by-fewer s a b d h ∙ ap (λ (t : Bool). cond t (div binary64 (neg b) (mul binary64 two a) ∷ []) []) k
+
+pub square-two : (a b d : Float) → lt (zeroOf binary64) d ≡ true → squareRoots a b d ≡ upperRoot a b (sqrtOf d) ∷ lowerRoot a b (sqrtOf d) ∷ []
+unfolding squareRoots
+square-two a b d = by-two (sqrtOf d) a b d
+
 pub square-one : (a b d : Float) → eq d (zeroOf binary64) ≡ true → squareRoots a b d ≡ div binary64 (neg b) (mul binary64 two a) ∷ []
 unfolding squareRoots
-square-one a b d h = λ i. cond (zero-not-above d h i) (upperRoot a b (sqrtOf d) ∷ lowerRoot a b (sqrtOf d) ∷ []) (cond (h i) (div binary64 (neg b) (mul binary64 two a) ∷ []) [])
+square-one a b d = by-one (sqrtOf d) a b d
 
 pub square-none : (a b d : Float) → lt (zeroOf binary64) d ≡ false → eq d (zeroOf binary64) ≡ false → squareRoots a b d ≡ []
 unfolding squareRoots
-square-none a b d h k = λ i. cond (h i) (upperRoot a b (sqrtOf d) ∷ lowerRoot a b (sqrtOf d) ∷ []) (cond (k i) (div binary64 (neg b) (mul binary64 two a) ∷ []) [])
+square-none a b d = by-none (sqrtOf d) a b d
+
+pub square-fewer : (a b d : Float) → lt (zeroOf binary64) d ≡ false → squareRoots a b d ≡ cond (eq d (zeroOf binary64)) (div binary64 (neg b) (mul binary64 two a) ∷ []) []
+unfolding squareRoots
+square-fewer a b d = by-fewer (sqrtOf d) a b d
 
 pub square-nan : (a b : Float) → squareRoots a b nan ≡ []
 unfolding lt eq ofBits
 square-nan a b = square-none a b nan refl refl
 
 -- ---- how many
-pub at-most-two : (a b c : Float) → length (rootsOf a b c) ≤ 2
-unfolding rootsOf linearRoots squareRoots
-at-most-two a b c =
-    let d = discriminant a b c in
-    go (isLinear a b) (eq b (zeroOf binary64)) (lt (zeroOf binary64) d) (eq d (zeroOf binary64)) (div binary64 (neg c) b) (upperRoot a b (sqrtOf d)) (lowerRoot a b (sqrtOf d)) (div binary64 (neg b) (mul binary64 two a))
+pub by-count : (s a b d : Float) → length (squareRootsBy s a b d) ≡ cond (lt (zeroOf binary64) d) 2 (cond (eq d (zeroOf binary64)) 1 0)
+unfolding squareRootsBy
+by-count s a b d = go (lt (zeroOf binary64) d) (eq d (zeroOf binary64)) (upperRoot a b s) (lowerRoot a b s) (div binary64 (neg b) (mul binary64 two a))
   where
-    go : (p q r s : Bool) (x y z w : Float) → length (cond p (cond q [] (x ∷ [])) (cond r (y ∷ z ∷ []) (cond s (w ∷ []) []))) ≤ 2
-    go true true r s x y z w = lit≤ tt
-    go true false r s x y z w = lit≤ tt
-    go false q true s x y z w = lit≤ tt
-    go false q false true x y z w = lit≤ tt
-    go false q false false x y z w = lit≤ tt
+    go : (p q : Bool) (x y z : Float) → length (cond p (x ∷ y ∷ []) (cond q (z ∷ []) [])) ≡ cond p 2 (cond q 1 0)
+    go true q x y z = refl
+    go false true x y z = refl
+    go false false x y z = refl
+
+-- by either rule, the second with any s
+by-at-most-two : (s a b c d : Float) → length (cond (isLinear a b) (linearRoots b c) (squareRootsBy s a b d)) ≤ 2
+unfolding linearRoots
+by-at-most-two s a b c d = go (isLinear a b) (eq b (zeroOf binary64)) (lt (zeroOf binary64) d) (eq d (zeroOf binary64)) (div binary64 (neg c) b) (squareRootsBy s a b d) (by-count s a b d)
+  where
+    go : (p q r t : Bool) (x : Float) (ys : List Float) → length ys ≡ cond r 2 (cond t 1 0) → length (cond p (cond q [] (x ∷ [])) ys) ≤ 2
+    go true true r t x ys h = lit≤ tt
+    go true false r t x ys h = lit≤ tt
+    go false q true t x ys h = nat-le-of-eq h
+    go false q false true x ys h = le-trans (nat-le-of-eq h) (lit≤ tt)
+    go false q false false x ys h = le-trans (nat-le-of-eq h) (lit≤ tt)
+
+pub at-most-two : (a b c : Float) → length (rootsOf a b c) ≤ 2
+unfolding rootsOf squareRoots
+at-most-two a b c = by-at-most-two (sqrtOf (discriminant a b c)) a b c (discriminant a b c)
 
 pub none-one-two : (xs : List Float) → length xs ≤ 2 → (xs ≡ []) ⊎ ((x : Float) × (xs ≡ x ∷ [])) ⊎ ((x : Float) × (y : Float) × (xs ≡ x ∷ y ∷ []))
 none-one-two [] h = inl refl

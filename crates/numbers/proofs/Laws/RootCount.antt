@@ -27,10 +27,10 @@ use lib.Ieee.Fits.{mul-fits}
 use lib.Ieee.Exact.{HasValue}
 use Rattle.ground.proofs.Laws.Bools.{holds}
 use borrow.Author.Tests.{lt-ltb, le-ltb, eq-eqb, ne-eqb}
-use Rattle.numbers.specs.Constants.{zeroOf, dominance, two, four}
+use Rattle.numbers.specs.Constants.{zeroOf, dominance, four}
 use Rattle.numbers.specs.Scalar.{absOf}
 use Rattle.numbers.specs.SquareRoot.{sqrtOf}
-use Rattle.numbers.specs.EquationSolver.{isLinear, linearRoots, discriminant, upperRoot, lowerRoot, squareRoots, rootsOf, Listed}
+use Rattle.numbers.specs.EquationSolver.{isLinear, linearRoots, discriminant, upperRoot, lowerRoot, squareRootsBy, squareRoots, rootsOf, Listed}
 use Rattle.numbers.specs.Whole.{Finite, signed, steps, wholeOf, FiniteBits, wholeOfBits}
 use Rattle.numbers.specs.RootCount.{trueLinear, trueDiscriminant, squareCount, linearCount, trueCount}
 use Rattle.numbers.proofs.floats.Compared.{le-or-lt}
@@ -39,6 +39,7 @@ use Rattle.numbers.proofs.Laws.Order.{nought, abs-fits, lt-over, eq-ove
 use Rattle.numbers.proofs.Laws.Whole.{value-held, steps-value, whole-of-bits, finite-of-bits, abs-signed}
 use Rattle.numbers.proofs.Laws.Exact.{Short, mul-short, single-short}
 use Rattle.numbers.proofs.Laws.Difference.{sub-positive, sub-zero, sub-negative}
+use Rattle.numbers.proofs.Laws.EquationSolver.{by-count}
 
 -- ---- the products, each exact
 false-unlike : (s : Bool) → unlike false s ≡ s
@@ -207,15 +208,6 @@ module _ (s : Bool) (m : ℕ) (e : ℤ) (t : Bool) (n : ℕ) (d : ℤ) (u : Bool
   discriminant-negative = sub-negative binary64 bb ac bb-finite ac-finite ∙ lt-over bb ac false sizeBb (unlike s u) sizeAc (2 ^ 298) (pow-pos 298) bb-value ac-value
 
 -- ---- the count
-square-length : (a b d : Float) → length (squareRoots a b d) ≡ cond (lt (zeroOf binary64) d) 2 (cond (eq d (zeroOf binary64)) 1 0)
-unfolding squareRoots
-square-length a b d = go (lt (zeroOf binary64) d) (eq d (zeroOf binary64)) (upperRoot a b (sqrtOf d)) (lowerRoot a b (sqrtOf d)) (div binary64 (neg b) (mul binary64 two a))
-  where
-    go : (p q : Bool) (x y z : Float) → length (cond p (x ∷ y ∷ []) (cond q (z ∷ []) [])) ≡ cond p 2 (cond q 1 0)
-    go true q x y z = refl
-    go false true x y z = refl
-    go false false x y z = refl
-
 linear-length : (b c : Float) → length (linearRoots b c) ≡ cond (eq b (zeroOf binary64)) 0 1
 unfolding linearRoots
 linear-length b c = go (eq b (zeroOf binary64)) (div binary64 (neg c) b)
@@ -226,12 +218,12 @@ linear-length b c = go (eq b (zeroOf binary64)) (div binary64 (neg c) b)
 
 pub square-true : (a b c : Float) → Finite binary32 a → Finite binary32 b → Finite binary32 c
     → length (squareRoots a b (discriminant a b c)) ≡ squareCount (trueDiscriminant (wholeOf binary32 a) (wholeOf binary32 b) (wholeOf binary32 c))
-unfolding wholeOf
+unfolding wholeOf squareRoots
 square-true (fin s m e) (fin t n d) (fin u o g) p q r =
     let x = steps binary32 m e in
     let y = steps binary32 n d in
     let z = steps binary32 o g in
-    square-length (fin s m e) (fin t n d) (discriminant (fin s m e) (fin t n d) (fin u o g))
+    by-count (sqrtOf (discriminant (fin s m e) (fin t n d) (fin u o g))) (fin s m e) (fin t n d) (discriminant (fin s m e) (fin t n d) (fin u o g))
     ∙ (λ i. cond (discriminant-positive s m e t n d u o g p q r i) 2 (cond (discriminant-zero s m e t n d u o g p q r i) 1 0))
     ∙ sym (ap squareCount (discriminant-signed s x t y u z) ∙ count-signed (unlike s u) (4 * x * z) (y * y))
 
@@ -361,15 +353,15 @@ pub record Miscounted (a b c : Float) (given true-one : ℕ) : Type 0 where
 
 -- (2^27 + 1)·x² − (2^28 + 4)·x + (2^27 + 3) has the roots 1 and c/a: 4ac is rounded up to b²
 pub missed : Miscounted (fin false 134217729 (pos 0)) (fin true 67108865 (pos 2)) (fin false 134217731 (pos 0)) 1 2
-unfolding fits rootsOf isLinear linearRoots discriminant squareRoots upperRoot lowerRoot absOf lt eq mul sub div neg ofBits wholeOf trueLinear trueDiscriminant squareCount linearCount trueCount
+unfolding fits rootsOf isLinear linearRoots discriminant squareRootsBy squareRoots upperRoot lowerRoot absOf lt eq mul sub div neg ofBits wholeOf trueLinear trueDiscriminant squareCount linearCount trueCount
 missed = record { held-a = tt; held-b = tt; held-c = tt; long-a = refl; long-b = refl; long-c = refl; gives = refl; truth = refl }
 
 -- with n = 11586, (n² + 1)·x² + 2·(n² + n + 1)·x + (n² + 2n + 2) has none, D = −4: both products are rounded down to one value
 pub invented : Miscounted (fin false 134235397 (pos 0)) (fin false 134246983 (pos 1)) (fin false 67129285 (pos 1)) 1 0
-unfolding fits rootsOf isLinear linearRoots discriminant squareRoots upperRoot lowerRoot absOf lt eq mul sub div neg ofBits wholeOf trueLinear trueDiscriminant squareCount linearCount trueCount
+unfolding fits rootsOf isLinear linearRoots discriminant squareRootsBy squareRoots upperRoot lowerRoot absOf lt eq mul sub div neg ofBits wholeOf trueLinear trueDiscriminant squareCount linearCount trueCount
 invented = record { held-a = tt; held-b = tt; held-c = tt; long-a = refl; long-b = refl; long-c = refl; gives = refl; truth = refl }
 
 -- with a = 1 + 2^-52 and b = 10^12 + 2^-12 the linear rule should apply: 10^12·a is rounded up to b
 pub misruled : Miscounted (fin false 4503599627370497 (negsuc 51)) (fin false 4096000000000001 (negsuc 11)) (fin false 16777217 (pos 0)) 2 1
-unfolding fits rootsOf isLinear linearRoots discriminant squareRoots upperRoot lowerRoot absOf lt eq mul sub div neg ofBits wholeOf trueLinear trueDiscriminant squareCount linearCount trueCount
+unfolding fits rootsOf isLinear linearRoots discriminant squareRootsBy squareRoots upperRoot lowerRoot absOf lt eq mul sub div neg ofBits wholeOf trueLinear trueDiscriminant squareCount linearCount trueCount
 misruled = record { held-a = tt; held-b = tt; held-c = tt; long-a = refl; long-b = refl; long-c = refl; gives = refl; truth = refl }
