@@ -13,9 +13,13 @@ pub mod raw {
         pub fn rungtwine_narrow(x: f64) -> f32;
         pub fn rungtwine_floor(x: f64) -> i64;
         pub fn rungtwine_sqrt(x: f64) -> f64;
+        pub fn rungtwine_normal_root(b: u64) -> f64;
         pub fn rungtwine_root_count(a: f64, b: f64, c: f64) -> usize;
         pub fn rungtwine_first_root(a: f64, b: f64, c: f64) -> f64;
         pub fn rungtwine_second_root(a: f64, b: f64, c: f64) -> f64;
+        pub fn rungtwine_normal_root_count(a: f64, b: f64, c: f64) -> usize;
+        pub fn rungtwine_normal_first_root(a: f64, b: f64, c: f64) -> f64;
+        pub fn rungtwine_normal_second_root(a: f64, b: f64, c: f64) -> f64;
     }
 }
 
@@ -62,6 +66,12 @@ pub fn sqrt(x: f64) -> f64 {
     unsafe { raw::rungtwine_sqrt(x) }
 }
 
+/// The root of the normal number that the fields of a pattern stand for, whatever the pattern: of the bits of a positive normal f64 it is that number's
+/// root. The sign is not looked at, and an exponent's field of 0 or of all ones is one like any other.
+pub fn normal_root(bits: u64) -> f64 {
+    unsafe { raw::rungtwine_normal_root(bits) }
+}
+
 /// How many roots `a * t * t + b * t + c` has by the solver's rule, 0 to 2. Of three finite f32 values it is the exact number.
 pub fn root_count(a: f64, b: f64, c: f64) -> usize {
     unsafe { raw::rungtwine_root_count(a, b, c) }
@@ -70,4 +80,9 @@ pub fn root_count(a: f64, b: f64, c: f64) -> usize {
 /// That number, and each of up to two, 0 where there is none.
 pub fn roots(a: f64, b: f64, c: f64) -> (usize, f64, f64) {
     unsafe { (raw::rungtwine_root_count(a, b, c), raw::rungtwine_first_root(a, b, c), raw::rungtwine_second_root(a, b, c)) }
+}
+
+/// The same by the solver that takes a positive discriminant for a normal number. Of three finite f32 values it always is one, and both give the same.
+pub fn normal_roots(a: f64, b: f64, c: f64) -> (usize, f64, f64) {
+    unsafe { (raw::rungtwine_normal_root_count(a, b, c), raw::rungtwine_normal_first_root(a, b, c), raw::rungtwine_normal_second_root(a, b, c)) }
 }

@@ -1,7 +1,7 @@
 //! Holds the proved number helpers against this machine's own arithmetic.
 //!
 //! `compare COUNT`: that many patterns for each function, and a line for each with how many differ; exit status 1 if any does.
-//! `compare --time`: nanoseconds a call beside the machine's own operation, and the ratio.
+//! `compare --time`: nanoseconds a call beside the machine's own operation, and the ratio: calls that do not wait for each other, and calls in a chain.
 
 #[path = "../../include/rungtwine_numbers.rs"]
 mod proved;
@@ -43,11 +43,26 @@ mod machine {
     pub fn sqrt(x: f64) -> f64 {
         x.sqrt()
     }
+    /// The root of the normal number that a pattern's fields stand for: digits from 1 to 2 and an exponent of two, halved once it is even.
+    pub fn normal_root(bits: u64) -> f64 {
+        let exponent = (bits >> 52 & 0x7ff) as i64 - 1023;
+        let digits = f64::from_bits(1023 << 52 | bits & ((1 << 52) - 1));
+        let odd = exponent.rem_euclid(2);
+        let scale = f64::from_bits(((1023 + (exponent - odd) / 2) as u64) << 52);
+        (digits * (1 + odd) as f64).sqrt() * scale
+    }
     pub fn floor(x: f64) -> i64 {
         x.floor() as i64
     }
     /// `solve_quadratic` of the Rust, line by line.
     pub fn roots(a: f64, b: f64, c: f64) -> (usize, f64, f64) {
+        roots_by(f64::sqrt, a, b, c)
+    }
+    /// The same with a positive discriminant taken for a normal number.
+    pub fn normal_roots(a: f64, b: f64, c: f64) -> (usize, f64, f64) {
+        roots_by(|d| normal_root(d.to_bits()), a, b, c)
+    }
+    fn roots_by(root: impl Fn(f64) -> f64, a: f64, b: f64, c: f64) -> (usize, f64, f64) {
         if a == 0.0 || b.abs() > 1e12 * a.abs() {
             if b == 0.0 {
                 return (0, 0.0, 0.0);
@@ -56,7 +71,7 @@ mod machine {
         }
         let d = b * b - 4.0 * a * c;
         if d > 0.0 {
-            let s = d.sqrt();
+            let s = root(d);
             (2, (-b + s) / (2.0 * a), (-b - s) / (2.0 * a))
         } else if d == 0.0 {
             (1, -b / (2.0 * a), 0.0)
@@ -159,6 +174,10 @@ fn same64(a: f64, b: f64) -> bool {
     a.to_bits() == b.to_bits() || a.is_nan() && b.is_nan()
 }
 
+fn same_roots(p: (usize, f64, f64), q: (usize, f64, f64)) -> bool {
+    p.0 == q.0 && same64(p.1, q.1) && same64(p.2, q.2)
+}
+
 struct Tally {
     bad: u64,
     all: u64,
@@ -235,6 +254,12 @@ fn compare(count: u64) -> bool {
         let x = r.wide();
         (!same64(proved::sqrt(x), x.sqrt())).then(|| format!("{:016x}", x.to_bits()))
     });
+    t.run("normal root", count, |r| {
+        let x = r.wide();
+        let root = proved::normal_root(x.to_bits());
+        let same = same64(root, machine::normal_root(x.to_bits())) && (!(x > 0.0 && x.is_normal()) || same64(root, x.sqrt()));
+        (!same).then(|| format!("{:016x}", x.to_bits()))
+    });
     t.run("floor", count, |r| {
         let x = r.wide();
         (proved::floor(x) != machine::floor(x)).then(|| format!("{:016x}", x.to_bits()))
@@ -277,18 +302,49 @@ fn compare(count: u64) -> bool {
             _ => r.coefficient(),
         };
         let (p, m) = (proved::roots(a, b, c), machine::roots(a, b, c));
-        (p.0 != m.0 || !same64(p.1, m.1) || !same64(p.2, m.2)).then(|| format!("{a:?} {b:?} {c:?}: {p:?} {m:?}"))
+        (!same_roots(p, m)).then(|| format!("{a:?} {b:?} {c:?}: {p:?} {m:?}"))
     });
+    t.run("normal quadratic", count, |r| {
+        let (a, b, c) = (r.coefficient(), r.coefficient(), r.coefficient());
+        let (p, m) = (proved::normal_roots(a, b, c), machine::normal_roots(a, b, c));
+        (!same_roots(p, m)).then(|| format!("{a:?} {b:?} {c:?}: {p:?} {m:?}"))
+    });
+    // of finite values the two solvers give the same, and of any others the same or no root between 0 and 1
+    let mut other = 0;
+    t.run("both quadratics of f32", count, |r| {
+        let v = [r.narrow(), r.narrow(), r.narrow()];
+        let [a, b, c] = v.map(f64::from);
+        let (p, q, m) = (proved::normal_roots(a, b, c), proved::roots(a, b, c), machine::roots(a, b, c));
+        let same = same_roots(p, q);
+        other += u64::from(!same);
+        let none = |(n, x, y): (usize, f64, f64)| [x, y].iter().take(n).all(|&t| !(t > 0.0 && t < 1.0));
+        let allowed = same || !v.iter().all(|x| x.is_finite()) && none(p) && none(q);
+        (!allowed || !same_roots(q, m)).then(|| format!("{a:?} {b:?} {c:?}: {p:?} {q:?} {m:?}"))
+    });
+    println!("both quadratics of f32: {other} give other roots");
     println!("{} patterns against this machine's arithmetic, {} differ", t.all, t.bad);
     t.bad == 0
 }
 
-/// Nanoseconds a call over all inputs.
-fn once<A: Copy, B>(inputs: &[A], f: impl Fn(A) -> B) -> f64 {
+/// Nanoseconds a call over all inputs, where no call waits for another: each result has a place of its own.
+fn apart<A: Copy, B>(inputs: &[A], results: &mut [B], f: impl Fn(A) -> B) -> f64 {
     let start = Instant::now();
-    for &x in inputs {
-        black_box(f(black_box(x)));
+    for (&x, y) in inputs.iter().zip(&mut *results) {
+        *y = f(x);
     }
+    let time = start.elapsed().as_nanos() as f64 / inputs.len() as f64;
+    black_box(results);
+    time
+}
+
+/// The same where each call waits for the one before: a bit of its result, which is always 0, goes into the next operand.
+fn in_a_chain(inputs: &[f64], none: u64, f: impl Fn(f64) -> f64) -> f64 {
+    let start = Instant::now();
+    let mut last = 0;
+    for &x in inputs {
+        last = f(f64::from_bits(x.to_bits() ^ last & none)).to_bits();
+    }
+    black_box(last);
     start.elapsed().as_nanos() as f64 / inputs.len() as f64
 }
 
@@ -297,20 +353,33 @@ fn median(mut xs: Vec<f64>) -> f64 {
     xs[xs.len() / 2]
 }
 
-/// Both over the same inputs in turn, a hundred and one times: the medians of the times and of the ratios.
-fn row<A: Copy, B, C>(name: &str, inputs: &[A], ours: impl Fn(A) -> B, theirs: impl Fn(A) -> C) {
-    let pairs: Vec<(f64, f64)> = (0..101).map(|_| (once(inputs, &ours), once(inputs, &theirs))).collect();
+/// Both in turn, a hundred and one times: the medians of the times and of the ratios.
+fn row(name: &str, mut ours: impl FnMut() -> f64, mut theirs: impl FnMut() -> f64) {
+    let pairs: Vec<(f64, f64)> = (0..101).map(|_| (ours(), theirs())).collect();
     let a = median(pairs.iter().map(|p| p.0).collect());
     let b = median(pairs.iter().map(|p| p.1).collect());
     let r = median(pairs.iter().map(|p| p.0 / p.1).collect());
-    println!("{name:<12} proved {a:6.2} ns   machine {b:6.2} ns   ratio {r:5.2}");
+    println!("{name:<34} proved {a:6.2} ns   machine {b:6.2} ns   ratio {r:5.2}");
+}
+
+/// A root beside the machine's, by itself and in a chain.
+fn roots(name: &str, values: &[f64], root: impl Fn(f64) -> f64 + Copy) {
+    let (mut ours, mut theirs) = (values.to_vec(), values.to_vec());
+    let none = black_box(0);
+    row(name, || apart(values, &mut ours, root), || apart(values, &mut theirs, machine::sqrt));
+    row(&format!("{name}, in a chain"), || in_a_chain(values, none, root), || in_a_chain(values, none, machine::sqrt));
 }
 
 fn time() {
     let mut r = Random(1);
     let values: Vec<f64> = (0..65536).map(|_| f64::from_bits(0x3c00_0000_0000_0000 + (r.next() >> 5))).collect();
-    row("narrow", &values, proved::narrow, machine::narrow);
-    row("square root", &values, proved::sqrt, machine::sqrt);
+    let (mut ours, mut theirs) = (vec![0f32; values.len()], vec![0f32; values.len()]);
+    row("narrow", || apart(&values, &mut ours, proved::narrow), || apart(&values, &mut theirs, machine::narrow));
+    roots("square root", &values, proved::sqrt);
+    roots("normal root", &values, |x| proved::normal_root(x.to_bits()));
+    // where one of a pair's coefficients is 0 the discriminant is a square of an f32
+    let squares: Vec<f64> = values.iter().map(|&x| x as f32 as f64 * x as f32 as f64).collect();
+    roots("normal root of a square", &squares, |x| proved::normal_root(x.to_bits()));
 }
 
 fn main() {

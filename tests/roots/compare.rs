@@ -1,4 +1,5 @@
-//! Holds the number of roots that the proved solver gives against exact whole-number arithmetic.
+//! Holds the number of roots that the proved solver gives against exact whole-number arithmetic, and the roots that the pass's solver, the one without
+//! branches in its root, gives to those.
 //!
 //! `compare COUNT [SEED]`: that many triples of f32 coefficients, a line for each kind of triple with how its triples divide, and how many differ; exit status 1 if
 //! any does, if a kind never meets a case that it is there for, or if one of the three f64 triples that the solver is known to count wrongly is counted otherwise.
@@ -270,6 +271,10 @@ fn converse() -> u64 {
     bad
 }
 
+fn bits((count, first, second): (usize, f64, f64)) -> (usize, u64, u64) {
+    (count, first.to_bits(), second.to_bits())
+}
+
 /// `count` triples of the kind `index`: how many differ, or were never met.
 fn compare(index: usize, count: u64, seed: u64) -> u64 {
     let kind = &KINDS[index];
@@ -280,11 +285,13 @@ fn compare(index: usize, count: u64, seed: u64) -> u64 {
         let [a, b, c] = t.map(|x| whole_of(x.to_bits()));
         let (way, truth) = judge(&a, &b, &c);
         met[way as usize] += 1;
-        let given = proved::root_count(t[0] as f64, t[1] as f64, t[2] as f64);
-        if given != truth {
+        let [p, q, r] = t.map(f64::from);
+        let (given, normal) = (proved::roots(p, q, r), proved::normal_roots(p, q, r));
+        if given.0 != truth || bits(given) != bits(normal) {
             bad += 1;
             if bad <= 3 {
-                println!("{}: {:08x} {:08x} {:08x}: {given} roots, {truth} in truth", kind.name, t[0].to_bits(), t[1].to_bits(), t[2].to_bits());
+                let [a, b, c] = t.map(f32::to_bits);
+                println!("{}: {a:08x} {b:08x} {c:08x}: {} roots, {truth} in truth: {given:?}, {normal:?} without branches", kind.name, given.0);
             }
         }
     }

@@ -14,4 +14,5 @@ pub mod Nearest
 pub mod Constants
 pub mod EquationSolver
 pub mod RootCount
+pub mod NormalRoots
 pub mod Alike

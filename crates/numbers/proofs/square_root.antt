@@ -1,5 +1,4 @@
--- The root by whole numbers.
+-- The root by whole numbers, and the guess at it by floats.
 pub mod Rooting
 pub mod Roots
-pub mod Start
-pub mod Table
+pub mod Guessing

@@ -4,10 +4,10 @@ use mathlib.Core.Bool.{Bool, _||_, cond}
 use mathlib.Core.List.{List, [], _∷_}
 use Prim.Native.Nat.{ℕ}
 use lib.ListN.{length, getD}
-use lib.Ieee.{Float, binary64, add, sub, mul, div, neg, lt, eq}
+use lib.Ieee.{Float, binary64, add, sub, mul, div, neg, lt, eq, toBits}
 use Rattle.numbers.specs.Constants.{zeroOf, dominance, two, four}
 use Rattle.numbers.specs.Scalar.{absOf}
-use Rattle.numbers.specs.SquareRoot.{sqrtOf}
+use Rattle.numbers.specs.SquareRoot.{sqrtOf, normalRoot}
 
 -- a = 0 or |b| > 1e12·|a|
 unfoldable pub isLinear : Float → Float → Bool
@@ -42,6 +42,12 @@ squareRoots a b d = squareRootsBy (sqrtOf d) a b d
 -- the roots, in the order in which they are tried
 unfoldable pub rootsOf : Float → Float → Float → List Float
 rootsOf a b c = cond (isLinear a b) (linearRoots b c) (squareRoots a b (discriminant a b c))
+
+-- the same with the root of the normal number that D's pattern stands for: they are the roots wherever a positive D is normal
+unfoldable pub normalRootsOf : Float → Float → Float → List Float
+normalRootsOf a b c =
+    let d = discriminant a b c in
+    cond (isLinear a b) (linearRoots b c) (squareRootsBy (normalRoot (toBits binary64 d)) a b d)
 
 -- a list of at most two values as a count and two values, the unused ones 0
 pub record Listed (xs : List Float) (count : ℕ) (first second : Float) : Type 0 where

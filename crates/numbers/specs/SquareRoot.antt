@@ -1,10 +1,11 @@
 -- The square root of a float, rounded to the nearest value of binary64: IEEE 754's squareRoot, over whole numbers. Definitions only.
--- `Laws/SquareRoot.antt` below `proofs/` shows that of a positive value `sqrtOf` is the only one that `NearestRoot` admits.
-use Prim.Native.Nat.{ℕ, zero, suc, _+_, _-_, _*_, _/_, _^_, _<_, compare}
+-- `Laws/SquareRoot.antt` below `proofs/` shows that of a positive value `sqrtOf` is the only one that `NearestRoot` admits, and that of a positive normal value's pattern
+-- `normalRoot` is the same.
+use Prim.Native.Nat.{ℕ, zero, suc, _+_, _-_, _*_, _/_, _%_, _^_, _≤_, _<_, compare}
 use mathlib.Core.Bool.{true, false, cond}
 use lib.IntN.{ℤ}
 use lib.Dec.{T, leb}
-use lib.Ieee.{Float, nan, inf, fin, Format, binary64, prec, low, up, down, size, nearest, units, fits}
+use lib.Ieee.{Float, nan, inf, fin, Format, binary64, prec, low, up, down, size, nearest, units, fits, hid, ones, top, toBits}
 
 -- r + 1 where its square is at most n, and r where it is not
 abbrev pub another : ℕ → ℕ → ℕ
@@ -39,6 +40,18 @@ sqrtOf (inf false) = inf false
 sqrtOf (fin s zero e) = fin s zero e
 sqrtOf (fin true (suc m) e) = nan
 sqrtOf (fin false (suc m) e) = rootOf binary64 (suc m * up e) (down e)
+
+-- a positive normal value, by its pattern: no sign, and an exponent's field that is neither 0, as a zero's and a subnormal's, nor all ones, as an infinity's
+abbrev pub PositiveNormal : Float → Type 0
+PositiveNormal x = (hid binary64 ≤ toBits binary64 x) × (toBits binary64 x < ones binary64 * hid binary64)
+
+-- the normal number that a pattern's fields stand for, whatever the pattern, in units of 2 ^ -1075: no sign is looked at, and a field of 0 or of all ones is an exponent like any other
+abbrev pub normalSize : ℕ → ℕ
+normalSize b = (hid binary64 + b % hid binary64) * 2 ^ (b % top binary64 / hid binary64)
+
+-- its square root
+unfoldable pub normalRoot : ℕ → Float
+normalRoot b = rootOf binary64 (normalSize b) (2 ^ suc (low binary64))
 
 -- The square of the midpoint between a / c and b / d is above num / den, and below it.
 abbrev pub MidpointAbove : ℕ → ℕ → ℕ → ℕ → ℕ → ℕ → Type 0

@@ -5,7 +5,7 @@ ghost use mathlib.Core.List.{[], _∷_};
 ghost use lib.Ieee.{binary64, lt, eq, div, neg, mul};
 ghost use Rattle.numbers.specs.Constants.{zeroOf, two};
 ghost use Rattle.numbers.specs.EquationSolver as EquationSolver;
-ghost use Rattle.numbers.specs.EquationSolver.{linearRoots, upperRoot, lowerRoot, rootsOf, Listed};
+ghost use Rattle.numbers.specs.EquationSolver.{linearRoots, upperRoot, lowerRoot, rootsOf, normalRootsOf, Listed};
 use crate::constants;
 use crate::scalar;
 use crate::square_root;
@@ -94,6 +94,20 @@ pub fn solve_quadratic(a: f64, b: f64, c: f64) -> Roots
     let d = discriminant(a, b, c);
     if is_positive(d) {
         return two_roots(a, b, square_root::sqrt(d));
+    }
+    at_most_one_root(a, b, d)
+}
+
+// The same, with a positive discriminant taken for a normal number: that of three finite values of f32 always is.
+pub fn solve_normal_quadratic(a: f64, b: f64, c: f64) -> Roots
+    ensures { λ r. ⌜ Listed (normalRootsOf a b c) (r .count) (r .first) (r .second) ⌝ }
+{
+    if is_linear(a, b) {
+        return solve_linear(b, c);
+    }
+    let d = discriminant(a, b, c);
+    if is_positive(d) {
+        return two_roots(a, b, square_root::normal_root(f64::to_bits(d)));
     }
     at_most_one_root(a, b, d)
 }

@@ -1,9 +1,9 @@
-// The square root of an f64: a guess at the first half of its digits that is tested, then one step of one division that doubles them.
-// Where the guess is off: a table for the first digits and two such steps more.
+// The square root of an f64: a guess at the first half of its digits that is tested, then one step of one division that doubles them and rounds.
+// `normal_root` has no case for what is not positive, normal and finite; `sqrt` is those cases around it.
 ghost use mathlib.Core.Path.{_≡_};
 ghost use Prim.Native.Nat.{_+_, _*_, _≤_, _<_};
-ghost use Rattle.numbers.specs.SquareRoot.{sqrtOf};
-ghost use Rattle.numbers.specs.Inner.{IsRoot, Extends, nearestRoot, rootBits};
+ghost use Rattle.numbers.specs.SquareRoot.{sqrtOf, normalRoot};
+ghost use Rattle.numbers.specs.Inner.{IsRoot, nearestRoot, newtonStep};
 
 // A whole number's root s, cut to a whole number, and what is left, r.
 struct Root {
@@ -11,103 +11,71 @@ struct Root {
     r: u64,
 }
 
-fn wide(x: u8) -> u64
-    ensures { λ r. ⌜ r ≡ x ⌝ }
+// From the root of h.s * h.s + h.r to that of the number with one more digit to the base 4, a.
+fn one_digit(h: Root, a: u64) -> Root
+    requires { ⌜ (h .s < 67108864) × (h .r ≤ 2 * h .s) × (a < 4) ⌝ }
+    ensures { λ r. ⌜ IsRoot ((h .s * h .s + h .r) * 4 + a) (r .s) (r .r) ⌝ }
 {
-    x as u64
-}
-
-// The root of a number of 14 digits, by a table of the 8 upper ones.
-fn root14(n: u64) -> Root
-    requires { ⌜ (4096 ≤ n) × (n < 16384) ⌝ }
-    ensures { λ r. ⌜ IsRoot n (r .s) (r .r) ⌝ }
-{
-    let i = (n / 64 - 64) as usize;
-    // the roots of 64 * i + 4159, the largest number with the same upper 8 of its 14 digits
-    let roots =
-        b"@@AABBCCDDEEFFGGGHHIIJJKKKLLMMMNNOOOPPQQQRRSSSTTUUUVVVWWWXXYYYZZZ[[[\\\\\\]]]^^^___```aaabbbcccdddeeefffgggghhhiiijjjkkkklllmmmmnnnoooopppqqqqrrrsssstttuuuuvvvvwwwwxxxyyyyzzzz{{{{||||}}}}~~~~\x7f\x7f\x7f\x7f";
-    let t = wide(roots[i]);
-    if t * t <= n {
-        Root { s: t, r: n - t * t }
-    } else {
-        let s = t - 1;
-        Root { s, r: n - s * s }
-    }
-}
-
-// From the root of h.s * h.s + h.r to that of the number with two more digits to the base b, a and then c.
-fn extend(h: Root, a: u64, c: u64, b: u64) -> Root
-    requires { ⌜ Extends (h .s) (h .r) a c b ⌝ }
-    ensures { λ r. ⌜ IsRoot ((h .s * h .s + h .r) * (b * b) + a * b + c) (r .s) (r .r) ⌝ }
-{
-    let d = 2 * h.s;
-    let t = h.r * b + a;
-    let q = t / d;
-    let s = h.s * b + q;
-    let m = t % d * b + c;
-    let p = q * q;
-    if p <= m {
-        Root { s, r: m - p }
-    } else {
+    let t = h.r * 4 + a;
+    let q = h.s * 4 + 1;
+    if q <= t {
         Root {
-            s: s - 1,
-            r: m + 2 * s - 1 - p,
+            s: 2 * h.s + 1,
+            r: t - q,
         }
+    } else {
+        Root { s: 2 * h.s, r: t }
     }
 }
 
-// The root of a number of 28 digits.
-fn root28(n: u64) -> Root
-    requires { ⌜ (67108864 ≤ n) × (n < 268435456) ⌝ }
+// The root of a number of up to 54 digits, digit by digit.
+fn by_digits(n: u64) -> Root
+    requires { ⌜ n < 18014398509481984 ⌝ }
     ensures { λ r. ⌜ IsRoot n (r .s) (r .r) ⌝ }
 {
-    extend(root14(n / 16384), n / 128 % 128, n % 128, 128)
-}
-
-// The pattern of the value from 1 to 4 that has the digits of n.
-fn pattern(n: u64) -> u64
-    requires { ⌜ (4503599627370496 ≤ n) × (n < 18014398509481984) ⌝ }
-    ensures { λ r. ⌜ (4607182418800017408 ≤ r) × (r < 4616189618054758400) ⌝ }
-{
-    if n < 9007199254740992 {
-        n + 4602678819172646912
-    } else {
-        n / 2 + 4607182418800017408
+    let mut h = Root { s: 0, r: 0 };
+    let mut k = 27u64;
+    while k > 0 {
+        k -= 1;
+        h = one_digit(h, (n >> (2 * k)) % 4);
     }
+    h
 }
 
-// One step of Newton's method towards 1 over the root of 2 * h.
-fn newton(y: f64, h: f64) -> f64 {
-    y * (1.5 - h * (y * y))
+// One step of Newton's method towards 1 over the root of v, where h is v / 2 and c is 1.5: y * (c - h * y * y), with what can be worked out at once side by side.
+fn newton(y: f64, h: f64, c: f64) -> f64
+    ensures { λ r. ⌜ r ≡ newtonStep y h c ⌝ }
+{
+    c * y - h * y * (y * y)
 }
 
-// A guess at the root of n, by floats. It is right but for one n in a thousand, and whoever takes it tests it.
-fn guess(n: u64) -> u64
-    requires { ⌜ (4503599627370496 ≤ n) × (n < 18014398509481984) ⌝ }
+// A guess at the first 27 digits of the root of the value with the pattern x, from 1/2 to 2. It is by floats, right but for one in ten thousand, and whoever
+// takes it tests it.
+fn guess(x: u64) -> u64
+    requires { ⌜ (4602678819172646912 ≤ x) × (x < 4611686018427387904) ⌝ }
     ensures { λ r. ⌜ r < 134217728 ⌝ }
 {
-    let b = pattern(n);
-    let x = f64::from_bits(b);
-    let h = x * 0.5;
+    let v = f64::from_bits(x);
+    let h = v * 0.5;
+    // half the exponent for a start, and factors by which the first step errs least
     let y = newton(
-        newton(newton(f64::from_bits(0x5fe6_eb50_c7b5_37a9 - b / 2), h), h),
-        h,
+        f64::from_bits(0x5fe4_0400_0000_0000 - x / 2),
+        v * 0.70255,
+        1.6808,
     );
-    let z = x * y;
-    if z >= 1.0 {
-        if z < 2.0 {
-            return (4503599627370496 + f64::to_bits(z) % 4503599627370496) / 67108864;
-        }
-    }
-    0
+    // the last step, times v, is towards the root itself; its factor is a little above 1.5, so that a root of few digits is not missed from below
+    let z = newton(newton(y, h, 1.5), v * h, v * 1.5000000000009095);
+    (4503599627370496 + f64::to_bits(z) % 4503599627370496) / 67108864
 }
 
-// The root of a number of 53 or 54 digits: the guess where it is right, and otherwise from 28 digits.
-fn root54(n: u64) -> Root
+// The root of a number n of 53 or 54 digits, for which x is the pattern with the same digits of a value from 1/2 to 2: the guess where it is right, and
+// otherwise digit by digit.
+fn root54(n: u64, x: u64) -> Root
     requires { ⌜ (4503599627370496 ≤ n) × (n < 18014398509481984) ⌝ }
+    requires { ⌜ (4602678819172646912 ≤ x) × (x < 4611686018427387904) ⌝ }
     ensures { λ r. ⌜ IsRoot n (r .s) (r .r) ⌝ }
 {
-    let s = guess(n);
+    let s = guess(x);
     let p = s * s;
     if p <= n {
         let r = n - p;
@@ -115,7 +83,7 @@ fn root54(n: u64) -> Root
             return Root { s, r };
         }
     }
-    extend(root28(n / 67108864), n / 8192 % 8192, n % 8192, 8192)
+    by_digits(n)
 }
 
 // The whole number nearest to the root of n * 2^52, from that of n = h.s * h.s + h.r: the last step, which rounds at once.
@@ -134,14 +102,14 @@ fn nearest106(h: Root) -> u64
     }
 }
 
-// The pattern of the root of the value with the pattern b, which is positive, normal and finite: no special case is left.
-fn root_bits(b: u64) -> u64
-    requires { ⌜ (4503599627370496 ≤ b) × (b < 9218868437227405312) ⌝ }
-    ensures { λ r. ⌜ r ≡ rootBits b ⌝ }
+// The square root of the normal number that the fields of the pattern b stand for, whatever the pattern: no case is left.
+pub fn normal_root(b: u64) -> f64
+    ensures { λ r. ⌜ r ≡ normalRoot b ⌝ }
 {
-    let e = b / 4503599627370496;
+    let e = b / 4503599627370496 % 2048;
     let n = (4503599627370496 + b % 4503599627370496) * (2 - e % 2);
-    (e + 1021) / 2 * 4503599627370496 + nearest106(root54(n))
+    let x = 4602678819172646912 + b % 9007199254740992;
+    f64::from_bits((e + 1021) / 2 * 4503599627370496 + nearest106(root54(n, x)))
 }
 
 // IEEE 754's squareRoot, of every f64.
@@ -151,12 +119,12 @@ pub fn sqrt(x: f64) -> f64
     if x > 0.0 {
         let b = f64::to_bits(x);
         if b < 4503599627370496 {
-            // 2^54 times as large it is normal
+            // 2^54 times as large it is normal, and its root 2^27 times as large
             let y = x * 18014398509481984.0;
-            return f64::from_bits(root_bits(f64::to_bits(y)) - 121597189939003392);
+            return normal_root(f64::to_bits(y)) * 7.450580596923828125e-9;
         }
         if b < 9218868437227405312 {
-            return f64::from_bits(root_bits(b));
+            return normal_root(b);
         }
         return x;
     }

@@ -5,8 +5,8 @@ ghost use lib.ListN.{length, getD};
 ghost use Rattle.numbers.specs.Constants.{zeroOf};
 ghost use Rattle.numbers.specs.Scalar.{minOf, maxOf, medianOf, middleOf, absOf, mixOf};
 ghost use Rattle.numbers.specs.Rounding.{narrowOf, floorOf};
-ghost use Rattle.numbers.specs.SquareRoot.{sqrtOf};
-ghost use Rattle.numbers.specs.EquationSolver.{rootsOf};
+ghost use Rattle.numbers.specs.SquareRoot.{sqrtOf, normalRoot};
+ghost use Rattle.numbers.specs.EquationSolver.{rootsOf, normalRootsOf};
 use numbers::equation_solver;
 use numbers::rounding;
 use numbers::scalar;
@@ -77,6 +77,14 @@ pub extern "C" fn rungtwine_sqrt(x: f64) -> f64
     square_root::sqrt(x)
 }
 
+// The square root of the normal number that the fields of a pattern stand for, whatever the pattern.
+#[no_mangle]
+pub extern "C" fn rungtwine_normal_root(b: u64) -> f64
+    ensures { λ r. ⌜ r ≡ normalRoot b ⌝ }
+{
+    square_root::normal_root(b)
+}
+
 #[no_mangle]
 pub extern "C" fn rungtwine_floor(x: f64) -> i64
     ensures { λ r. ⌜ r ≡ floorOf x ⌝ }
@@ -106,5 +114,30 @@ pub extern "C" fn rungtwine_second_root(a: f64, b: f64, c: f64) -> f64
     ensures { λ r. ⌜ r ≡ getD (rootsOf a b c) 1 (zeroOf binary64) ⌝ }
 {
     let r = equation_solver::solve_quadratic(a, b, c);
+    r.second
+}
+
+// The same by the solver that takes a positive discriminant for a normal number.
+#[no_mangle]
+pub extern "C" fn rungtwine_normal_root_count(a: f64, b: f64, c: f64) -> usize
+    ensures { λ r. ⌜ r ≡ length (normalRootsOf a b c) ⌝ }
+{
+    let r = equation_solver::solve_normal_quadratic(a, b, c);
+    r.count
+}
+
+#[no_mangle]
+pub extern "C" fn rungtwine_normal_first_root(a: f64, b: f64, c: f64) -> f64
+    ensures { λ r. ⌜ r ≡ getD (normalRootsOf a b c) 0 (zeroOf binary64) ⌝ }
+{
+    let r = equation_solver::solve_normal_quadratic(a, b, c);
+    r.first
+}
+
+#[no_mangle]
+pub extern "C" fn rungtwine_normal_second_root(a: f64, b: f64, c: f64) -> f64
+    ensures { λ r. ⌜ r ≡ getD (normalRootsOf a b c) 1 (zeroOf binary64) ⌝ }
+{
+    let r = equation_solver::solve_normal_quadratic(a, b, c);
     r.second
 }

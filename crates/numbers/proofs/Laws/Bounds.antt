@@ -2,6 +2,7 @@
 --     Within                                    x is finite, and at most 2 ^ k in size
 --     within-more, within-finite, within-no-nan  so it is with any larger bound, and it is finite and no NaN
 --     within-held                               so one that a format holds is a finite value of it
+--     value-within                              the bound of a value that is known as a fraction
 --     neg-within, abs-within                    the negative and the size are as large
 --     min-within, max-within, median-within     what is chosen keeps the bound of all
 --     within-of-le, le-of-within                the bound as a comparison
@@ -21,12 +22,14 @@ use lib.Pow.{pow-add, pow-mono, pow-lt}
 use lib.Ieee.{Float, nan, inf, fin, Format, binary32, binary64, emax, up, down, unlike, round, add, sub, mul, neg, le, lt, isNan, fits, ofBits}
 use lib.Ieee.Fits.{down-pos}
 use lib.Ieee.Order.{round-mono}
+use lib.Ieee.Exact.{HasValue}
 use Rattle.numbers.specs.Constants.{zeroOf, oneOf}
 use Rattle.numbers.specs.Rounding.{narrowOf}
 use Rattle.numbers.specs.Nearest.{sumSize, sumSign}
 use Rattle.numbers.specs.Whole.{Finite}
 use Rattle.numbers.specs.Scalar.{mixOf, minOf, maxOf, medianOf, absOf}
 use Rattle.numbers.proofs.floats.Differences.{summed, sum-size, round-neg, Signed, round-signed}
+use Rattle.numbers.proofs.floats.Values.{with-value}
 use Rattle.numbers.proofs.Laws.Order.{AtMost, nought, one, finite, finite-number, le→at-most, at-most→le, number-right, le-of-lt, not-below, not-above}
 use Rattle.numbers.proofs.Laws.Monotone.{rest-lo, rest-hi}
 use Rattle.numbers.proofs.Laws.Exact.{round-value}
@@ -53,6 +56,9 @@ within-no-nan k x w = finite-number x (within-finite k x w)
 
 pub within-held : (k : ℕ) (f : Format) (x : Float) → Within k x → T (fits f x) → Finite f x
 within-held k f x w = within-cases (λ x. T (fits f x) → Finite f x) k x w (λ s m e l p. p)
+
+pub value-within : (k : ℕ) (x : Float) (s : Bool) (a c : ℕ) → 0 < c → HasValue x s a c → a ≤ 2 ^ k * c → Within k x
+value-within k x s a c C h l = with-value (Within k) x s a c h (λ m e q. le-of-mul-le-mul-right (le-trans (le-of-eq q) (le-trans (mul-le-mul-right (down e) l) (le-of-eq (mul-right-comm (2 ^ k) c (down e))))) C)
 
 -- ---- signs and selection
 pub neg-within : (k : ℕ) (x : Float) → Within k x → Within k (neg x)

@@ -1,5 +1,6 @@
 -- A rounded difference of two finite values of a format is positive, zero or negative exactly as the true one is: it is a whole number of the format's smallest values. Assumes nothing.
 --     sub-positive, sub-zero, sub-negative  x - y is above 0 just where y is below x, equals 0 just where they are equal, and is below 0 just where x is below y
+--     counted, one-at-least                 a difference of two whole numbers of a unit is such a number, so it is zero or at least one unit
 use mathlib.Core.Path.{_≡_, refl, sym, ap, _∙_, subst}
 use mathlib.Core.Logic.{inl, inr}
 use Prim.Native.Nat.{ℕ, zero, suc, _+_, _*_, _^_, _≤_, _<_, zero-le}
@@ -120,11 +121,11 @@ round-signs f u r c C h = elim (eq-zero-or-pos r) [
 
 -- ---- a difference of two values that a format holds is a whole number of its smallest values
 -- so it is 0 or at least one of them
-one-at-least : (r k c L : ℕ) → 0 < L → r * L ≡ k * c → 0 < r → c ≤ r * L
+pub one-at-least : (r k c L : ℕ) → 0 < L → r * L ≡ k * c → 0 < r → c ≤ r * L
 one-at-least r zero c L P e h = absurd (lt-irrefl 0 (subst (λ (x : ℕ). 0 < x) (e ∙ zero-mul c) (mul-pos h P)))
 one-at-least r (suc k) c L P e h = omega (arith, e)
 
-counted : (same : Bool) (A B X Y c L : ℕ) → A * L ≡ X * c → B * L ≡ Y * c → cond same (A + B) (apart A B) * L ≡ cond same (X + Y) (apart X Y) * c
+pub counted : (same : Bool) (A B X Y c L : ℕ) → A * L ≡ X * c → B * L ≡ Y * c → cond same (A + B) (apart A B) * L ≡ cond same (X + Y) (apart X Y) * c
 counted true A B X Y c L a b = omega (arith, a, b)
 counted false A B X Y c L a b = sym (apart-scale A B L) ∙ (λ i. apart (a i) (b i)) ∙ apart-scale X Y c
 

@@ -1,13 +1,14 @@
 -- The roots of a quadratic by cases, and what a count and two values say of a list of at most two. Assumes nothing.
 --     linear-at-zero, linear-dominated, not-linear  with a = 0, or where b dominates a, the equation is linear, and elsewhere not
 --     roots-linear, roots-square                so its roots are those of the linear rule, or of the rule with the discriminant
+--     normal-linear, normal-square              and so it is with the root of a normal number
 --     linear-none, linear-one                   the linear rule gives no root where b = 0, and elsewhere −c/b
 --     by-two, by-one, by-none                   the other gives both roots where D > 0, one where D = 0, and none elsewhere, whatever s is taken for D's root
 --     by-fewer                                  so s matters only where D > 0
 --     square-two, square-one, square-none, square-fewer  as it is with D's square root
 --     square-nan                                which gives none where D is a NaN
 --     by-count                                  how many the other rule gives
---     at-most-two                               there are at most two roots
+--     at-most-two, normal-at-most-two           there are at most two roots
 --     none-one-two                              a list of at most two values has none, one or two
 --     listed-is, listed-count, listed-same      what a count and two values say of such a list
 --     listed-none, listed-one, listed-two       how none, one and two values are listed
@@ -19,12 +20,12 @@ use Prim.Native.Nat.{ℕ, _≤_}
 use native.Mathlib.Nat.{not-suc-le-zero, le-of-suc-le-suc, le-trans, le-of-eq as nat-le-of-eq}
 use lib.Dec.{T, not-T, lit≤}
 use lib.ListN.{length, getD, take}
-use lib.Ieee.{Float, nan, binary64, lt, eq, mul, div, neg, ofBits}
+use lib.Ieee.{Float, nan, binary64, lt, eq, mul, div, neg, ofBits, toBits}
 use lib.Ieee.Bits.{is-false}
 use Rattle.numbers.specs.Constants.{zeroOf, dominance, two}
 use Rattle.numbers.specs.Scalar.{absOf}
-use Rattle.numbers.specs.SquareRoot.{sqrtOf}
-use Rattle.numbers.specs.EquationSolver.{isLinear, linearRoots, discriminant, upperRoot, lowerRoot, squareRootsBy, squareRoots, rootsOf, Listed}
+use Rattle.numbers.specs.SquareRoot.{sqrtOf, normalRoot}
+use Rattle.numbers.specs.EquationSolver.{isLinear, linearRoots, discriminant, upperRoot, lowerRoot, squareRootsBy, squareRoots, rootsOf, normalRootsOf, Listed}
 use Rattle.numbers.proofs.Laws.Order.{lt-not-le, le-of-eq}
 
 -- ---- which of the two rules
@@ -47,6 +48,14 @@ roots-linear a b c h = ap (λ (t : Bool). cond t (linearRoots b c) (squareRoots 
 pub roots-square : (a b c : Float) → isLinear a b ≡ false → rootsOf a b c ≡ squareRoots a b (discriminant a b c)
 unfolding rootsOf
 roots-square a b c h = ap (λ (t : Bool). cond t (linearRoots b c) (squareRoots a b (discriminant a b c))) h
+
+pub normal-linear : (a b c : Float) → isLinear a b ≡ true → normalRootsOf a b c ≡ linearRoots b c
+unfolding normalRootsOf
+normal-linear a b c h = ap (λ (t : Bool). cond t (linearRoots b c) (squareRootsBy (normalRoot (toBits binary64 (discriminant a b c))) a b (discriminant a b c))) h
+
+pub normal-square : (a b c : Float) → isLinear a b ≡ false → normalRootsOf a b c ≡ squareRootsBy (normalRoot (toBits binary64 (discriminant a b c))) a b (discriminant a b c)
+unfolding normalRootsOf
+normal-square a b c h = ap (λ (t : Bool). cond t (linearRoots b c) (squareRootsBy (normalRoot (toBits binary64 (discriminant a b c))) a b (discriminant a b c))) h
 
 -- ---- the linear rule
 pub linear-none : (b c : Float) → eq b (zeroOf binary64) ≡ true → linearRoots b c ≡ []
@@ -123,6 +132,10 @@ by-at-most-two s a b c d = go (isLinear a b) (eq b (zeroOf binary64)) (lt (zeroO
 pub at-most-two : (a b c : Float) → length (rootsOf a b c) ≤ 2
 unfolding rootsOf squareRoots
 at-most-two a b c = by-at-most-two (sqrtOf (discriminant a b c)) a b c (discriminant a b c)
+
+pub normal-at-most-two : (a b c : Float) → length (normalRootsOf a b c) ≤ 2
+unfolding normalRootsOf
+normal-at-most-two a b c = by-at-most-two (normalRoot (toBits binary64 (discriminant a b c))) a b c (discriminant a b c)
 
 pub none-one-two : (xs : List Float) → length xs ≤ 2 → (xs ≡ []) ⊎ ((x : Float) × (xs ≡ x ∷ [])) ⊎ ((x : Float) × (y : Float) × (xs ≡ x ∷ y ∷ []))
 none-one-two [] h = inl refl

@@ -2,27 +2,28 @@
 use mathlib.Core.Path.{_≡_, refl, sym, ap, _∙_, subst}
 use mathlib.Core.Logic.{_⊎_, inl, inr}
 use Prim.Native.Nat.{ℕ, zero, suc, _+_, _-_, _*_, _/_, _%_, _^_, _≤_, _<_, compare}
-use native.Mathlib.Nat.{le-trans, lt-of-lt-of-le, lt-of-le-of-lt, zero-lt-suc, lt-irrefl, mul-assoc, mul-comm, mul-one, zero-mul, mul-right-comm, mul-pos, eq-of-mul-eq-mul-right}
+use native.Mathlib.Nat.{le-trans, lt-of-lt-of-le, lt-of-le-of-lt, zero-lt-suc, lt-irrefl, mul-assoc, mul-comm, mul-one, zero-mul, mul-right-comm, mul-pos, mul-le-mul, eq-of-mul-eq-mul-right}
 use native.Mathlib.Omega.{arith}
 use mathlib.Core.Bool.{Bool, true, false, not, _&&_, _||_, Bool·beq, true≢false, false≢true}
 use lib.IntN.{ℤ}
 use lib.Dec.{T, leb, ltb, eqb, lt→ltb, eqb→eq, lit<, lit≤}
-use lib.Pow.{pow-add, pow-pos, shl-lt}
-use lib.Ieee.{Float, nan, inf, fin, binary64, up, down, size, nearest, units, mul, lt, eq, isNan, fits, ofFields, ofBits, toBits, nanBits}
+use lib.Pow.{pow-add, pow-pos, pow-mono, shl-lt}
+use lib.Ieee.{Float, nan, inf, fin, binary64, up, down, size, units, mul, lt, eq, isNan, fits, ofFields, ofBits, toBits, nanBits}
 use lib.Ieee.Fits.{and-l, up-pos, down-pos, nearest-le, kept-lt, mul-fits}
 use lib.Ieee.Digits.{size-le}
-use lib.Ieee.Exact.{HasValue, round-exact}
+use lib.Ieee.Exact.{HasValue, units-val, round-exact}
 use lib.Ieee.Nearest.{nearest-ge}
-use lib.Ieee.Bits.{ofBits-toBits}
-use Rattle.numbers.specs.SquareRoot.{root, sqrtOf}
-use Rattle.numbers.specs.Inner.{nearestRoot, rootBits}
+use lib.Ieee.Bits.{ofBits-toBits, ofBits-fits}
+use Rattle.numbers.specs.SquareRoot.{root, sqrtOf, normalSize, normalRoot}
+use Rattle.numbers.specs.Inner.{nearestRoot}
 use Rattle.numbers.proofs.floats.Differences.{zero-of}
-use Rattle.numbers.proofs.floats.Values.{value-no-nan, same-value, mul-value}
+use Rattle.numbers.proofs.floats.Values.{with-value, value-no-nan, same-value, mul-value}
 use Rattle.numbers.proofs.floats.Patterns.{pattern, pattern-no-nan, toBits-val, size-gt}
 use Rattle.numbers.proofs.rounding.Narrowing.{val, value, exp, digits, size-of, size-value, signed, top-field}
 use Rattle.numbers.proofs.square_root.Roots.{root-around, rootOf-at, square-le, square-lt, four-pow, doubled}
 use Rattle.numbers.proofs.floats.Signs.{size-lt-top}
 use Rattle.numbers.proofs.Laws.Order.{nought}
+use Rattle.numbers.proofs.Laws.Exact.{round-value}
 
 -- ---- the root of a value with N * 2 ^ 1074 = M * 4 ^ k, for an M of 105 or 106 digits
 abbrev pub Wide : ℕ → Type 0
@@ -53,74 +54,115 @@ pub nearest-wide : (M : ℕ) → Wide M → (4503599627370496 ≤ nearestRoot M)
 unfolding nearestRoot
 nearest-wide M w = (le-trans (root-wide M w .0) (nearest-ge (root M) (compare (M * 4) ((2 * root M + 1) * (2 * root M + 1)))), le-trans (nearest-le (root M) (compare (M * 4) ((2 * root M + 1) * (2 * root M + 1)))) (root-wide M w .1))
 
-abbrev pub Right : Float → ℕ → Type 0
-Right x b = (ofBits binary64 b ≡ sqrtOf x) × T (not (nanBits binary64 b))
-
-rooted : (x : Float) (N M k b : ℕ) → HasValue x false N (2 ^ 1074) → 0 < N → N * 2 ^ 1074 ≡ M * 4 ^ k → Wide M → k ≤ 2045 → k * 4503599627370496 + nearestRoot M ≡ b → Right x b
-rooted x N M k b h P e w l is =
+-- the pattern of such a root
+patterned : (M k b : ℕ) → Wide M → k ≤ 2045 → k * 4503599627370496 + nearestRoot M ≡ b → (ofBits binary64 b ≡ units binary64 false (nearestRoot M) k) × T (not (nanBits binary64 b))
+patterned M k b w l is =
     let n = nearest-wide M w in
     let fit : k * 4503599627370496 + nearestRoot M ≤ 2047 * 4503599627370496 = omega arith in
     let z : 0 + (k * 4503599627370496 + nearestRoot M) ≡ b = omega arith in (
-      ap (ofBits binary64) (sym z) ∙ pattern binary64 false (nearestRoot M) k (n .1) (inr (n .0)) fit ∙ sym (sqrt-units x N M k h P e w),
+      ap (ofBits binary64) (sym z) ∙ pattern binary64 false (nearestRoot M) k (n .1) (inr (n .0)) fit,
       subst (λ (y : ℕ). T (not (nanBits binary64 y))) z (pattern-no-nan binary64 false (nearestRoot M) k (n .1) (inr (n .0)) fit),
     )
 
--- ---- a normal pattern b
+-- ---- the number with the field e and the digits t: (2 ^ 52 + t) * 2 ^ e / 2 ^ 1075, whatever the field
 pub four-two : (k : ℕ) → 4 ^ k ≡ 2 ^ (k + k)
 four-two k = four-pow k ∙ sym (pow-add 2 k k)
 
-halves : (x w k : ℕ) → ((w ≡ 1) × (x + 1074 ≡ 52 + (k + k))) ⊎ ((w ≡ 2) × (x + 1074 ≡ 53 + (k + k))) → 2 ^ x * 2 ^ 1074 ≡ w * 4503599627370496 * 4 ^ k
-halves x w k (inl h) = sym (pow-add 2 x 1074) ∙ ap (λ (z : ℕ). 2 ^ z) (h .1) ∙ pow-add 2 52 (k + k) ∙ ap (λ (z : ℕ). 4503599627370496 * z) (sym (four-two k)) ∙ ap (λ (z : ℕ). z * 4503599627370496 * 4 ^ k) (sym (h .0))
-halves x w k (inr h) = sym (pow-add 2 x 1074) ∙ ap (λ (z : ℕ). 2 ^ z) (h .1) ∙ pow-add 2 53 (k + k) ∙ ap (λ (z : ℕ). 9007199254740992 * z) (sym (four-two k)) ∙ ap (λ (z : ℕ). z * 4503599627370496 * 4 ^ k) (sym (h .0))
+-- half of the root's exponent's field
+abbrev pub k-of : ℕ → ℕ
+k-of e = (e + 1021) / 2
 
-parity : (x : ℕ) → ((2 - suc x % 2 ≡ 1) × (x + 1074 ≡ 52 + ((suc x + 1021) / 2 + (suc x + 1021) / 2))) ⊎ ((2 - suc x % 2 ≡ 2) × (x + 1074 ≡ 53 + ((suc x + 1021) / 2 + (suc x + 1021) / 2)))
-parity x = go (suc x % 2) refl (omega arith)
+halves : (e w k : ℕ) → ((w ≡ 1) × (e + 1073 ≡ 52 + (k + k))) ⊎ ((w ≡ 2) × (e + 1073 ≡ 53 + (k + k))) → 2 ^ e * 2 ^ 1073 ≡ w * 4503599627370496 * 4 ^ k
+halves e w k (inl h) = sym (pow-add 2 e 1073) ∙ ap (λ (z : ℕ). 2 ^ z) (h .1) ∙ pow-add 2 52 (k + k) ∙ ap (λ (z : ℕ). 4503599627370496 * z) (sym (four-two k)) ∙ ap (λ (z : ℕ). z * 4503599627370496 * 4 ^ k) (sym (h .0))
+halves e w k (inr h) = sym (pow-add 2 e 1073) ∙ ap (λ (z : ℕ). 2 ^ z) (h .1) ∙ pow-add 2 53 (k + k) ∙ ap (λ (z : ℕ). 9007199254740992 * z) (sym (four-two k)) ∙ ap (λ (z : ℕ). z * 4503599627370496 * 4 ^ k) (sym (h .0))
+
+parity : (e : ℕ) → ((2 - e % 2 ≡ 1) × (e + 1073 ≡ 52 + (k-of e + k-of e))) ⊎ ((2 - e % 2 ≡ 2) × (e + 1073 ≡ 53 + (k-of e + k-of e)))
+parity e = go (e % 2) refl (omega arith)
   where
-    go : (r : ℕ) → suc x % 2 ≡ r → suc x % 2 < 2 → ((2 - suc x % 2 ≡ 1) × (x + 1074 ≡ 52 + ((suc x + 1021) / 2 + (suc x + 1021) / 2))) ⊎ ((2 - suc x % 2 ≡ 2) × (x + 1074 ≡ 53 + ((suc x + 1021) / 2 + (suc x + 1021) / 2)))
-    go zero e l = inr (omega arith, omega arith)
-    go (suc zero) e l = inl (omega arith, omega arith)
-    go (suc (suc r)) e l = absurd (omega arith)
+    go : (r : ℕ) → e % 2 ≡ r → e % 2 < 2 → ((2 - e % 2 ≡ 1) × (e + 1073 ≡ 52 + (k-of e + k-of e))) ⊎ ((2 - e % 2 ≡ 2) × (e + 1073 ≡ 53 + (k-of e + k-of e)))
+    go zero z l = inr (omega arith, omega arith)
+    go (suc zero) z l = inl (omega arith, omega arith)
+    go (suc (suc r)) z l = absurd (omega arith)
 
--- the number whose root is taken, for a field suc x
-abbrev M-of : ℕ → ℕ → ℕ
-M-of x t = (4503599627370496 + t) * (2 - suc x % 2) * 4503599627370496
+-- the number whose root is taken
+abbrev pub M-of : ℕ → ℕ → ℕ
+M-of e t = (4503599627370496 + t) * (2 - e % 2) * 4503599627370496
 
-scaled : (x t : ℕ) → (4503599627370496 + t) * 2 ^ x * 2 ^ 1074 ≡ M-of x t * 4 ^ ((suc x + 1021) / 2)
-scaled x t =
-    let k = (suc x + 1021) / 2 in
-    mul-assoc (4503599627370496 + t) (2 ^ x) (2 ^ 1074)
-    ∙ ap (λ (z : ℕ). (4503599627370496 + t) * z) (halves x (2 - suc x % 2) k (parity x))
+scaled : (e t : ℕ) → (4503599627370496 + t) * 2 ^ e * 2 ^ 1073 ≡ M-of e t * 4 ^ k-of e
+scaled e t =
+    mul-assoc (4503599627370496 + t) (2 ^ e) (2 ^ 1073)
+    ∙ ap (λ (z : ℕ). (4503599627370496 + t) * z) (halves e (2 - e % 2) (k-of e) (parity e))
     ∙ omega arith
 
-wide-of : (x t : ℕ) → t < 4503599627370496 → Wide (M-of x t)
-wide-of x t h =
-    let d = doubled (4503599627370496 + t) (2 - suc x % 2) (omega arith) (omega arith) (omega arith) (omega arith) in
+pub wide-of : (e t : ℕ) → t < 4503599627370496 → Wide (M-of e t)
+wide-of e t h =
+    let d = doubled (4503599627370496 + t) (2 - e % 2) (omega arith) (omega arith) (omega arith) (omega arith) in
     (omega (arith, d .0), omega (arith, d .1))
 
--- the value of such a pattern
-normal-value : (b x : ℕ) → b / 4503599627370496 ≡ suc x → suc x < 2047 → HasValue (ofBits binary64 b) false ((4503599627370496 + b % 4503599627370496) * 2 ^ x) (2 ^ 1074)
+-- the fields of a pattern
+abbrev pub field-of : ℕ → ℕ
+field-of b = b / 4503599627370496 % 2048
+
+abbrev pub digits-of : ℕ → ℕ
+digits-of b = b % 4503599627370496
+
+pub size-is : (b : ℕ) → normalSize b * 2 ^ 1073 ≡ M-of (field-of b) (digits-of b) * 4 ^ k-of (field-of b)
+size-is b =
+    let e : b % 9223372036854775808 / 4503599627370496 ≡ field-of b = omega arith in
+    ap (λ (z : ℕ). (4503599627370496 + digits-of b) * 2 ^ z * 2 ^ 1073) e ∙ scaled (field-of b) (digits-of b)
+
+-- the root of the number that a pattern's fields stand for
+pub fields-units : (b : ℕ) → normalRoot b ≡ units binary64 false (nearestRoot (M-of (field-of b) (digits-of b))) (k-of (field-of b))
+unfolding normalRoot nearestRoot
+fields-units b =
+    let M = M-of (field-of b) (digits-of b) in
+    let w = wide-of (field-of b) (digits-of b) (omega arith) in
+    rootOf-at binary64 (normalSize b) (2 ^ 1075) M (k-of (field-of b)) (root M) (pow-pos 1075) (spread (normalSize b) M (4 ^ k-of (field-of b)) (size-is b)) (root-around M) (root-wide M w .0) (root-wide M w .1)
+  where
+    spread : (n M p : ℕ) → n * 2 ^ 1073 ≡ M * p → n * 4 ^ 1074 ≡ M * (2 ^ 1075 * p)
+    spread n M p h =
+        ap (λ (z : ℕ). n * z) (four-two 1074 ∙ pow-add 2 1073 1075)
+        ∙ sym (mul-assoc n (2 ^ 1073) (2 ^ 1075))
+        ∙ ap (λ (z : ℕ). z * 2 ^ 1075) h
+        ∙ mul-assoc M p (2 ^ 1075)
+        ∙ ap (λ (z : ℕ). M * z) (mul-comm p (2 ^ 1075))
+
+-- and its pattern
+abbrev pub bits-of : ℕ → ℕ
+bits-of b = k-of (field-of b) * 4503599627370496 + nearestRoot (M-of (field-of b) (digits-of b))
+
+pub fields-root : (b : ℕ) → (ofBits binary64 (bits-of b) ≡ normalRoot b) × T (not (nanBits binary64 (bits-of b)))
+fields-root b =
+    let p = patterned (M-of (field-of b) (digits-of b)) (k-of (field-of b)) (bits-of b) (wide-of (field-of b) (digits-of b) (omega arith)) (omega arith) refl in
+    (p .0 ∙ sym (fields-units b), p .1)
+
+-- ---- a normal pattern b
+pub normal-value : (b x : ℕ) → b / 4503599627370496 ≡ suc x → suc x < 2047 → HasValue (ofBits binary64 b) false ((4503599627370496 + b % 4503599627370496) * 2 ^ x) (2 ^ 1074)
 normal-value b x e l =
     let B : b < 9223372036854775808 = omega arith in
     let E : exp b ≡ suc x = omega arith in
     subst (λ (z : ℕ). HasValue (ofBits binary64 z) false ((4503599627370496 + b % 4503599627370496) * 2 ^ x) (2 ^ 1074)) (omega arith)
     (subst (λ (z : ℕ). HasValue (ofBits binary64 (size-of b)) false (val z (b % 4503599627370496)) (2 ^ 1074)) E (size-value b (subst (λ (z : ℕ). z < 2047) (sym E) l)))
 
--- what `rootBits` is
-bits-is : (b x : ℕ) → b / 4503599627370496 ≡ suc x → (suc x + 1021) / 2 * 4503599627370496 + nearestRoot (M-of x (b % 4503599627370496)) ≡ rootBits b
-unfolding rootBits nearestRoot
-bits-is b x e =
-    let f : ℕ → ℕ = λ z. (4503599627370496 + b % 4503599627370496) * (2 - z % 2) * 4503599627370496 in
-    ap (λ (z : ℕ). (z + 1021) / 2 * 4503599627370496 + nearest (root (f z)) (compare (f z * 4) ((2 * root (f z) + 1) * (2 * root (f z) + 1)))) (sym e)
+-- the field is one more than the zeros behind the digits
+lifted : (x t : ℕ) → (4503599627370496 + t) * 2 ^ x * 2 ^ 1074 ≡ M-of (suc x) t * 4 ^ k-of (suc x)
+lifted x t =
+    mul-assoc (4503599627370496 + t) (2 ^ x) (2 ^ 1074)
+    ∙ ap (λ (z : ℕ). (4503599627370496 + t) * z) (sym (pow-add 2 x 1074) ∙ ap (λ (z : ℕ). 2 ^ z) (omega arith) ∙ pow-add 2 (suc x) 1073)
+    ∙ sym (mul-assoc (4503599627370496 + t) (2 ^ suc x) (2 ^ 1073))
+    ∙ scaled (suc x) t
 
-normal-root : (b : ℕ) → 4503599627370496 ≤ b → b < 9218868437227405312 → Right (ofBits binary64 b) (rootBits b)
-normal-root b lo hi =
+normal-units : (b : ℕ) → 4503599627370496 ≤ b → b < 9218868437227405312 → sqrtOf (ofBits binary64 b) ≡ normalRoot b
+normal-units b lo hi =
     let x = b / 4503599627370496 - 1 in
-    let t = b % 4503599627370496 in
+    let t = digits-of b in
     let e : b / 4503599627370496 ≡ suc x = omega arith in
-    rooted (ofBits binary64 b) ((4503599627370496 + t) * 2 ^ x) (M-of x t) ((suc x + 1021) / 2) (rootBits b)
-    (normal-value b x e (omega arith)) (mul-pos (omega arith) (pow-pos x)) (scaled x t) (wide-of x t (omega arith)) (omega arith) (bits-is b x e)
+    let f : suc x ≡ field-of b = omega arith in
+    sqrt-units (ofBits binary64 b) ((4503599627370496 + t) * 2 ^ x) (M-of (suc x) t) (k-of (suc x)) (normal-value b x e (omega arith)) (mul-pos (omega arith) (pow-pos x)) (lifted x t) (wide-of (suc x) t (omega arith))
+    ∙ ap (λ (z : ℕ). units binary64 false (nearestRoot (M-of z t)) (k-of z)) f
+    ∙ sym (fields-units b)
 
--- ---- a subnormal pattern: 2 ^ 54 times the value is normal
+-- ---- a subnormal pattern: 2 ^ 54 times the value is normal, and its root 2 ^ 27 times as large
 scale-value : HasValue (ofBits binary64 4850376798678024192) false (2 ^ 54) 1
 unfolding ofBits
 scale-value = (refl, refl)
@@ -153,8 +195,28 @@ larger-bits x N h P l =
     let k = kept-lt 53 a in
     (omega arith, omega arith)
 
-small-root : (b : ℕ) → 0 < b → b < 4503599627370496
-    → (121597189939003392 ≤ rootBits (toBits binary64 (larger (ofBits binary64 b)))) × Right (ofBits binary64 b) (rootBits (toBits binary64 (larger (ofBits binary64 b))) - 121597189939003392)
+fraction-value : HasValue (ofBits binary64 4485585228861014016) false 1 (2 ^ 27)
+unfolding ofBits
+fraction-value = (refl, refl)
+
+abbrev pub smaller : Float → Float
+smaller y = mul binary64 y (ofBits binary64 4485585228861014016)
+
+smaller-units : (q k : ℕ) → 4503599627370496 ≤ q → q ≤ 9007199254740992 → k ≤ 2000 → smaller (units binary64 false q (k + 27)) ≡ units binary64 false q k
+smaller-units q k lo hi l =
+    mul-value binary64 (units binary64 false q (k + 27)) (ofBits binary64 4485585228861014016) false false (q * 2 ^ (k + 27)) (2 ^ 1074) 1 (2 ^ 27) (pow-pos 1074) (pow-pos 27) (counted (k + 27) (omega arith)) fraction-value
+    ∙ round-value binary64 (units binary64 false q k) false (q * 2 ^ (k + 27) * 1) (2 ^ 1074 * 2 ^ 27) (mul-pos (pow-pos 1074) (pow-pos 27))
+    (subst (λ (y : Float). T (fits binary64 y)) (pattern binary64 false q k hi (inr lo) (omega arith)) (ofBits-fits binary64 _))
+    (with-value (λ y. HasValue y false (q * 2 ^ (k + 27) * 1) (2 ^ 1074 * 2 ^ 27)) (units binary64 false q k) false (q * 2 ^ k) (2 ^ 1074) (counted k (omega arith))
+    (λ m e v. (refl, grow (m * up e) (2 ^ 1074) (2 ^ 27) (q * 2 ^ k) (down e) (q * 2 ^ (k + 27)) v (mul-assoc q (2 ^ k) (2 ^ 27) ∙ ap (λ (z : ℕ). q * z) (sym (pow-add 2 k 27))))))
+  where
+    counted : (j : ℕ) → j ≤ 2044 → HasValue (units binary64 false q j) false (q * 2 ^ j) (2 ^ 1074)
+    counted j h = units-val binary64 false q j (lt-of-le-of-lt (mul-le-mul hi (pow-mono h)) (lit< tt))
+
+    grow : (A L P B D N : ℕ) → A * L ≡ B * D → B * P ≡ N → A * (L * P) ≡ N * 1 * D
+    grow A L P B D N e g = sym (mul-assoc A L P) ∙ ap (λ (z : ℕ). z * P) e ∙ mul-right-comm B D P ∙ ap (λ (z : ℕ). z * D) (g ∙ sym (mul-one N))
+
+small-root : (b : ℕ) → 0 < b → b < 4503599627370496 → smaller (normalRoot (toBits binary64 (larger (ofBits binary64 b)))) ≡ sqrtOf (ofBits binary64 b)
 small-root b P l =
     let v = ofBits binary64 b in
     let h = small-value b l in
@@ -162,22 +224,26 @@ small-root b P l =
     let c = toBits binary64 y in
     let r = larger-bits v b h P l in
     let x = c / 4503599627370496 - 1 in
-    let t = c % 4503599627370496 in
+    let t = digits-of c in
     let e : c / 4503599627370496 ≡ suc x = omega arith in
-    let k = (suc x + 1021) / 2 in
+    let k = k-of (suc x) in
+    let M = M-of (suc x) t in
+    let w = wide-of (suc x) t (omega arith) in
+    let f : field-of c ≡ suc x = omega arith in
+    let kk : k ≡ k - 27 + 27 = omega arith in
     let back : ofBits binary64 c ≡ y = ofBits-toBits binary64 y (mul-fits binary64 v (ofBits binary64 4850376798678024192)) in
     let same : (4503599627370496 + t) * 2 ^ x ≡ b * 2 ^ 54 =
     same-value y false ((4503599627370496 + t) * 2 ^ x) (b * 2 ^ 54) (2 ^ 1074) (subst (λ (z : Float). HasValue z false ((4503599627370496 + t) * 2 ^ x) (2 ^ 1074)) back (normal-value c x e (omega arith))) (larger-value v b h l) in
-    let kk : k ≡ k - 27 + 27 = omega arith in
-    let is = bits-is c x e in
-    let exact : b * 2 ^ 1074 ≡ M-of x t * 4 ^ (k - 27) =
-    eq-of-mul-eq-mul-right (2 ^ 54) (pow-pos 54) (b * 2 ^ 1074) (M-of x t * 4 ^ (k - 27))
+    let exact : b * 2 ^ 1074 ≡ M * 4 ^ (k - 27) =
+    eq-of-mul-eq-mul-right (2 ^ 54) (pow-pos 54) (b * 2 ^ 1074) (M * 4 ^ (k - 27))
     (mul-right-comm b (2 ^ 1074) (2 ^ 54)
     ∙ ap (λ (z : ℕ). z * 2 ^ 1074) (sym same)
-    ∙ scaled x t
-    ∙ ap (λ (z : ℕ). M-of x t * z) (ap (λ (j : ℕ). 4 ^ j) kk ∙ pow-add 4 (k - 27) 27)
-    ∙ sym (mul-assoc (M-of x t) (4 ^ (k - 27)) (2 ^ 54))) in
-    (omega (arith, is), rooted v b (M-of x t) (k - 27) (rootBits c - 121597189939003392) h P exact (wide-of x t (omega arith)) (omega arith) (omega (arith, is)))
+    ∙ lifted x t
+    ∙ ap (λ (z : ℕ). M * z) (ap (λ (j : ℕ). 4 ^ j) kk ∙ pow-add 4 (k - 27) 27)
+    ∙ sym (mul-assoc M (4 ^ (k - 27)) (2 ^ 54))) in
+    ap smaller (fields-units c ∙ ap (λ (z : ℕ). units binary64 false (nearestRoot (M-of z t)) (k-of z)) f ∙ ap (units binary64 false (nearestRoot M)) kk)
+    ∙ smaller-units (nearestRoot M) (k - 27) (nearest-wide M w .0) (nearest-wide M w .1) (omega arith)
+    ∙ sym (sqrt-units v b M (k - 27) h P exact w)
 
 -- ---- the other ways
 false-pos : (a b : ℕ) → ltb a b ≡ false → a ≡ 0 → 0 < b → ⊥
@@ -240,23 +306,15 @@ at-rest (fin false (suc m) e) t u = absurd (false-pos (0 * down e) (suc m * up e
 -- ---- a value above zero, by its pattern
 pub record Small (x : Float) : Type 0 where
   pub some : T (not (isNan (larger x)))
-  pub lo : 4503599627370496 ≤ toBits binary64 (larger x)
-  pub hi : toBits binary64 (larger x) < 9218868437227405312
-  pub room : 121597189939003392 ≤ rootBits (toBits binary64 (larger x))
-  pub right : Right x (rootBits (toBits binary64 (larger x)) - 121597189939003392)
+  pub right : smaller (normalRoot (toBits binary64 (larger x))) ≡ sqrtOf x
 
 pub small : (x : Float) → T (fits binary64 x) → lt nought x ≡ true → toBits binary64 x < 4503599627370496 → Small x
 small x h t l =
     let b = toBits binary64 x in
     let back : ofBits binary64 b ≡ x = ofBits-toBits binary64 x h in
     let P : 0 < b = above-some b (ap (lt nought) back ∙ t) in
-    let v = small-value b l in
-    let r = larger-bits (ofBits binary64 b) b v P l in
-    let s = small-root b P l in
-    let some = value-no-nan (larger (ofBits binary64 b)) false (b * 2 ^ 54) (2 ^ 1074) (larger-value (ofBits binary64 b) b v l) in
-    subst Small back (record { some = some; lo = omega arith; hi = omega arith; room = s .0; right = s .1 })
+    let some = value-no-nan (larger (ofBits binary64 b)) false (b * 2 ^ 54) (2 ^ 1074) (larger-value (ofBits binary64 b) b (small-value b l) l) in
+    subst Small back (record { some = some; right = small-root b P l })
 
-pub normal : (x : Float) → T (fits binary64 x) → 4503599627370496 ≤ toBits binary64 x → toBits binary64 x < 9218868437227405312 → Right x (rootBits (toBits binary64 x))
-normal x h lo hi =
-    let b = toBits binary64 x in
-    subst (λ (v : Float). Right v (rootBits b)) (ofBits-toBits binary64 x h) (normal-root b lo hi)
+pub normal : (x : Float) → T (fits binary64 x) → 4503599627370496 ≤ toBits binary64 x → toBits binary64 x < 9218868437227405312 → normalRoot (toBits binary64 x) ≡ sqrtOf x
+normal x h lo hi = sym (normal-units (toBits binary64 x) lo hi) ∙ ap sqrtOf (ofBits-toBits binary64 x h)

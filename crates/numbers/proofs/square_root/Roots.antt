@@ -2,16 +2,16 @@
 use mathlib.Core.Path.{_≡_, refl, sym, ap, _∙_, subst}
 use mathlib.Core.Logic.{_⊎_, inl, inr}
 use Prim.Native.Nat.{ℕ, zero, suc, _+_, _-_, _*_, _/_, _%_, _^_, _≤_, _<_, compare, Ordering}
-use native.Mathlib.Nat.{le-of-lt, le-trans, le-of-eq, le-refl, le-antisymm, lt-of-lt-of-le, lt-of-le-of-lt, lt-of-not-le, not-le-of-lt, lt-irrefl, zero-lt-suc, le-of-suc-le-suc, mul-le-mul, mul-le-mul-right, mul-lt-mul-of-pos-right, mul-div-cancel, div-add-mod', mod-lt, mul-mul-mul-comm, mul-pos, lt-of-mul-lt-mul-right, pow-succ'}
+use native.Mathlib.Nat.{le-trans, le-of-eq, le-refl, le-antisymm, lt-of-lt-of-le, lt-of-le-of-lt, lt-of-not-le, not-le-of-lt, lt-irrefl, zero-lt-suc, le-of-suc-le-suc, mul-le-mul, mul-le-mul-right, mul-lt-mul-of-pos-right, mul-div-cancel, div-le-self, mul-mul-mul-comm, mul-pos, lt-of-mul-lt-mul-right, pow-succ'}
 use native.Mathlib.Omega.{arith}
 use mathlib.Core.Bool.{Bool, true, false, not, cond}
 use lib.Dec.{T, leb, leb→le, nleb→lt}
-use lib.Pow.{pow-add, pow-pos}
+use lib.Pow.{pow-add, pow-pos, shr-shr}
 use lib.Ieee.{Format, prec, low, size, nearest, units}
 use lib.Ieee.Digits.{size-lt}
 use lib.Ieee.Fits.{two, two-le-pos}
 use Rattle.numbers.specs.SquareRoot.{another, rootBy, root, rootOf}
-use Rattle.numbers.specs.Inner.{IsRoot, Extends, nearestRoot}
+use Rattle.numbers.specs.Inner.{IsRoot, nearestRoot}
 use Rattle.numbers.proofs.floats.Compared.{le-or-lt, compare-scale, compare-lt, compare-gt}
 use Rattle.numbers.proofs.floats.Patterns.{size-drop}
 
@@ -123,42 +123,21 @@ up-or-not M q r h =
       λ g. ap (nearest q) (compare-gt (M * 4) ((2 * q + 1) * (2 * q + 1)) (omega arith)) ∙ omega arith,
     )
 
--- ---- the sizes of what the code for one such step computes
-pub record Sizes (s r a c b q u : ℕ) : Type 0 where
-  pub some : 0 < s
-  pub sb : s * b ≤ 9007199254740992
-  pub rb : r * b ≤ 2 * (s * b)
-  pub ub : u * b ≤ 2 * (s * b)
-  pub qb : q ≤ b
-  pub qq : q * q ≤ 4503599627370496
-  pub rest : u < 2 * s
-  pub whole-of : q * (2 * s) + u ≡ r * b + a
+-- ---- digit by digit: n / 2 ^ (2 * k) is what stands before the last k digits of n to the base 4
+pub none-yet : (n : ℕ) → n < 18014398509481984 → IsRoot (n / 18014398509481984) 0 0
+none-yet n h = (omega arith, omega arith)
 
-pub sizes : (s r a c b : ℕ) → Extends s r a c b → Sizes s r a c b ((r * b + a) / (2 * s)) ((r * b + a) % (2 * s))
-sizes s r a c b x =
-    let S : 0 < s = omega arith in
-    let t = r * b + a in
-    let q = t / (2 * s) in
-    let u = t % (2 * s) in
-    let e : q * (2 * s) + u ≡ t = div-add-mod' t (2 * s) in
-    let l : u < 2 * s = mod-lt t (omega arith) in
-    let Q : q ≤ b = divided b s r a c (s * s + r) refl (x .left) (x .first) (x .second) (x .base) S q u e l in
-    let bb : b * b ≤ 4503599627370496 = mul-le-mul (x .base-in) (x .base-in) in
-    record {
-      some = S;
-      sb = mul-le-mul (le-of-lt (x .root-in)) (x .base-in);
-      rb = omega (arith, mul-le-mul-right b (x .left));
-      ub = omega (arith, mul-le-mul-right b l);
-      qb = Q;
-      qq = le-trans (mul-le-mul Q Q) bb;
-      rest = l;
-      whole-of = e;
-    }
+before : (n k : ℕ) → 0 < k → n / 2 ^ (2 * k) ≡ n / 2 ^ (2 * (k - 1)) / 4
+before n k h = ap (λ (j : ℕ). n / 2 ^ j) (omega arith) ∙ sym (shr-shr n (2 * (k - 1)) 2)
 
-pub taken-off : (s r a c b q u : ℕ) → Extends s r a c b → Sizes s r a c b q u → u * b + c < q * q → (q * q ≤ u * b + c + 2 * (s * b + q) - 1) × (1 ≤ s * b + q)
-taken-off s r a c b q u x z g =
-    let P : 0 < q = sq-pos (u * b + c) q g in
-    (omega (arith, mul-le-mul (z .qb) (z .qb), mul-le-mul-right b (x .base)), omega arith)
+pub half-root : (n k s r : ℕ) → n < 18014398509481984 → 0 < k → IsRoot (n / 2 ^ (2 * k)) s r → s < 67108864
+half-root n k s r h K i =
+    let a = around (n / 2 ^ (2 * k)) s r i in
+    let l : n / 2 ^ (2 * k) ≤ n / 4 = le-trans (le-of-eq (ap (λ (j : ℕ). n / 2 ^ j) (omega arith) ∙ sym (shr-shr n 2 (2 * k - 2)))) (div-le-self (n / 4) (2 ^ (2 * k - 2))) in
+    square-lt s 67108864 (lt-of-le-of-lt (a .0) (omega arith))
+
+pub next-digit : (n k s r t u : ℕ) → 0 < k → IsRoot (n / 2 ^ (2 * k)) s r → IsRoot ((s * s + r) * 4 + n / 2 ^ (2 * (k - 1)) % 4) t u → IsRoot (n / 2 ^ (2 * (k - 1))) t u
+next-digit n k s r t u K i j = subst (λ (m : ℕ). IsRoot m t u) (omega (arith, i .0, before n k K)) j
 
 -- a root of a number between two squares
 pub between : (n s r lo hi : ℕ) → IsRoot n s r → lo * lo ≤ n → n < hi * hi → (lo ≤ s) × (s < hi)

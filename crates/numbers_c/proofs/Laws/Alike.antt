@@ -27,6 +27,14 @@ use Rattle.numbers_c.proofs.rungtwine_first_root.Kinds as first-root-ki
 use Rattle.numbers_c.proofs.rungtwine_first_root.Reads as first-root
 use Rattle.numbers_c.proofs.rungtwine_second_root.Kinds as second-root-kinds
 use Rattle.numbers_c.proofs.rungtwine_second_root.Reads as second-root
+use Rattle.numbers_c.proofs.rungtwine_normal_root.Kinds as normal-root-kinds
+use Rattle.numbers_c.proofs.rungtwine_normal_root.Reads as normal-root
+use Rattle.numbers_c.proofs.rungtwine_normal_root_count.Kinds as normal-root-count-kinds
+use Rattle.numbers_c.proofs.rungtwine_normal_root_count.Reads as normal-root-count
+use Rattle.numbers_c.proofs.rungtwine_normal_first_root.Kinds as normal-first-root-kinds
+use Rattle.numbers_c.proofs.rungtwine_normal_first_root.Reads as normal-first-root
+use Rattle.numbers_c.proofs.rungtwine_normal_second_root.Kinds as normal-second-root-kinds
+use Rattle.numbers_c.proofs.rungtwine_normal_second_root.Reads as normal-second-root
 
 pub min-alike : Alike 0 min-kinds.ps min-kinds.r min.Post
 min-alike κs a r s e f = alike
@@ -66,3 +74,15 @@ first-root-alike κs a r s e f = alike
 
 pub second-root-alike : Alike 0 second-root-kinds.ps second-root-kinds.r second-root.Post
 second-root-alike κs a r s e f = alike
+
+pub normal-root-alike : Alike 0 normal-root-kinds.ps normal-root-kinds.r normal-root.Post
+normal-root-alike κs a r s e f = alike
+
+pub normal-root-count-alike : Alike 0 normal-root-count-kinds.ps normal-root-count-kinds.r normal-root-count.Post
+normal-root-count-alike κs a r s e f = alike
+
+pub normal-first-root-alike : Alike 0 normal-first-root-kinds.ps normal-first-root-kinds.r normal-first-root.Post
+normal-first-root-alike κs a r s e f = alike
+
+pub normal-second-root-alike : Alike 0 normal-second-root-kinds.ps normal-second-root-kinds.r normal-second-root.Post
+normal-second-root-alike κs a r s e f = alike
