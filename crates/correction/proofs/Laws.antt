@@ -4,6 +4,7 @@ pub mod Leaves
 pub mod Neighbourhood
 pub mod Finite
 pub mod RootCount
+pub mod Discriminant
 pub mod Again
 pub mod Rewired
 pub mod Alike

@@ -2,6 +2,7 @@
 pub mod Texel
 pub mod Finite
 pub mod RootCount
+pub mod Discriminant
 pub mod Falls
 pub mod Verdict
 pub mod Guard

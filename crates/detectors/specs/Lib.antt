@@ -5,5 +5,6 @@ pub mod Pairs
 pub mod Linear
 pub mod Diagonal
 pub mod RootCount
+pub mod Discriminant
 pub mod Edge
 pub mod Inner

@@ -7,7 +7,7 @@ ghost use Rattle.detectors.specs.Verdict.{verdict};
 ghost use Rattle.detectors.specs.Diagonal as Diagonal;
 ghost use Rattle.ground.specs.Lists.{any, spent};
 ghost use Rattle.ranges.specs.Config as Config;
-ghost use Rattle.detectors.specs.Inner.{rootVerdict, rootCount, rootAt};
+ghost use Rattle.detectors.specs.Inner.{normalPairRoots, rootVerdict, rootCount, rootAt};
 use crate::pairs;
 use crate::texel;
 use crate::verdict;
@@ -92,10 +92,10 @@ fn middle_difference(m: &[[f32; 3]; 4], p: usize) -> f32
     m[1][j] - m[1][p] + m[2][j] - m[2][p]
 }
 
-// The roots of pair p's difference, a quadratic in t.
+// The roots of pair p's difference, a quadratic in t, by the root without branches.
 fn pair_roots(m: &[[f32; 3]; 4], p: usize) -> Roots
     requires { ⌜ p < 3 ⌝ }
-    ensures { λ r. ⌜ Listed (Diagonal.pairRoots (now (m .entry)) p) (r .count) (r .first) (r .second) ⌝ }
+    ensures { λ r. ⌜ Listed (normalPairRoots (now (m .entry)) p) (r .count) (r .first) (r .second) ⌝ }
 {
     let da = pairs::difference(m[0], p);
     let dbc = middle_difference(m, p);
@@ -103,7 +103,7 @@ fn pair_roots(m: &[[f32; 3]; 4], p: usize) -> Roots
     let a = std::num::f32_to_f64_with_nan(dd - dbc + da);
     let b = std::num::f32_to_f64_with_nan(dbc - da - da);
     let c = std::num::f32_to_f64_with_nan(da);
-    equation_solver::solve_quadratic(a, b, c)
+    equation_solver::solve_normal_quadratic(a, b, c)
 }
 
 // One end moved to the turning point e.

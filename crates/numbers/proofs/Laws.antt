@@ -16,3 +16,4 @@ pub mod EquationSolver
 pub mod RootCount
 pub mod NormalRoots
 pub mod Alike
+pub mod Beyond

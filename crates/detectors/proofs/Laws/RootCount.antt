@@ -1,7 +1,8 @@
 -- Of small texels a diagonal pair has as many roots as whole numbers say, and a side pair's crossing is divided by zero only where there is none. Assumes nothing.
 -- The count is that of the coefficients as they are stored: they are rounded differences, and where a root lies is rounded too.
 --     Coefficients                    the three coefficients of pair p's quadratic are finite values of binary32
---     coefficients-finite             those of small texels are
+--     Small, coefficients-small       those of small texels are at most 2^25, 2^25 and 2^21 in size
+--     coefficients-finite             so they are finite
 --     pair-roots-true                 and then the number of its roots is the true one
 --     side-divisor                    the divisor of a side pair's crossing is zero just where the two differences are equal
 --     side-none                       and then no crossing is inside
@@ -64,8 +65,14 @@ pub record Coefficients (m : List (List Float)) (p : ℕ) : Type 0 where
   pub linear : Finite binary32 (linearCoefficient (difference (getD m 0 []) p) (middleDifference m p))
   pub constant : Finite binary32 (difference (getD m 0 []) p)
 
-pub coefficients-finite : (m : List (List Float)) (p : ℕ) → SmallFour m → p < 3 → Coefficients m p
-coefficients-finite m p s h =
+-- how large they are at most
+pub record Small (m : List (List Float)) (p : ℕ) : Type 0 where
+  pub square : Within 25 (squareCoefficient (difference (getD m 0 []) p) (middleDifference m p) (difference (getD m 3 []) p))
+  pub linear : Within 25 (linearCoefficient (difference (getD m 0 []) p) (middleDifference m p))
+  pub constant : Within 21 (difference (getD m 0 []) p)
+
+pub coefficients-small : (m : List (List Float)) (p : ℕ) → SmallFour m → p < 3 → Small m p
+coefficients-small m p s h =
     let dA = difference (getD m 0 []) p in
     let dBC = middleDifference m p in
     let dD = difference (getD m 3 []) p in
@@ -73,8 +80,20 @@ coefficients-finite m p s h =
     let v : Within 23 dBC = middle-within m p s h in
     let w : Within 21 dD = difference-within (getD m 3 []) p (s .d) h in
     record {
-      square = within-held 25 binary32 _ (add-within binary32 24 21 24 (sub binary32 dD dBC) dA (omega arith) (omega arith) (omega arith) (sub-within binary32 21 23 23 dD dBC (omega arith) (omega arith) (omega arith) w v) u) (add-fits binary32 (sub binary32 dD dBC) dA);
-      linear = within-held 25 binary32 _ (sub-within binary32 24 21 24 (sub binary32 dBC dA) dA (omega arith) (omega arith) (omega arith) (sub-within binary32 23 21 23 dBC dA (omega arith) (omega arith) (omega arith) v u) u) (sub-fits binary32 (sub binary32 dBC dA) dA);
+      square = add-within binary32 24 21 24 (sub binary32 dD dBC) dA (omega arith) (omega arith) (omega arith) (sub-within binary32 21 23 23 dD dBC (omega arith) (omega arith) (omega arith) w v) u;
+      linear = sub-within binary32 24 21 24 (sub binary32 dBC dA) dA (omega arith) (omega arith) (omega arith) (sub-within binary32 23 21 23 dBC dA (omega arith) (omega arith) (omega arith) v u) u;
+      constant = u;
+    }
+
+pub coefficients-finite : (m : List (List Float)) (p : ℕ) → SmallFour m → p < 3 → Coefficients m p
+coefficients-finite m p s h =
+    let dA = difference (getD m 0 []) p in
+    let dBC = middleDifference m p in
+    let dD = difference (getD m 3 []) p in
+    let c = coefficients-small m p s h in
+    record {
+      square = within-held 25 binary32 _ (c .square) (add-fits binary32 (sub binary32 dD dBC) dA);
+      linear = within-held 25 binary32 _ (c .linear) (sub-fits binary32 (sub binary32 dBC dA) dA);
       constant = difference-finite (getD m 0 []) p (s .a) h;
     }
 

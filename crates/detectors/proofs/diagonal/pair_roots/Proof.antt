@@ -1,16 +1,16 @@
 -- `detectors::diagonal::pair_roots` meets its contract: a widened number is the number. Assumes nothing.
 use borrow.Author.Needs.{needs}
-use Rattle.detectors.specs.Diagonal.{quadraticRoots, pairRoots}
+use Rattle.detectors.specs.Inner.{normalPairRoots}
 use Rattle.detectors.proofs.diagonal.pair_roots.Statement.{statement}
 use Rattle.detectors.proofs.diagonal.pair_roots.Tie as tie
 
 returns : tie.Need-returns
-unfolding pairRoots quadraticRoots
+unfolding normalPairRoots
 returns c =
     let a = c .before .before .before in
     let dd = a .before in
     let dbc = dd .before .before in
-    rw (c .before .f32-to-f64-with-nan3 .ensures, c .before .before .f32-to-f64-with-nan2 .ensures, a .f32-to-f64-with-nan .ensures, dd .difference2 .ensures, dbc .middle-difference .ensures, dbc .before .difference .ensures) at (c .solve-quadratic .ensures)
+    rw (c .before .f32-to-f64-with-nan3 .ensures, c .before .before .f32-to-f64-with-nan2 .ensures, a .f32-to-f64-with-nan .ensures, dd .difference2 .ensures, dbc .middle-difference .ensures, dbc .before .difference .ensures) at (c .solve-normal-quadratic .ensures)
 
 pub pair-roots-spec : {M : Type 1} → statement M
 pair-roots-spec =

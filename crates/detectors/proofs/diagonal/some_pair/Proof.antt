@@ -10,12 +10,13 @@ use Rattle.numbers.specs.EquationSolver.{Listed}
 use Rattle.ground.specs.Lists.{any, spent}
 use Rattle.ground.proofs.Laws.Search.{none-zero, none-more, any-at}
 use Rattle.ground.proofs.Laws.Spent.{spent-none, spent-more, spent-ended, spent-small}
-use Rattle.detectors.specs.Inner.{rootAt}
+use Rattle.detectors.specs.Inner.{normalPairRoots, rootAt}
 use Rattle.detectors.specs.Verdict.{verdict}
-use Rattle.detectors.specs.Diagonal.{pairRoots, diagonalAt, diagonalPair, diagonalTestsAt, diagonalPairTests}
+use Rattle.detectors.specs.Diagonal.{diagonalAt, diagonalPair, diagonalTestsAt, diagonalPairTests}
 use Rattle.detectors.proofs.Laws.Verdict.{as-found, as-clear, verdict-le, found, clear}
-use Rattle.detectors.proofs.Laws.Tests.{pair-length, diagonal-at-le, diagonal-pair-le}
+use Rattle.detectors.proofs.Laws.Tests.{diagonal-at-le, diagonal-pair-le}
 use Rattle.detectors.proofs.diagonal.Rooted.{no-root, a-root, rooted-spent}
+use Rattle.detectors.proofs.diagonal.Normal.{normal-length, normal-some, normal-spent}
 use Rattle.detectors.proofs.diagonal.some_pair.Statement.{statement}
 use Rattle.detectors.proofs.diagonal.some_pair.Tie as tie
 
@@ -28,25 +29,25 @@ module _ (span : Float) (protected : Bool) (am dm : Float) (m : List (List Float
   takes j = diagonalTestsAt m p (rootAt u v j)
 
   -- what the inner loop leaves of a pair with n roots, at its end and where it breaks off
-  module _ (n : ℕ) (l : Listed (pairRoots m p) n u v) (i : ℕ) where
+  module _ (n : ℕ) (l : Listed (normalPairRoots m p) n u v) (i : ℕ) where
     pair-none : i ≡ n → any i at ≡ false → diagonalPair span protected am dm m p ≡ false
     unfolding diagonalPair
-    pair-none = no-root (diagonalAt span protected am dm m p) (pairRoots m p) n u v (pair-length m p) l i
+    pair-none e a = sym (normal-some span protected am dm m p) ∙ no-root (diagonalAt span protected am dm m p) (normalPairRoots m p) n u v (normal-length m p) l i e a
 
     pair-some : i < n → at i ≡ true → diagonalPair span protected am dm m p ≡ true
     unfolding diagonalPair
-    pair-some = a-root (diagonalAt span protected am dm m p) (pairRoots m p) n u v (pair-length m p) l i
+    pair-some b e = sym (normal-some span protected am dm m p) ∙ a-root (diagonalAt span protected am dm m p) (normalPairRoots m p) n u v (normal-length m p) l i b e
 
     all-tests : i ≡ n → spent i at takes ≡ diagonalPairTests span protected am dm m p
     unfolding diagonalPairTests
-    all-tests e = ap (λ (j : ℕ). spent j at takes) e ∙ sym (rooted-spent (diagonalAt span protected am dm m p) (pairRoots m p) n u v (pair-length m p) l (diagonalTestsAt m p))
+    all-tests e = ap (λ (j : ℕ). spent j at takes) e ∙ sym (rooted-spent (diagonalAt span protected am dm m p) (normalPairRoots m p) n u v (normal-length m p) l (diagonalTestsAt m p)) ∙ normal-spent span protected am dm m p
 
     few : i ≤ n → spent i at takes ≤ 6
-    few b = omega (arith, b, l .counted, pair-length m p, spent-small 3 i at takes (λ j. diagonal-at-le m p (rootAt u v j)))
+    few b = omega (arith, b, l .counted, normal-length m p, spent-small 3 i at takes (λ j. diagonal-at-le m p (rootAt u v j)))
 
     up-to : i < n → at i ≡ true → spent (i + 1) at takes ≡ diagonalPairTests span protected am dm m p
     unfolding diagonalPairTests
-    up-to b e = sym (spent-ended at takes n i b e) ∙ sym (rooted-spent (diagonalAt span protected am dm m p) (pairRoots m p) n u v (pair-length m p) l (diagonalTestsAt m p))
+    up-to b e = sym (spent-ended at takes n i b e) ∙ sym (rooted-spent (diagonalAt span protected am dm m p) (normalPairRoots m p) n u v (normal-length m p) l (diagonalTestsAt m p)) ∙ normal-spent span protected am dm m p
 
 within : (a : Bool) (t n v : ℕ) → v ≡ verdict a n → t + n < 128 → t + v < 256
 within a t n v e l = omega (arith, e, l, verdict-le a n)
@@ -79,7 +80,7 @@ module _ (span : Float) (protected : Bool) (am dm : Float) (m : List (List Float
   last-pair k tests b e a h o s = as-found tests (any-at ones 3 p b o) ∙ ap (verdict (any 3 ones)) (s ∙ next-pair k e a h ∙ sym (spent-ended ones cost 3 p b o))
 
   -- all tests up to a root x are too few for an artifact
-  room : (u v : Float) (n : ℕ) → Listed (pairRoots m p) n u v → (i tests : ℕ) (x : Float) → p ≤ 3 → t ≡ spent p ones cost → i ≤ n
+  room : (u v : Float) (n : ℕ) → Listed (normalPairRoots m p) n u v → (i tests : ℕ) (x : Float) → p ≤ 3 → t ≡ spent p ones cost → i ≤ n
       → tests ≡ t + spent i (at span protected am dm m p u v) (takes span protected am dm m p u v) → tests + diagonalTestsAt m p x < 128
   room u v n l i tests x b e c f = omega (arith, few-pairs b e, few span protected am dm m p u v n l i c, diagonal-at-le m p x)
 
