@@ -1,22 +1,12 @@
 -- What the inner functions ask of each other and leave for each other. No public function's promise rests on this page. Definitions only.
 use Prim.Native.Nat.{ℕ, _+_}
 use mathlib.Core.Bool.{Bool, cond, _||_}
-use mathlib.Core.List.{List, []}
+use mathlib.Core.List.{List}
 use lib.Dec.{eqb, leb}
-use lib.ListN.{getD}
 use lib.Ieee.{Float, binary64}
 use Rattle.numbers.specs.Constants.{zeroOf, oneOf}
-use Rattle.numbers.specs.EquationSolver.{normalRootsOf}
 use Rattle.ranges.specs.Classifier.{rangeTest}
-use Rattle.detectors.specs.Pairs.{difference}
-use Rattle.detectors.specs.Diagonal.{middleDifference, squareCoefficient, linearCoefficient, turns, turningTest}
-
--- the roots of pair p's quadratic as the branchless root gives them, which takes a positive discriminant for a normal number
-unfoldable pub normalPairRoots : List (List Float) → ℕ → List Float
-normalPairRoots m p =
-    let dA = difference (getD m 0 []) p in
-    let dBC = middleDifference m p in
-    normalRootsOf (squareCoefficient dA dBC (difference (getD m 3 []) p)) (linearCoefficient dA dBC) dA
+use Rattle.detectors.specs.Diagonal.{turns, turningTest}
 
 -- root k of up to two
 abbrev pub rootAt : Float → Float → ℕ → Float

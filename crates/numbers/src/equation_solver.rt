@@ -42,6 +42,7 @@ fn solve_linear(b: f64, c: f64) -> Roots
     }
 }
 
+// D, whose sign tells whether there are two roots, one or none.
 fn discriminant(a: f64, b: f64, c: f64) -> f64
     ensures { λ r. ⌜ r ≡ EquationSolver.discriminant a b c ⌝ }
 {

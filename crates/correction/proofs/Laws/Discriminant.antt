@@ -14,8 +14,7 @@ use Rattle.numbers.specs.SquareRoot.{PositiveNormal}
 use Rattle.numbers.proofs.Laws.Order.{le-of-abs-le}
 use Rattle.numbers.proofs.Laws.Bounds.{le-of-within}
 use Rattle.detectors.specs.Diagonal.{pairRoots}
-use Rattle.detectors.specs.Discriminant.{pairDiscriminant}
-use Rattle.detectors.specs.Inner.{normalPairRoots}
+use Rattle.detectors.specs.Discriminant.{pairDiscriminant, normalPairRoots}
 use Rattle.detectors.proofs.Laws.Discriminant.{pair-discriminant-normal, pair-discriminant-least, pair-discriminant-most, pair-normal-roots}
 use Rattle.correction.specs.Bitmap.{inBounds}
 use Rattle.inputs.specs.Checks.{Input, refusalNumber, accepted}

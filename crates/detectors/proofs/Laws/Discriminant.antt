@@ -15,8 +15,7 @@ use Rattle.numbers.specs.SquareRoot.{PositiveNormal}
 use Rattle.numbers.proofs.Laws.Bounds.{Within}
 use Rattle.numbers.proofs.Laws.NormalRoots.{discriminant-within, discriminant-least, discriminant-normal, solvers-agree}
 use Rattle.detectors.specs.Diagonal.{quadraticRoots, pairRoots}
-use Rattle.detectors.specs.Discriminant.{quadraticDiscriminant, pairDiscriminant}
-use Rattle.detectors.specs.Inner.{normalPairRoots}
+use Rattle.detectors.specs.Discriminant.{quadraticDiscriminant, pairDiscriminant, normalQuadraticRoots, normalPairRoots}
 use Rattle.detectors.proofs.Laws.Finite.{SmallFour}
 use Rattle.detectors.proofs.Laws.RootCount.{Coefficients, coefficients-small}
 
@@ -35,5 +34,5 @@ pair-discriminant-most m p s h =
     discriminant-within 25 25 21 50 _ _ _ (lit≤ tt) (lit≤ tt) (lit≤ tt) (c .square) (c .linear) (c .constant)
 
 pub pair-normal-roots : (m : List (List Float)) (p : ℕ) → Coefficients m p → normalPairRoots m p ≡ pairRoots m p
-unfolding normalPairRoots pairRoots quadraticRoots
+unfolding normalPairRoots normalQuadraticRoots pairRoots quadraticRoots
 pair-normal-roots m p c = solvers-agree _ _ _ (c .square) (c .linear) (c .constant)

@@ -5,23 +5,28 @@
 --     coefficients-finite             so they are finite
 --     pair-roots-true                 and then the number of its roots is the true one
 --     side-divisor                    the divisor of a side pair's crossing is zero just where the two differences are equal
---     side-none                       and then no crossing is inside
-use mathlib.Core.Path.{_≡_, refl, ap, _∙_}
+--     not-inside                      what is not strictly between 0 and 1 is not inside
+--     side-none                       so no crossing is inside there
+use mathlib.Core.Path.{_≡_, ap, _∙_, subst}
 use mathlib.Core.Logic.{inl, inr}
-use mathlib.Core.Bool.{Bool, true, false}
+use mathlib.Core.Bool.{true, false}
 use mathlib.Core.List.{List, []}
 use Prim.Native.Nat.{ℕ, zero, suc, _<_}
 use native.Mathlib.Omega.{arith}
+use lib.Dec.{T, not-T}
 use lib.ListN.{length, getD}
 use lib.Ieee.{Float, nan, inf, binary32, binary64, add, sub, div, eq, lt, ofBits}
-use lib.Ieee.Fits.{add-fits, sub-fits}
-use Rattle.numbers.specs.Constants.{zeroOf}
+use lib.Ieee.Fits.{add-fits, sub-fits, and-i, and-l, and-r}
+use lib.Ieee.Bits.{is-false}
+use Rattle.numbers.specs.Constants.{zeroOf, oneOf}
 use Rattle.numbers.specs.Whole.{Finite}
-use Rattle.numbers.proofs.Laws.Order.{finite}
+use Rattle.numbers.proofs.Laws.Order.{finite, lt-trans}
 use Rattle.numbers.proofs.Laws.Bounds.{Within, within-finite, within-held, add-within, sub-within}
 use Rattle.numbers.proofs.Laws.Exact.{div-by-zero}
 use Rattle.numbers.proofs.Laws.Difference.{sub-zero}
 use Rattle.numbers.proofs.Laws.RootCount.{count-true}
+use Rattle.numbers.proofs.Laws.Beyond.{Outside, nan-outside, inf-outside}
+use Rattle.ranges.specs.Constants.{epsilon, oneLessEpsilon}
 use Rattle.detectors.specs.Texel.{channel}
 use Rattle.detectors.specs.Pairs.{inside, next, difference}
 use Rattle.detectors.specs.Linear.{crossing}
@@ -106,19 +111,16 @@ pub side-divisor : (a b : List Float) (p : ℕ) → SmallTexel a → SmallTexel 
 unfolding ofBits
 side-divisor a b p s t h = sub-zero binary32 (difference a p) (difference b p) (difference-finite a p s h) (difference-finite b p t h)
 
--- neither a NaN nor an infinity is inside
-nan-outside : inside nan ≡ false
-unfolding inside lt ofBits
-nan-outside = refl
-
-inf-outside : (s : Bool) → inside (inf s) ≡ false
-unfolding inside lt ofBits
-inf-outside true = refl
-inf-outside false = refl
+-- what is not strictly between 0 and 1 is not inside
+pub not-inside : (t : Float) → Outside t → inside t ≡ false
+unfolding inside
+not-inside t o = is-false (inside t) (not-T (inside t) (λ h. subst T o (and-i (lt (zeroOf binary64) t) (lt t (oneOf binary64))
+    (lt-trans (zeroOf binary64) epsilon t (unfold lt in unfold ofBits in tt) (and-l (lt epsilon t) (lt t oneLessEpsilon) h))
+    (lt-trans t oneLessEpsilon (oneOf binary64) (and-r (lt epsilon t) (lt t oneLessEpsilon) h) (unfold lt in unfold ofBits in tt)))))
 
 by-zero : (x d : Float) → finite x → eq d (zeroOf binary64) ≡ true → inside (div binary64 x d) ≡ false
 unfolding ofBits
-by-zero x d i h = elim (div-by-zero binary64 x d i h) [ inl e ↦ ap inside e ∙ nan-outside | inr e ↦ ap inside (e .1) ∙ inf-outside (e .0) ]
+by-zero x d i h = elim (div-by-zero binary64 x d i h) [ inl e ↦ ap inside e ∙ not-inside nan nan-outside | inr e ↦ ap inside (e .1) ∙ not-inside (inf (e .0)) (inf-outside (e .0)) ]
 
 pub side-none : (a b : List Float) (p : ℕ) → SmallTexel a → SmallTexel b → p < 3 → eq (difference a p) (difference b p) ≡ true → inside (crossing (difference a p) (difference b p)) ≡ false
 unfolding crossing

@@ -3,29 +3,26 @@
 --     normal-length   there are at most two
 --     normal-some     one of them is an artifact just where one of the pair's roots is
 --     normal-spent    and as many tests are made
-use mathlib.Core.Path.{_≡_, refl, sym, ap, _∙_, subst}
+use mathlib.Core.Path.{_≡_, refl, sym, ap, _∙_}
 use mathlib.Core.Logic.{_⊎_, inl, inr}
 use mathlib.Core.Bool.{Bool, false, _&&_, _||_, cond}
 use mathlib.Core.List.{List, [], _∷_}
 use Prim.Native.Nat.{ℕ, _+_, _≤_}
-use lib.Dec.{T, not-T}
+use lib.Dec.{T}
 use lib.ListN.{length, getD}
-use lib.Ieee.{Float, binary32, binary64, sub, lt, fits, ofBits}
-use lib.Ieee.Fits.{add-fits, sub-fits, and-i, and-l, and-r}
-use lib.Ieee.Bits.{is-false}
-use Rattle.numbers.specs.Constants.{zeroOf, oneOf}
-use Rattle.numbers.proofs.Laws.Order.{lt-trans}
+use lib.Ieee.{Float, binary32, sub, fits}
+use lib.Ieee.Fits.{add-fits, sub-fits}
 use Rattle.numbers.proofs.Laws.EquationSolver.{normal-at-most-two}
 use Rattle.numbers.proofs.Laws.Beyond.{Outside, AllOutside, beyond}
-use Rattle.ranges.specs.Constants.{epsilon, oneLessEpsilon}
 use Rattle.ground.specs.Lists.{some, spentIn}
+use Rattle.detectors.proofs.Laws.RootCount.{not-inside}
 use Rattle.detectors.specs.Texel.{channel}
-use Rattle.detectors.specs.Pairs.{inside, next, difference}
+use Rattle.detectors.specs.Pairs.{next, difference}
 use Rattle.detectors.specs.Diagonal.{middleDifference, curveMedian, quadraticRoots, pairRoots, rootTests, diagonalAt, rootTestCount, diagonalTestsAt}
-use Rattle.detectors.specs.Inner.{normalPairRoots}
+use Rattle.detectors.specs.Discriminant.{normalQuadraticRoots, normalPairRoots}
 
 pub normal-length : (m : List (List Float)) (p : ℕ) → length (normalPairRoots m p) ≤ 2
-unfolding normalPairRoots
+unfolding normalPairRoots normalQuadraticRoots
 normal-length m p = normal-at-most-two _ _ _
 
 -- the coefficients are sums and differences in f32, so values of it
@@ -34,17 +31,11 @@ unfolding difference
 difference-fits a p = sub-fits binary32 (channel a (next p)) (channel a p)
 
 normal-or-outside : (m : List (List Float)) (p : ℕ) → (normalPairRoots m p ≡ pairRoots m p) ⊎ (AllOutside (normalPairRoots m p) × AllOutside (pairRoots m p))
-unfolding normalPairRoots pairRoots quadraticRoots
+unfolding normalPairRoots normalQuadraticRoots pairRoots quadraticRoots
 normal-or-outside m p =
     let dA = difference (getD m 0 []) p in
     let dBC = middleDifference m p in
     beyond _ _ dA (add-fits binary32 (sub binary32 (difference (getD m 3 []) p) dBC) dA) (sub-fits binary32 (sub binary32 dBC dA) dA) (difference-fits (getD m 0 []) p)
-
-not-inside : (t : Float) → Outside t → inside t ≡ false
-unfolding inside
-not-inside t o = is-false (inside t) (not-T (inside t) (λ h. subst T o (and-i (lt (zeroOf binary64) t) (lt t (oneOf binary64))
-    (lt-trans (zeroOf binary64) epsilon t (unfold lt in unfold ofBits in tt) (and-l (lt epsilon t) (lt t oneLessEpsilon) h))
-    (lt-trans t oneLessEpsilon (oneOf binary64) (and-r (lt epsilon t) (lt t oneLessEpsilon) h) (unfold lt in unfold ofBits in tt)))))
 
 module _ (span : Float) (protected : Bool) (am dm : Float) (m : List (List Float)) (p : ℕ) where
   abbrev at : Float → Bool

@@ -1,5 +1,6 @@
 -- Of any three values of binary32, infinities and NaNs too, the two lists of roots are the same, or neither has a root strictly between 0 and 1. Assumes nothing.
 --     Outside, AllOutside    a value is not strictly between 0 and 1, and no value of a list is
+--     nan-outside, inf-outside  neither a NaN nor an infinity is strictly between them
 --     beyond                 the two lists are the same, or both are all outside
 use mathlib.Core.Path.{_≡_, refl, sym, ap, _∙_, subst}
 use mathlib.Core.Logic.{_⊎_, inl, inr}
@@ -50,11 +51,11 @@ same-or-two a b c =
     go false false l x y z = inl refl
 
 -- ---- values that are outside
-nan-outside : Outside nan
+pub nan-outside : Outside nan
 unfolding lt ofBits
 nan-outside = refl
 
-inf-outside : (s : Bool) → Outside (inf s)
+pub inf-outside : (s : Bool) → Outside (inf s)
 unfolding lt ofBits
 inf-outside true = refl
 inf-outside false = refl

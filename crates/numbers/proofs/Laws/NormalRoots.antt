@@ -7,6 +7,8 @@
 --     normal-agree                          wherever a positive discriminant is normal the two rules give the same roots
 --     solvers-agree                         so they do of any three finite values of binary32
 --     answers-agree                         and any answers that the two solvers' promises permit are the same
+--     counts-alike                          how many roots there are does not depend on the root: of any three values both rules give as many
+--     normal-solver-true                    so of three finite values of binary32 the second solver gives the true number too
 --     apart-subnormal, apart-infinite       evaluated: of values of binary64 whose discriminant is subnormal, or overflows, the two do differ
 use mathlib.Core.Path.{_≡_, refl, sym, ap, _∙_, subst}
 use Prim.Native.Nat.{ℕ, _+_, _-_, _*_, _/_, _^_, _≤_, _<_}
@@ -16,6 +18,7 @@ use mathlib.Core.Bool.{Bool, true, false, not, cond, Bool·beq}
 use mathlib.Core.List.{List, [], _∷_}
 use lib.IntN.{pos, negsuc}
 use lib.Dec.{T, lit≤}
+use lib.ListN.{length}
 use lib.Pow.{pow-pos, pow-add}
 use lib.Ieee.{Float, inf, fin, binary32, binary64, up, down, size, unlike, below, round, add, sub, mul, div, neg, lt, le, eq, fits, toBits, ofBits, hid, ones}
 use lib.Ieee.Digits.{size-le, size-reaches}
@@ -28,7 +31,8 @@ use Rattle.numbers.specs.Nearest.{sumSize, sumSign}
 use Rattle.numbers.specs.Scalar.{absOf}
 use Rattle.numbers.specs.SquareRoot.{sqrtOf, normalRoot, PositiveNormal, rootOf, root, rootBy}
 use Rattle.numbers.specs.EquationSolver.{isLinear, linearRoots, discriminant, upperRoot, lowerRoot, squareRootsBy, squareRoots, rootsOf, normalRootsOf, Listed}
-use Rattle.numbers.specs.Whole.{Finite, steps}
+use Rattle.numbers.specs.Whole.{Finite, steps, wholeOf}
+use Rattle.numbers.specs.RootCount.{trueCount}
 use Rattle.numbers.specs.declared.equation_solver.Roots.{Roots}
 use Rattle.numbers.proofs.floats.Differences.{of-below, summed}
 use Rattle.numbers.proofs.floats.Held.{held, count}
@@ -39,8 +43,8 @@ use Rattle.numbers.proofs.Laws.Exact.{round-value, single-short}
 use Rattle.numbers.proofs.Laws.Difference.{counted, one-at-least}
 use Rattle.numbers.proofs.Laws.Bounds.{Within, within-finite, value-within, mul-within, sub-within}
 use Rattle.numbers.proofs.Laws.SquareRoot.{normal-root-is}
-use Rattle.numbers.proofs.Laws.EquationSolver.{by-fewer}
-use Rattle.numbers.proofs.Laws.RootCount.{square-exact, product-exact, discriminant-positive}
+use Rattle.numbers.proofs.Laws.EquationSolver.{by-fewer, by-count}
+use Rattle.numbers.proofs.Laws.RootCount.{square-exact, product-exact, discriminant-positive, count-true}
 use Rattle.numbers.proofs.Laws.Alike.{roots-alike}
 
 -- ---- normal values
@@ -152,7 +156,23 @@ pub answers-agree : (a b c : Float) (r s : Roots) → Finite binary32 a → Fini
     → Listed (normalRootsOf a b c) (r .count) (r .first) (r .second) → Listed (rootsOf a b c) (s .count) (s .first) (s .second) → r ≡ s
 answers-agree a b c r s p q t h k = roots-alike (rootsOf a b c) r s (subst (λ (xs : List Float). Listed xs (r .count) (r .first) (r .second)) (solvers-agree a b c p q t) h) k
 
--- ---- where they do not
+-- ---- how many they give
+pub counts-alike : (a b c : Float) → length (normalRootsOf a b c) ≡ length (rootsOf a b c)
+unfolding normalRootsOf rootsOf squareRoots
+counts-alike a b c = go (isLinear a b)
+  where
+    D : Float
+    D = discriminant a b c
+
+    go : (p : Bool) → length (cond p (linearRoots b c) (squareRootsBy (normalRoot (toBits binary64 D)) a b D)) ≡ length (cond p (linearRoots b c) (squareRootsBy (sqrtOf D) a b D))
+    go true = refl
+    go false = by-count (normalRoot (toBits binary64 D)) a b D ∙ sym (by-count (sqrtOf D) a b D)
+
+pub normal-solver-true : (a b c : Float) (n : ℕ) (x y : Float) → Finite binary32 a → Finite binary32 b → Finite binary32 c → Listed (normalRootsOf a b c) n x y
+    → n ≡ trueCount (wholeOf binary32 a) (wholeOf binary32 b) (wholeOf binary32 c)
+normal-solver-true a b c n x y p q r l = l .counted ∙ counts-alike a b c ∙ count-true a b c p q r
+
+-- ---- where the roots are not the same
 -- x² − 1, scaled by 2^-538: D is the smallest subnormal value, 2^-1074, and its pattern taken for a normal number is that of one some 2^51 times as large
 pub apart-subnormal : (rootsOf (fin false 1 (negsuc 537)) (fin false 0 (pos 0)) (fin true 1 (negsuc 537)) ≡ fin false 1 (pos 0) ∷ fin true 1 (pos 0) ∷ [])
     × (normalRootsOf (fin false 1 (negsuc 537)) (fin false 0 (pos 0)) (fin true 1 (negsuc 537)) ≡ fin false 6369051672525773 (negsuc 26) ∷ fin true 6369051672525773 (negsuc 26) ∷ [])

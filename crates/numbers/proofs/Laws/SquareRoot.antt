@@ -28,7 +28,7 @@ use Rattle.numbers.proofs.floats.Compared.{le-or-lt}
 use Rattle.numbers.proofs.floats.Distances.{units-order}
 use Rattle.numbers.proofs.floats.Multiples.{fewer}
 use Rattle.numbers.proofs.square_root.Roots.{bracket, four-pow}
-use Rattle.numbers.proofs.square_root.Rooting.{Wide, sqrt-units, nearest-wide, four-two, k-of, M-of, wide-of, field-of, digits-of, size-is, fields-units, normal}
+use Rattle.numbers.proofs.square_root.Rooting.{Wide, sqrt-units, nearest-wide, four-two, k-of, M-of, wide-of, field-of, digits-of, size-is, spread, fields-units, normal}
 
 -- ---- x = N / L is M * 4 ^ k / L ^ 2, with an M of 105 or 106 digits
 record Square (N : ℕ) : Type 0 where
@@ -237,9 +237,6 @@ normal-root-nearest b =
     let M = M-of (field-of b) (digits-of b) in
     let k = k-of (field-of b) in
     found (normalSize b) (2 ^ 1075) M k (normalRoot b) (pow-pos 1075) (spread (normalSize b) (M * 4 ^ k) (size-is b)) (wide-of (field-of b) (digits-of b) (omega arith)) (omega arith) (omega arith) (fields-units b)
-  where
-    spread : (n p : ℕ) → n * 2 ^ 1073 ≡ p → n * (2 ^ 1074 * 2 ^ 1074) ≡ p * 2 ^ 1075
-    spread n p h = ap (λ (z : ℕ). n * z) (sym (pow-add 2 1074 1074) ∙ pow-add 2 1073 1075) ∙ sym (mul-assoc n (2 ^ 1073) (2 ^ 1075)) ∙ ap (λ (z : ℕ). z * 2 ^ 1075) h
 
 -- infinity's fields stand for 2 ^ 1024, and the smallest subnormal's for (1 + 2 ^ -52) * 2 ^ -1023
 pub infinite-root : normalRoot (toBits binary64 (inf false)) ≡ fin false 1 (pos 512)

@@ -111,21 +111,20 @@ size-is b =
     let e : b % 9223372036854775808 / 4503599627370496 ≡ field-of b = omega arith in
     ap (λ (z : ℕ). (4503599627370496 + digits-of b) * 2 ^ z * 2 ^ 1073) e ∙ scaled (field-of b) (digits-of b)
 
--- the root of the number that a pattern's fields stand for
+-- that number is n / 2 ^ 1075, and in units of 2 ^ -2148 it is a whole one
+pub spread : (n p : ℕ) → n * 2 ^ 1073 ≡ p → n * (2 ^ 1074 * 2 ^ 1074) ≡ p * 2 ^ 1075
+spread n p h = ap (λ (z : ℕ). n * z) (sym (pow-add 2 1074 1074) ∙ pow-add 2 1073 1075) ∙ sym (mul-assoc n (2 ^ 1073) (2 ^ 1075)) ∙ ap (λ (z : ℕ). z * 2 ^ 1075) h
+
+-- its root
 pub fields-units : (b : ℕ) → normalRoot b ≡ units binary64 false (nearestRoot (M-of (field-of b) (digits-of b))) (k-of (field-of b))
 unfolding normalRoot nearestRoot
 fields-units b =
     let M = M-of (field-of b) (digits-of b) in
+    let k = k-of (field-of b) in
     let w = wide-of (field-of b) (digits-of b) (omega arith) in
-    rootOf-at binary64 (normalSize b) (2 ^ 1075) M (k-of (field-of b)) (root M) (pow-pos 1075) (spread (normalSize b) M (4 ^ k-of (field-of b)) (size-is b)) (root-around M) (root-wide M w .0) (root-wide M w .1)
-  where
-    spread : (n M p : ℕ) → n * 2 ^ 1073 ≡ M * p → n * 4 ^ 1074 ≡ M * (2 ^ 1075 * p)
-    spread n M p h =
-        ap (λ (z : ℕ). n * z) (four-two 1074 ∙ pow-add 2 1073 1075)
-        ∙ sym (mul-assoc n (2 ^ 1073) (2 ^ 1075))
-        ∙ ap (λ (z : ℕ). z * 2 ^ 1075) h
-        ∙ mul-assoc M p (2 ^ 1075)
-        ∙ ap (λ (z : ℕ). M * z) (mul-comm p (2 ^ 1075))
+    rootOf-at binary64 (normalSize b) (2 ^ 1075) M k (root M) (pow-pos 1075)
+    (ap (λ (z : ℕ). normalSize b * z) (four-pow 1074) ∙ spread (normalSize b) (M * 4 ^ k) (size-is b) ∙ mul-assoc M (4 ^ k) (2 ^ 1075) ∙ ap (λ (z : ℕ). M * z) (mul-comm (4 ^ k) (2 ^ 1075)))
+    (root-around M) (root-wide M w .0) (root-wide M w .1)
 
 -- and its pattern
 abbrev pub bits-of : ℕ → ℕ

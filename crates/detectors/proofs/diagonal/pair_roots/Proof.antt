@@ -1,11 +1,11 @@
 -- `detectors::diagonal::pair_roots` meets its contract: a widened number is the number. Assumes nothing.
 use borrow.Author.Needs.{needs}
-use Rattle.detectors.specs.Inner.{normalPairRoots}
+use Rattle.detectors.specs.Discriminant.{normalQuadraticRoots, normalPairRoots}
 use Rattle.detectors.proofs.diagonal.pair_roots.Statement.{statement}
 use Rattle.detectors.proofs.diagonal.pair_roots.Tie as tie
 
 returns : tie.Need-returns
-unfolding normalPairRoots
+unfolding normalPairRoots normalQuadraticRoots
 returns c =
     let a = c .before .before .before in
     let dd = a .before in

@@ -10,7 +10,8 @@ use Rattle.numbers.specs.EquationSolver.{Listed}
 use Rattle.ground.specs.Lists.{any, spent}
 use Rattle.ground.proofs.Laws.Search.{none-zero, none-more, any-at}
 use Rattle.ground.proofs.Laws.Spent.{spent-none, spent-more, spent-ended, spent-small}
-use Rattle.detectors.specs.Inner.{normalPairRoots, rootAt}
+use Rattle.detectors.specs.Discriminant.{normalPairRoots}
+use Rattle.detectors.specs.Inner.{rootAt}
 use Rattle.detectors.specs.Verdict.{verdict}
 use Rattle.detectors.specs.Diagonal.{diagonalAt, diagonalPair, diagonalTestsAt, diagonalPairTests}
 use Rattle.detectors.proofs.Laws.Verdict.{as-found, as-clear, verdict-le, found, clear}
