@@ -1,4 +1,6 @@
 -- What follows from the definitions, for any bitmap.
+pub mod Contours
+pub mod Collapse
 pub mod Answer
 pub mod Leaves
 pub mod Neighbourhood

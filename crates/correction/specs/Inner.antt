@@ -1,38 +1,21 @@
 -- What the inner functions ask of each other and leave for each other. No public function's promise rests on this page. Definitions only.
 use mathlib.Core.Path.{_≡_}
-use Prim.Native.Nat.{ℕ, zero, suc, _+_, _-_, _*_, _/_, _%_, _≤_, _<_}
+use Prim.Native.Nat.{ℕ, zero, suc, _+_, _-_, _/_, _%_, _≤_, _<_}
 use mathlib.Core.Bool.{Bool, cond, _&&_, _||_}
-use mathlib.Core.List.{List, [], _∷_}
-use lib.ListN.{getD, length, set}
+use mathlib.Core.List.{List}
+use lib.ListN.{getD, length}
 use lib.Dec.{eqb, ltb}
 use lib.IntN.{ℤ, pos, negsuc}
-use lib.Ieee.{Float, nan}
+use lib.Ieee.{Float}
 use Rattle.ranges.specs.declared.config.Settings.{Settings}
 use Rattle.detectors.specs.Texel.{texelMedian}
 use Rattle.detectors.specs.Edge.{protectsLower, protectsUpper}
 use Rattle.correction.specs.declared.bitmap.Visit.{Visit}
 use Rattle.correction.specs.declared.bitmap.Centre.{Centre}
-use Rattle.ground.specs.Lists.{tab, any, total}
+use Rattle.ground.specs.Lists.{tab, total}
 use Rattle.correction.specs.Bitmap.{cell, texel, inBounds}
 use Rattle.inputs.specs.Stencil.{isProtected, setCorner, setProtected, setError}
-use Rattle.correction.specs.Corners.{shared, lower, beside}
 use Rattle.correction.specs.Errors.{hasArtifact, testsMade}
-
--- the sizes that checks 1 to 3 let through
-pub record Sized (w h ch : ℕ) (xs : List Float) : Type 0 where
-  pub any : 1 ≤ w
-  pub wide : w ≤ 4096
-  pub high : h ≤ 4096
-  pub some : 3 ≤ ch
-  pub few : ch ≤ 4
-  pub long : length xs ≡ h * w * ch
-
--- the cells that checks 2 and 4 let through
-pub record Celled (w h : ℕ) (st : List ℕ) : Type 0 where
-  pub any : 1 ≤ w
-  pub wide : w ≤ 4096
-  pub high : h ≤ 4096
-  pub long : length st ≡ h * w
 
 -- A sweep over the cells of a bitmap, row by row, has come to this one, or past the last row.
 pub record Reached (w h : ℕ) (at : Visit) : Type 0 where
@@ -51,10 +34,6 @@ pub record Centred (xs : List Float) (w h ch : ℕ) (t : Centre) : Type 0 where
   pub samples : t .texel ≡ texel xs w ch (t .x) (t .y)
   pub median : t .median ≡ texelMedian (t .texel)
 
--- a stencil with what a brush makes of its byte in each cell for which a test holds, and the others as they were
-unfoldable pub painted : (ℕ → ℕ) → (ℕ → Bool) → List ℕ → List ℕ
-painted brush p st = tab (length st) (λ k. cond (p k) (brush (getD st k 0)) (getD st k 0))
-
 -- what a corner leaves of a byte: bit 4 beside bit 2
 abbrev pub atCorner : ℕ → ℕ
 atCorner v = setCorner (setProtected v)
@@ -68,16 +47,6 @@ unfoldable pub clip : ℤ → ℕ → ℕ
 clip (pos l) n = cond (ltb l n) (suc l) (suc n)
 clip (negsuc zero) n = 0
 clip (negsuc (suc l)) n = suc n
-
--- segment i of the contour from `from` to `end` is a corner with cell k around it
-unfoldable pub cornerHits : ℕ → List ℕ → List Float → ℕ → ℕ → ℕ → ℕ → Bool
-cornerHits w colours coords from end i k =
-    ltb (shared (getD colours (cond (eqb i from) (end - 1) (i - 1)) 0) (getD colours i 0)) 2
-    && (beside (lower (getD coords (2 * i) nan)) (k % w) && beside (lower (getD coords (2 * i + 1) nan)) (k / w))
-
--- some segment of that contour
-unfoldable pub contourHits : ℕ → List ℕ → List Float → ℕ → ℕ → ℕ → Bool
-contourHits w colours coords from end k = any (end - from) (λ j. cornerHits w colours coords from end (from + j) k)
 
 -- the pair of texel a with n protects it, as the lower one or as the other one
 unfoldable pub protectsAs : Bool → Float → List Float → List Float → Bool
@@ -93,10 +62,6 @@ someOf lower tex w h rh rv rd x y ahead behind level =
     asEither lower tex w h rh x y ahead (y + 1)
     || (asEither lower tex w h rv x y (x + 1) level
     || (asEither lower tex w h rd x y ahead level || asEither lower tex w h rd x y behind level))
-
--- the three samples from a place on set to the value of their median
-abbrev pub collapsedAt : List Float → ℕ → List Float
-collapsedAt xs at = let m = texelMedian (getD xs at nan ∷ getD xs (at + 1) nan ∷ getD xs (at + 2) nan ∷ []) in set (set (set xs at m) (at + 1) m) (at + 2) m
 
 -- the byte of a cell with its error bit set where its texel is flagged
 unfoldable pub marked : List Float → ℕ → ℕ → ℕ → Settings → ℕ → ℕ → ℕ → ℕ

@@ -1,5 +1,6 @@
 pub mod Bitmap
 pub mod Corners
+pub mod Numbered
 pub mod Edges
 pub mod Errors
 pub mod Collapse

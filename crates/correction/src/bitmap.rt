@@ -3,7 +3,8 @@ ghost use mathlib.Core.Path.{_≡_};
 ghost use Prim.Native.Nat.{_+_, _-_, _<_, _≤_};
 ghost use mathlib.Core.Bool.{true};
 ghost use Rattle.correction.specs.Bitmap as Rules;
-ghost use Rattle.correction.specs.Inner.{Sized, Reached, centreOf};
+ghost use Rattle.correction.specs.Inner.{Reached, centreOf};
+ghost use Rattle.inputs.specs.Inner.{Sized};
 use detectors::texel;
 use inputs::sizes::Bitmap;
 

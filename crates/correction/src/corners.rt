@@ -5,8 +5,10 @@ ghost use mathlib.Core.Bool.{cond, _&&_};
 ghost use lib.Dec.{eqb, ltb};
 ghost use lib.ListN.{length};
 ghost use Rattle.correction.specs.Corners as Corners;
-ghost use Rattle.correction.specs.Inner.{Celled, painted, atCorner, spot, clip, cornerHits, contourHits};
-ghost use Rattle.inputs.specs.Inner.{Outlined};
+ghost use Rattle.correction.specs.Inner.{atCorner, spot, clip};
+ghost use Rattle.correction.specs.Numbered.{cornerHits, contourHits};
+ghost use Rattle.inputs.specs.Inner.{Celled, Outlined};
+ghost use Rattle.ground.specs.Lists.{painted};
 use crate::bitmap;
 use inputs::sizes::Bitmap;
 use inputs::stencil;
@@ -102,7 +104,7 @@ fn protect_corner(
     requires { ⌜ Celled (b .width) (b .height) (now stencil) ⌝ }
     requires { ⌜ (length (now coords) ≡ 2 * length (now colours)) × (length (now colours) ≤ 65536) ⌝ }
     requires { ⌜ (c .from ≤ i) × (i < c .end) × (c .end ≤ length (now colours)) ⌝ }
-    ensures { λ _. ⌜ now (stencil .exit) ≡ painted atCorner (cornerHits (b .width) (now (colours .entry)) (now (coords .entry)) (c .from) (c .end) i) (now (stencil .entry)) ⌝ }
+    ensures { λ _. ⌜ now (stencil .exit) ≡ painted atCorner (λ k. cornerHits (now (colours .entry)) (now (coords .entry)) (c .from) (c .end) i (k % b .width) (k / b .width)) (now (stencil .entry)) ⌝ }
 {
     let j = previous(c, i);
     if is_corner(colours[j], colours[i]) {
@@ -115,7 +117,7 @@ fn protect_contour(stencil: &mut [u8], b: Bitmap, colours: &[u8], coords: &[f64]
     requires { ⌜ Celled (b .width) (b .height) (now stencil) ⌝ }
     requires { ⌜ (length (now coords) ≡ 2 * length (now colours)) × (length (now colours) ≤ 65536) ⌝ }
     requires { ⌜ (c .from ≤ c .end) × (c .end ≤ length (now colours)) ⌝ }
-    ensures { λ _. ⌜ now (stencil .exit) ≡ painted atCorner (contourHits (b .width) (now (colours .entry)) (now (coords .entry)) (c .from) (c .end)) (now (stencil .entry)) ⌝ }
+    ensures { λ _. ⌜ now (stencil .exit) ≡ painted atCorner (λ k. contourHits (now (colours .entry)) (now (coords .entry)) (c .from) (c .end) (k % b .width) (k / b .width)) (now (stencil .entry)) ⌝ }
 {
     let mut i = c.from;
     while i < c.end {

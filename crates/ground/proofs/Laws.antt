@@ -4,6 +4,7 @@ pub mod Search
 pub mod Count
 pub mod Spent
 pub mod Fill
+pub mod Painted
 pub mod Nan
 pub mod Refuse
 pub mod Join

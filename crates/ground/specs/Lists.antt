@@ -2,11 +2,16 @@
 use Prim.Native.Nat.{ℕ, zero, suc, _+_}
 use mathlib.Core.Bool.{Bool, false, _||_, cond}
 use mathlib.Core.List.{List, [], _∷_, _++_}
+use lib.ListN.{getD, length}
 
 -- the list of f 0 .. f (n - 1)
 unfoldable pub tab : {A : Type 0} → ℕ → (ℕ → A) → List A
 tab zero f = []
 tab (suc n) f = let h = f zero in h ∷ tab n (λ k. f (suc k))
+
+-- a list of numbers with what a brush makes of each for whose index a test holds, and the others as they were
+unfoldable pub painted : (ℕ → ℕ) → (ℕ → Bool) → List ℕ → List ℕ
+painted brush p st = tab (length st) (λ k. cond (p k) (brush (getD st k 0)) (getD st k 0))
 
 -- the pieces f 0 .. f (n - 1), one after the other
 unfoldable pub joined : {A : Type 0} → ℕ → (ℕ → List A) → List A

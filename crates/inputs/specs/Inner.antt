@@ -5,6 +5,22 @@ use mathlib.Core.List.{List}
 use lib.ListN.{getD, length}
 use lib.Ieee.{Float}
 
+-- the sizes that checks 1 to 3 let through
+pub record Sized (w h ch : ℕ) (xs : List Float) : Type 0 where
+  pub any : 1 ≤ w
+  pub wide : w ≤ 4096
+  pub high : h ≤ 4096
+  pub some : 3 ≤ ch
+  pub few : ch ≤ 4
+  pub long : length xs ≡ h * w * ch
+
+-- the cells that checks 2 and 4 let through
+pub record Celled (w h : ℕ) (st : List ℕ) : Type 0 where
+  pub any : 1 ≤ w
+  pub wide : w ≤ 4096
+  pub high : h ≤ 4096
+  pub long : length st ≡ h * w
+
 -- the outlines that checks 7 and 8 let through
 pub record Outlined (colours : List ℕ) (coords : List Float) (ends : List ℕ) : Type 0 where
   pub twice : length coords ≡ 2 * length colours

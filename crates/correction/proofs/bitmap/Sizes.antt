@@ -1,30 +1,10 @@
--- What checks 1 to 4 say to the functions that find texels. Assumes nothing.
---     sized   the sizes as the inner functions ask for them, and cells of the stencil
---     lies    a texel inside has its cell and its samples, and every product fits
-use mathlib.Core.Path.{_≡_, _∙_, ap}
-use mathlib.Core.List.{List}
+-- What checks 1 to 4 say of a texel: it has its cell and its samples, and every product fits. Assumes nothing.
+use mathlib.Core.Path.{_≡_}
 use Prim.Native.Nat.{ℕ, _+_, _*_, _<_, _≤_}
 use native.Mathlib.Nat.{mul-comm, mul-le-mul-right, le-mul-of-pos-right}
 use native.Mathlib.Omega.{arith}
-use lib.ListN.{length}
-use lib.Ieee.{Float}
 use Rattle.inputs.proofs.Laws.Checks.{Sizes, volume-fits}
-use Rattle.correction.specs.Inner.{Sized}
-use Rattle.correction.proofs.bitmap.Places.{cell-lt, next-row}
-
-pub sized : (w h ch : ℕ) (xs : List Float) (m : ℕ) → Sizes w h ch (length xs) m → Sized w h ch xs
-sized w h ch xs m s =
-    record {
-      any = s .wide .0;
-      wide = s .wide .1;
-      high = s .high .1;
-      some = s .channels .0;
-      few = s .channels .1;
-      long = s .samples ∙ ap (λ (k : ℕ). k * ch) (mul-comm w h);
-    }
-
-pub cells : (w h ch n m : ℕ) → Sizes w h ch n m → m ≡ h * w
-cells w h ch n m s = s .cells ∙ mul-comm w h
+use Rattle.inputs.proofs.Laws.Places.{cell-lt, next-row}
 
 -- where texel x, y lies
 pub record Lies (w ch x y n m : ℕ) : Type 0 where

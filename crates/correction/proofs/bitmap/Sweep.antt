@@ -16,7 +16,7 @@ use Rattle.ground.specs.Lists.{tab}
 use Rattle.ground.proofs.Laws.Fill.{Filled, filled-none, filled-more, filled-at, filled-all}
 use Rattle.correction.specs.declared.bitmap.Visit.{Visit}
 use Rattle.correction.specs.Inner.{Reached}
-use Rattle.correction.proofs.bitmap.Places.{cell-lt}
+use Rattle.inputs.proofs.Laws.Places.{cell-lt}
 
 -- what the sweep leaves in cell k
 abbrev pub swept : (ℕ → ℕ → ℕ → ℕ) → ℕ → List ℕ → ℕ → ℕ

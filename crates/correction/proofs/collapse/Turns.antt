@@ -1,68 +1,25 @@
 -- A sweep that collapses the flagged texels: before cell k the samples below its texel are as `collapsed` has them, the others as they were. Assumes nothing.
 use mathlib.Core.Path.{_≡_, refl, sym, _∙_, ap, subst}
-use mathlib.Core.Bool.{Bool, true, false, cond, _&&_}
-use mathlib.Core.List.{List, [], _∷_}
-use Prim.Native.Nat.{ℕ, _+_, _-_, _*_, _<_, _≤_}
+use mathlib.Core.Bool.{Bool, true, false, cond}
+use mathlib.Core.List.{List}
+use Prim.Native.Nat.{ℕ, _+_, _*_, _<_, _≤_}
 use native.Mathlib.Nat.{zero-mul, add-zero, mul-le-mul-right}
 use native.Mathlib.Omega.{arith}
-use lib.ListN.{length, getD, set, length-set}
-use lib.Dec.{ltb}
-use lib.Arith.{digits-div, digits-mod}
+use lib.ListN.{length, getD}
 use lib.Ieee.{Float, nan}
-use borrow.Author.Tests.{lt-ltb, le-ltb}
-use Rattle.detectors.specs.Texel.{texelMedian}
-use Rattle.ground.proofs.Laws.Fill.{Filled, filled-none, filled-more, filled-run, filled-at, filled-all}
+use Rattle.ground.proofs.Laws.Fill.{Filled, filled-none, filled-at, filled-all}
 use Rattle.correction.specs.declared.bitmap.Visit.{Visit}
 use Rattle.correction.specs.Bitmap.{place}
-use Rattle.correction.specs.Collapse.{cellMedian, collapsedSample, collapsed}
-use Rattle.correction.specs.Inner.{Sized, Reached, collapsedAt}
+use Rattle.correction.specs.Collapse.{collapsedSample, collapsed, collapsedAt}
+use Rattle.correction.proofs.Laws.Collapse.{kept, flat}
+use Rattle.correction.specs.Inner.{Reached}
+use Rattle.inputs.specs.Inner.{Sized}
 use Rattle.inputs.specs.Stencil.{isError}
-use Rattle.correction.proofs.bitmap.Places.{cell-lt, place-lt, next-row}
+use Rattle.inputs.proofs.Laws.Places.{cell-lt, place-lt, next-row}
 
 -- the cells with the error bit
 abbrev pub flags : List ℕ → ℕ → Bool
 flags st k = isError (getD st k 0)
-
--- sample r of texel k after collapsing
-at-channel : (flag : ℕ → Bool) (xs : List Float) (ch k r : ℕ) → r < ch → collapsedSample xs ch flag (k * ch + r) ≡ cond (flag k && ltb r 3) (cellMedian xs ch k) (getD xs (k * ch + r) nan)
-unfolding collapsedSample
-at-channel flag xs ch k r l = rw (digits-div k l, digits-mod k l)
-
-module _ (flag : ℕ → Bool) (xs₀ : List Float) (ch : ℕ) (xs : List Float) (k at : ℕ) (here : at ≡ k * ch) (i : Filled nan (collapsedSample xs₀ ch flag) xs₀ at xs) where
-  -- a texel that is not flagged stays
-  kept : flag k ≡ false → Filled nan (collapsedSample xs₀ ch flag) xs₀ (at + ch) xs
-  kept e =
-      filled-run nan (collapsedSample xs₀ ch flag) xs₀ (at + ch) i (omega arith)
-      (λ j l m.
-      let r : j - at < ch = omega arith in
-      let q : j ≡ k * ch + (j - at) = omega (arith, here) in
-      subst (λ (n : ℕ). getD xs₀ n nan ≡ collapsedSample xs₀ ch flag n) (sym q) (sym (at-channel flag xs₀ ch k (j - at) r ∙ simp e)))
-
-  module _ (e : flag k ≡ true) (t : 3 ≤ ch) (l : at + 2 < length xs) where
-    m : Float
-    m = texelMedian (getD xs at nan ∷ getD xs (at + 1) nan ∷ getD xs (at + 2) nan ∷ [])
-
-    same : m ≡ cellMedian xs₀ ch k
-    unfolding m
-    same = rw (i .rest at (omega arith), i .rest (at + 1) (omega arith), i .rest (at + 2) (omega arith), here, add-zero (k * ch))
-
-    value : (r : ℕ) → r < 3 → m ≡ collapsedSample xs₀ ch flag (at + r)
-    value r b = same ∙ sym (rw (here, at-channel flag xs₀ ch k r (omega arith)) (simp (e, lt-ltb r 3 b)))
-
-    -- a flagged texel has its median three times, and what is left of it stays
-    flat : Filled nan (collapsedSample xs₀ ch flag) xs₀ (at + ch) (collapsedAt xs at)
-    unfolding m
-    flat =
-        let f = collapsedSample xs₀ ch flag in
-        let p₁ : Filled nan f xs₀ (at + 1) (set xs at m) = filled-more nan f xs₀ i (omega arith) (rw add-zero at (value 0 (omega arith))) in
-        let p₂ : Filled nan f xs₀ (at + 2) (set (set xs at m) (at + 1) m) = filled-at nan f xs₀ (at + 2) (filled-more nan f xs₀ p₁ (simp length-set (omega arith)) (value 1 (omega arith))) (omega arith) in
-        let p₃ : Filled nan f xs₀ (at + 2 + 1) (set (set (set xs at m) (at + 1) m) (at + 2) m) = filled-more nan f xs₀ p₂ (simp length-set (omega arith)) (value 2 (omega arith)) in
-        filled-run nan f xs₀ (at + ch) p₃ (omega arith)
-        (λ j a b.
-        let r : j - at < ch = omega arith in
-        let u : 3 ≤ j - at = omega arith in
-        let q : j ≡ k * ch + (j - at) = omega (arith, here) in
-        subst (λ (n : ℕ). getD xs₀ n nan ≡ f n) (sym q) (sym (at-channel flag xs₀ ch k (j - at) r ∙ simp (e, le-ltb (j - at) 3 u))))
 
 -- the sweep has come to a cell, and left xs
 pub record Turning (flag : ℕ → Bool) (xs₀ : List Float) (w h ch : ℕ) (xs : List Float) (at : Visit) : Type 0 where

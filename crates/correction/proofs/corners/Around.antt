@@ -1,8 +1,8 @@
 -- The four cells around a point. Assumes nothing.
 --     next-fits       the column or row after a clipped one is no overflow
 --     marked-around   the four cells from the clipped column and row on are those whose column and row lie beside the point's
-use mathlib.Core.Path.{_≡_, refl, sym, _∙_, ap, subst}
-use mathlib.Core.Bool.{Bool, true, false, _&&_, _||_}
+use mathlib.Core.Path.{_≡_, sym, _∙_, ap, subst}
+use mathlib.Core.Bool.{true, false, _&&_, _||_}
 use mathlib.Core.List.{List}
 use mathlib.Core.Logic.{dite}
 use Prim.Native.Nat.{ℕ, zero, suc, _+_, _-_, _*_, _/_, _%_, _<_, _≤_}
@@ -10,30 +10,21 @@ use native.Mathlib.Nat.{mod-lt, div-add-mod'}
 use native.Mathlib.Decide.{decLt}
 use native.Mathlib.Omega.{arith}
 use lib.Arith.{digits-div, digits-mod}
-use lib.Dec.{ltb, leb, eqb, eqb·suc-suc}
+use lib.Dec.{eqb, eqb·suc-suc}
 use lib.ListN.{length}
 use lib.IntN.{ℤ, pos, negsuc}
 use mir.Syntax.{w64}
 use mir.Val.{Fits}
 use borrow.Author.Tests.{eqb-true, lt-ltb, le-ltb, le-leb, eq-eqb, ne-eqb}
-use Rattle.ground.proofs.Laws.Bools.{both-hold, both-ways}
+use Rattle.ground.proofs.Laws.Bools.{both-hold, both-ways, spread}
 use Rattle.correction.specs.Bitmap.{inBounds}
 use Rattle.correction.specs.Corners.{beside}
-use Rattle.correction.specs.Inner.{painted, atCorner, spot, clip}
-use Rattle.correction.proofs.bitmap.Places.{inside, row-lt}
+use Rattle.correction.specs.Inner.{atCorner, spot, clip}
+use Rattle.ground.specs.Lists.{painted}
+use Rattle.correction.proofs.bitmap.Places.{inside}
+use Rattle.inputs.proofs.Laws.Places.{row-lt}
 use Rattle.inputs.proofs.Laws.Stencil.{both-again}
-use Rattle.correction.proofs.loops.Painted.{painted-four, painted-same-below}
-
--- a row and a column test, four times
-spread : (a b c d : Bool) → ((((a && c) || (b && c)) || (a && d)) || (b && d)) ≡ ((a || b) && (c || d))
-spread true b true d = refl
-spread true true false true = refl
-spread true true false false = refl
-spread true false false true = refl
-spread true false false false = refl
-spread false true true d = refl
-spread false true false d = refl
-spread false false c d = refl
+use Rattle.ground.proofs.Laws.Painted.{painted-four, painted-same-below}
 
 bounded : (w h nx ny : ℕ) → 0 < nx → nx ≤ w → 0 < ny → ny ≤ h → inBounds w h nx ny ≡ true
 unfolding inBounds

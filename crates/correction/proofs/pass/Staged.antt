@@ -3,17 +3,13 @@
 --     made-staged        and the tests that it makes are those of texels that are protected so
 --     byte-at-says       the byte of a cell says whether a corner protects its texel, whether it is protected and whether it is flagged
 --     byte-at-disabled   in mode Disabled it is 0
---     collapsed-same     collapsing rests on the flags of the n texels alone
---     collapsed-none     with no texel flagged it leaves all as it was
-use mathlib.Core.Path.{_≡_, refl, sym, _∙_, ap, subst}
-use mathlib.Core.Bool.{Bool, true, false, cond, _&&_}
+use mathlib.Core.Path.{_≡_, refl, sym, _∙_, ap}
+use mathlib.Core.Bool.{Bool, true, false, cond}
 use mathlib.Core.List.{List}
-use Prim.Native.Nat.{ℕ, zero, suc, _*_, _/_, _%_, _<_}
-use native.Mathlib.Nat.{zero-lt-suc, not-suc-le-zero, mul-zero, div-lt-iff-lt-mul}
+use Prim.Native.Nat.{ℕ, _/_, _%_}
 use lib.ListN.{length, getD}
-use lib.Dec.{eqb, ltb}
-use lib.Seq.{ext-getD}
-use lib.Ieee.{Float, nan}
+use lib.Dec.{eqb}
+use lib.Ieee.{Float}
 use Rattle.ranges.specs.declared.config.Settings.{Settings}
 use Rattle.ground.specs.Lists.{tab, total}
 use Rattle.correction.specs.Bitmap.{texel}
@@ -21,7 +17,6 @@ use Rattle.ranges.specs.Config.{disabled, edgePriority, edgeOnly}
 use Rattle.inputs.specs.Stencil.{stencilByte, hasCorner, isProtected, isError, setError}
 use Rattle.inputs.specs.Checks.{Input}
 use Rattle.correction.specs.Errors.{hasArtifact, testsMade}
-use Rattle.correction.specs.Collapse.{cellMedian, collapsedSample, collapsed}
 use Rattle.correction.specs.Pass.{cornered, protects, flags, byteAt}
 use Rattle.correction.specs.Inner.{marked, found, madeFor, madeIn}
 use Rattle.inputs.proofs.Laws.Stencil.{byte-says, byte-sets, byte-clear}
@@ -65,21 +60,3 @@ byte-at-says i k = byte-says _ _ _
 pub byte-at-disabled : (i : Input) → i .mode ≡ disabled → (k : ℕ) → byteAt i k ≡ 0
 unfolding byteAt cornered protects flags
 byte-at-disabled i m k = simp (ap (λ (n : ℕ). eqb n disabled) m, ap (λ (n : ℕ). eqb n edgePriority) m, ap (λ (n : ℕ). eqb n edgeOnly) m) (sym byte-clear)
-
--- sample j is one of a texel below n
-texel-lt : (ch n j : ℕ) → j < n * ch → j / ch < n
-texel-lt zero n j l = absurd (not-suc-le-zero (subst (λ (m : ℕ). j < m) (mul-zero n) l))
-texel-lt (suc ch) n j l = div-lt-iff-lt-mul (zero-lt-suc ch) .1 l
-
-pub collapsed-same : (xs : List Float) (ch n : ℕ) (f g : ℕ → Bool) → length xs ≡ n * ch → ((k : ℕ) → k < n → f k ≡ g k) → collapsed xs ch f ≡ collapsed xs ch g
-unfolding collapsed collapsedSample
-collapsed-same xs ch n f g e h =
-    tab-same (length xs) (collapsedSample xs ch f) (collapsedSample xs ch g)
-    (λ j l. ap (λ (b : Bool). cond (b && ltb (j % ch) 3) (cellMedian xs ch (j / ch)) (getD xs j nan)) (h (j / ch) (texel-lt ch n j (subst (λ (m : ℕ). j < m) e l))))
-
-pub collapsed-none : (xs : List Float) (ch : ℕ) → collapsed xs ch (λ k. false) ≡ xs
-unfolding collapsed collapsedSample
-collapsed-none xs ch =
-    let f : ℕ → Float = collapsedSample xs ch (λ k. false) in
-    ext-getD nan (tab (length xs) f) xs (tab-length (length xs) f)
-    (λ j l. tab-at (length xs) f j nan (subst (λ (n : ℕ). j < n) (tab-length (length xs) f) l))

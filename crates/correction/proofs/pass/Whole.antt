@@ -13,7 +13,7 @@ use lib.Ieee.{Float}
 use borrow.Author.Tests.{eq-eqb, ne-eqb}
 use Rattle.correction.specs.declared.pass.Answer.the-variants.{Accepted, Refused}
 use Rattle.inputs.specs.declared.stencil.Counts.{Counts}
-use Rattle.ground.specs.Lists.{tab, total}
+use Rattle.ground.specs.Lists.{tab, total, painted}
 use Rattle.correction.specs.Bitmap.{texel}
 use Rattle.inputs.specs.Stencil.{stencilByte, isError, setCorner, setProtected, countsOf}
 use Rattle.inputs.specs.Checks.{Input, accepted, refusalNumber, refusalPlace}
@@ -21,15 +21,14 @@ use Rattle.correction.specs.Corners.{contours, cornersProtect}
 use Rattle.correction.specs.Edges.{edgesProtect}
 use Rattle.correction.specs.Errors.{hasArtifact}
 use Rattle.correction.specs.Collapse.{collapsed}
-use Rattle.correction.specs.Inner.{Sized, painted, atCorner, found, madeIn}
-use Rattle.inputs.specs.Inner.{Outlined}
+use Rattle.correction.specs.Inner.{atCorner, found, madeIn}
+use Rattle.inputs.specs.Inner.{Sized}
 use Rattle.correction.specs.Pass.{texels, cornered, edgePriorityProtects, protects, flags, byteAt, passStencil, passSamples, testsAt, passTests, Answers, answer, stencilAfter, samplesAfter}
 use Rattle.ground.proofs.Laws.Fill.{tab-length, tab-at, tab-same}
 use Rattle.ground.proofs.Laws.Spent.{total-zero, total-same}
-use Rattle.correction.proofs.loops.Painted.{painted-length, painted-at, is-painted}
-use Rattle.correction.proofs.pass.Staged.{found-staged, made-staged, byte-at-says, byte-at-disabled, collapsed-same, collapsed-none}
-use Rattle.correction.proofs.bitmap.Sizes.{sized, cells}
-use Rattle.inputs.proofs.Laws.Checks.{sizes, passed}
+use Rattle.ground.proofs.Laws.Painted.{painted-length, painted-at, is-painted}
+use Rattle.correction.proofs.pass.Staged.{found-staged, made-staged, byte-at-says, byte-at-disabled}
+use Rattle.correction.proofs.Laws.Collapse.{collapsed-same, collapsed-none}
 use Rattle.inputs.proofs.Laws.Stencil.{byte-sets, byte-clear, byte-only-protected}
 use Rattle.correction.proofs.Laws.Answer.{as-answered}
 
@@ -141,13 +140,6 @@ module _ (i : Input) where
   refused n p e f h =
       let t : eqb (refusalNumber i) 0 ≡ false = ne-eqb _ 0 (λ q. h (e ∙ q)) in
       (as-answered i (Refused n p) (simp (e, f, t)), (simp t, simp t))
-
-  -- what the stages ask for once the checks pass
-  pub ready : refusalNumber i ≡ 0 → Sized (i .width) (i .height) (i .channels) (i .samples) × ((length (i .stencil) ≡ i .height * i .width) × Outlined (i .colours) (i .coords) (i .ends))
-  ready z =
-      let o = passed i z in
-      let s = sizes _ _ _ _ _ (o .sizes) in
-      (sized _ _ _ _ _ s, (cells _ _ _ _ _ s, o .outlined))
 
   pub answered : (st : List ℕ) (xs : List Float) (c : Counts) (t : ℕ) → refusalNumber i ≡ 0 → t ≡ passTests i → st ≡ passStencil i → xs ≡ passSamples i → c ≡ countsOf st → Answers i (Accepted c t) × ((st ≡ stencilAfter i) × (xs ≡ samplesAfter i))
   unfolding answer stencilAfter samplesAfter accepted

@@ -6,6 +6,7 @@
 --     cond-above            of an answer not below k where a test that holds answers less
 --     both-ways             two tests of which each holds where the other does
 --     guarded               what stands behind a test matters only where the test holds
+--     spread                two tests of one kind and two of another, each with each
 --     and-implies, or-implies, four-imply, not-implies, cond-implies   where a test holds another does, part by part
 use mathlib.Core.Path.{_≡_, refl, sym, _∙_, ap}
 use mathlib.Core.Bool.{Bool, true, false, not, cond, _&&_, _||_, true≢false}
@@ -77,3 +78,13 @@ not-implies false b f p = refl
 pub cond-implies : (b x y x' y' : Bool) → (b ≡ true → x ≡ true → x' ≡ true) → (b ≡ false → y ≡ true → y' ≡ true) → cond b x y ≡ true → cond b x' y' ≡ true
 cond-implies true x y x' y' f g p = f refl p
 cond-implies false x y x' y' f g p = g refl p
+
+pub spread : (a b c d : Bool) → ((((a && c) || (b && c)) || (a && d)) || (b && d)) ≡ ((a || b) && (c || d))
+spread true b true d = refl
+spread true true false true = refl
+spread true true false false = refl
+spread true false false true = refl
+spread true false false false = refl
+spread false true true d = refl
+spread false true false d = refl
+spread false false c d = refl

@@ -16,13 +16,18 @@
 --     search-more    a turn whose answer r fails
 --     search-found   a turn whose answer r passes: i is the first
 --     search-end     the loop is left at the end: so is i there
+--     Kept           a search from the end to the front that has come to j and keeps the place found last: the first from j on, and n where there is none
+--     kept-none      before the first turn
+--     kept-more      a turn, whose answer r says whether its number is kept
+--     kept-all       the loop is left at the front: the place is the first of all
 use mathlib.Core.Path.{_≡_, refl, sym, _∙_, subst}
 use mathlib.Core.Bool.{Bool, true, false, cond, _||_, true≢false}
 use mathlib.Core.List.{List, [], _∷_}
-use mathlib.Core.Logic.{⊎-elim}
+use mathlib.Core.Logic.{⊎-elim, dite}
 use Prim.Native.Nat.{ℕ, zero, suc, _+_, _<_, _≤_}
 use native.Mathlib.Nat.{not-suc-le-zero, le-of-suc-le-suc, eq-or-lt-of-le, le-refl, le-antisymm}
 use native.Mathlib.Numerals.{add-one}
+use native.Mathlib.Decide.{decLt}
 use native.Mathlib.Omega.{arith}
 use Rattle.ground.specs.Lists.{any, some, first}
 use Rattle.ground.proofs.Laws.Bools.{or-implies}
@@ -115,6 +120,39 @@ module _ {f : ℕ → Bool} {n i : ℕ} (s : Searched f n i) where
   search-end l =
       let e : i ≡ n = le-antisymm (s .high) l in
       e ∙ sym (first-is-end f n (none-below f n (subst (λ (k : ℕ). any k f ≡ false) e (s .none))))
+
+-- ---- a loop that searches from the end to the front, through everything
+
+pub record Kept (f : ℕ → Bool) (n j place : ℕ) : Type 0 where
+  pub low : j ≤ place
+  pub high : place ≤ n
+  pub none : (k : ℕ) → j ≤ k → k < place → f k ≡ false
+  pub hit : place < n → f place ≡ true
+
+pub kept-none : (f : ℕ → Bool) (n : ℕ) → Kept f n n n
+kept-none f n = record { low = le-refl n; high = le-refl n; none = λ k l b. absurd (omega arith); hit = λ l. absurd (omega arith) }
+
+module _ {f : ℕ → Bool} {n j place : ℕ} (s : Kept f n j place) where
+  pub kept-more : {i p : ℕ} {r : Bool} → i + 1 ≡ j → r ≡ f i → p ≡ cond r i place → Kept f n i p
+  kept-more {i} {p} {r} e a b = subst (Kept f n i) (sym b) (go r (sym a))
+    where
+      go : (t : Bool) → f i ≡ t → Kept f n i (cond t i place)
+      go true q = record { low = le-refl i; high = omega (arith, s .low, s .high); none = λ k l m. absurd (omega arith); hit = λ l. q }
+      go false q =
+          record {
+            low = omega (arith, s .low);
+            high = s .high;
+            none = λ k l m. ⊎-elim (λ d. subst (λ (x : ℕ). f x ≡ false) d q) (λ b. s .none k (omega arith) m) (eq-or-lt-of-le l);
+            hit = s .hit;
+          }
+
+  pub kept-all : j ≤ 0 → place ≡ first n f
+  kept-all z =
+      dite (decLt place n)
+      (λ l. sym (found f n place (λ k b. s .none k (omega arith) b) l (s .hit l)))
+      (λ h.
+      let e : place ≡ n = omega (arith, s .high) in
+      e ∙ sym (first-is-end f n (λ k b. s .none k (omega arith) (subst (λ (x : ℕ). k < x) (sym e) b))))
 
 cond-le : (b : Bool) (m n : ℕ) → m ≤ n → cond b 0 (suc m) ≤ suc n
 cond-le true m n l = omega arith

@@ -1,14 +1,19 @@
 -- What passing each of checks 1 to 4 says, and all of them. Assumes nothing.
 --     channel-bound, side-bound, size-bound, sample-count, cell-count   each by itself
---     sizes   the sides and the channels are within their bounds, and both lengths are as they should be
-use mathlib.Core.Path.{_≡_, refl, sym}
+--     sizes          the sides and the channels are within their bounds, and both lengths are as they should be
+--     sized, cells   the same as the functions behind the checks ask for it
+use mathlib.Core.Path.{_≡_, refl, sym, _∙_, ap}
 use mathlib.Core.Bool.{Bool, true, false, _||_, true≢false}
 use Prim.Native.Nat.{ℕ, _*_, _≤_}
-use native.Mathlib.Nat.{mul-le-mul}
+use native.Mathlib.Nat.{mul-comm, mul-le-mul}
 use native.Mathlib.Omega.{arith}
+use mathlib.Core.List.{List}
 use lib.Dec.{eqb, leb}
+use lib.ListN.{length}
+use lib.Ieee.{Float}
 use borrow.Author.Tests.{eqb-true, leb-true, not-false}
 use Rattle.inputs.specs.Checks.{badChannels, badSide, badSize, badSampleCount, badCellCount, sizeChecks, sizeRefusal}
+use Rattle.inputs.specs.Inner.{Sized}
 use Rattle.ground.proofs.Laws.Bools.{both-hold, both-fail}
 use Rattle.ground.proofs.Laws.Refuse.{all-pass}
 
@@ -59,3 +64,17 @@ sizes w h ch n m p =
     let f = all-pass (sizeChecks w h ch n m) refl p in
     let b = size-bound w h (f .1 .0) in
     record { wide = b .0; high = b .1; channels = channel-bound ch (f .0); samples = sample-count w h ch n (f .1 .1 .0); cells = cell-count w h m (f .1 .1 .1 .0) }
+
+pub sized : (w h ch : ℕ) (xs : List Float) (m : ℕ) → Sizes w h ch (length xs) m → Sized w h ch xs
+sized w h ch xs m s =
+    record {
+      any = s .wide .0;
+      wide = s .wide .1;
+      high = s .high .1;
+      some = s .channels .0;
+      few = s .channels .1;
+      long = s .samples ∙ ap (λ (k : ℕ). k * ch) (mul-comm w h);
+    }
+
+pub cells : (w h ch n m : ℕ) → Sizes w h ch n m → m ≡ h * w
+cells w h ch n m s = s .cells ∙ mul-comm w h

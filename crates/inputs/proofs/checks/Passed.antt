@@ -5,6 +5,7 @@
 --     good-settings, good-samples, good-outlines, good-ends, good-segments   each check by itself
 --     stages, staged   an answer 0 is one of each stage of the checks
 --     passed         so of each check
+--     ready          what the functions behind the checks ask for
 use mathlib.Core.Path.{_≡_, refl, subst, _∙_}
 use mathlib.Core.Bool.{true, false, not, _||_}
 use mathlib.Core.List.{List}
@@ -18,8 +19,9 @@ use Rattle.numbers.specs.Constants.{zeroOf}
 use Rattle.ranges.specs.Constants.{limitOf}
 use Rattle.ranges.specs.declared.config.Settings.{Settings}
 use Rattle.inputs.specs.Checks.{Input, badLength, settingsPlace, badSettings, oversize, samplesPlace, badSamples, badOutlines, endBefore, badEnd, endsPlace, badEnds, badSegment, segmentsPlace, badSegments, outlineChecks, bitmapChecks, contentChecks, sizeRefusal, refusalNumber}
-use Rattle.inputs.specs.Inner.{Outlined}
+use Rattle.inputs.specs.Inner.{Sized, Outlined}
 use Rattle.inputs.proofs.checks.Ends.{before-next}
+use Rattle.inputs.proofs.checks.Measures.{sizes, sized, cells}
 use Rattle.ground.proofs.Laws.Search.{first-past}
 use Rattle.ground.proofs.Laws.Bools.{both-hold, both-fail, cond-above}
 use Rattle.ground.proofs.Laws.Refuse.{Passes, none-fails, all-pass, zero-parts, passes-to}
@@ -147,3 +149,9 @@ passed i p =
       outlined = made (i .colours) (i .coords) (i .ends) (t .outlines .0) (e .0);
       segments = good-segments (i .colours) (i .coords) (t .outlines .1 .1 .0);
     }
+
+pub ready : (i : Input) → refusalNumber i ≡ 0 → Sized (i .width) (i .height) (i .channels) (i .samples) × ((length (i .stencil) ≡ i .height * i .width) × Outlined (i .colours) (i .coords) (i .ends))
+ready i z =
+    let o = passed i z in
+    let s = sizes _ _ _ _ _ (o .sizes) in
+    (sized _ _ _ _ _ s, (cells _ _ _ _ _ s, o .outlined))

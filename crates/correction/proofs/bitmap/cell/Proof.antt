@@ -2,7 +2,7 @@
 use mathlib.Core.Path.{refl}
 use Prim.Native.Nat.{_+_, _*_, _<_}
 use native.Mathlib.Omega.{arith}
-use Rattle.correction.proofs.bitmap.Places.{cell-small}
+use Rattle.inputs.proofs.Laws.Places.{cell-small}
 use Rattle.correction.proofs.bitmap.cell.Statement.{statement}
 use Rattle.correction.proofs.bitmap.cell.Tie as tie
 

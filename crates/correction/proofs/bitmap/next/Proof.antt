@@ -3,7 +3,7 @@ use mathlib.Core.Path.{refl}
 use Prim.Native.Nat.{_<_}
 use native.Mathlib.Omega.{arith}
 use borrow.Author.Needs.{needs}
-use Rattle.correction.proofs.bitmap.Places.{cell-small, next-row}
+use Rattle.inputs.proofs.Laws.Places.{cell-small, next-row}
 use Rattle.correction.proofs.bitmap.next.Statement.{statement}
 use Rattle.correction.proofs.bitmap.next.Tie as tie
 

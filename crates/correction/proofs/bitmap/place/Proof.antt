@@ -2,7 +2,7 @@
 use native.Mathlib.Nat.{add-zero, mul-le-mul-left}
 use native.Mathlib.Omega.{arith}
 use borrow.Author.Needs.{needs}
-use Rattle.correction.proofs.bitmap.Places.{cell-small}
+use Rattle.inputs.proofs.Laws.Places.{cell-small}
 use Rattle.correction.proofs.bitmap.place.Statement.{statement}
 use Rattle.correction.proofs.bitmap.place.Tie as tie
 

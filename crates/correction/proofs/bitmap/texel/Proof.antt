@@ -6,7 +6,7 @@ use lib.ListN.{length}
 use denote.Ref.{now}
 use borrow.Author.Needs.{needs}
 use Rattle.correction.specs.Bitmap.{texel}
-use Rattle.correction.proofs.bitmap.Places.{Place, placed}
+use Rattle.inputs.proofs.Laws.Places.{Place, placed}
 use Rattle.correction.proofs.bitmap.texel.Statement.{statement}
 use Rattle.correction.proofs.bitmap.texel.Tie as tie
 

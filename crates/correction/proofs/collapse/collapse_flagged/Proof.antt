@@ -2,7 +2,7 @@
 use mathlib.Core.Path.{sym, _∙_}
 use native.Mathlib.Omega.{arith}
 use borrow.Author.Needs.{needs}
-use Rattle.correction.proofs.bitmap.Places.{placed}
+use Rattle.inputs.proofs.Laws.Places.{placed}
 use Rattle.correction.proofs.collapse.collapse_flagged.Statement.{statement}
 use Rattle.correction.proofs.collapse.collapse_flagged.Tie as tie
 

@@ -6,8 +6,9 @@ use lib.ListN.{length}
 use denote.Ref.{now}
 use borrow.Author.Needs.{needs}
 use Rattle.correction.specs.Inner.{spot}
-use Rattle.correction.proofs.bitmap.Places.{Inside, inside, cell-lt}
-use Rattle.correction.proofs.loops.Painted.{painted-set, painted-none}
+use Rattle.correction.proofs.bitmap.Places.{Inside, inside}
+use Rattle.inputs.proofs.Laws.Places.{cell-lt}
+use Rattle.ground.proofs.Laws.Painted.{painted-set, painted-none}
 use Rattle.correction.proofs.corners.mark.Statement.{statement}
 use Rattle.correction.proofs.corners.mark.Tie as tie
 

@@ -2,21 +2,23 @@
 use mathlib.Core.Path.{_≡_}
 use mathlib.Core.Bool.{Bool}
 use mathlib.Core.List.{List}
-use Prim.Native.Nat.{ℕ, _+_, _-_, _≤_}
+use Prim.Native.Nat.{ℕ, _+_, _-_, _/_, _%_, _≤_}
 use native.Mathlib.Nat.{sub-self}
 use native.Mathlib.Omega.{arith}
 use lib.Ieee.{Float}
 use denote.Ref.{now}
-use Rattle.ground.specs.Lists.{any}
-use Rattle.correction.specs.Inner.{painted, atCorner, cornerHits, contourHits}
-use Rattle.correction.proofs.loops.Painted.{painted-zero}
-use Rattle.correction.proofs.corners.Contours.{painted-long, painted-celled, painted-turn}
+use Rattle.ground.specs.Lists.{any, painted}
+use Rattle.correction.specs.Inner.{atCorner}
+use Rattle.correction.specs.Numbered.{cornerHits, contourHits}
+use Rattle.ground.proofs.Laws.Painted.{painted-zero, painted-long, painted-turn}
+use Rattle.inputs.proofs.Laws.Places.{still-celled}
+use Rattle.inputs.proofs.Laws.Stencil.{both-again}
 use Rattle.correction.proofs.corners.protect_contour.Statement.{statement}
 use Rattle.correction.proofs.corners.protect_contour.Tie as tie
 
 -- segment from + j
 abbrev nth : ℕ → List ℕ → List Float → ℕ → ℕ → ℕ → ℕ → Bool
-nth w colours coords from end j k = cornerHits w colours coords from end (from + j) k
+nth w colours coords from end j k = cornerHits colours coords from end (from + j) (k % w) (k / w)
 
 record Inv (st₀ : List ℕ) (w : ℕ) (colours : List ℕ) (coords : List Float) (from end : ℕ) (st : List ℕ) (i : ℕ) : Type 0 where
   low : from ≤ i
@@ -40,7 +42,7 @@ protect-corner-requires : tie.Need-protect-corner-requires Inv-loop μ-loop
 protect-corner-requires c κs =
     let l = c .before .before .before in
     let r = l .before .before .before .before .pre in
-    (painted-celled _ _ _ _ (l .loop .inv .done) (r .0), (r .1 .0, (l .loop .inv .low, c .before .if1 .taken, r .1 .1 .1)))
+    (still-celled (r .0) (painted-long atCorner both-again _ _ _ _ (l .loop .inv .done)), (r .1 .0, (l .loop .inv .low, c .before .if1 .taken, r .1 .1 .1)))
 
 loop-again : tie.Need-loop-again Inv-loop μ-loop
 loop-again c =
@@ -50,7 +52,7 @@ loop-again c =
     let v = l .loop .inv in
     let here : from + (i - from) ≡ i = omega (arith, v .low) in
     let next : i + 1 - from ≡ i - from + 1 = omega (arith, v .low) in
-    record { low = omega (arith, v .low); high = omega arith; done = rw next (painted-turn _ _ _ _ (v .done) _ _ (λ k. rw here) (c .before .before .protect-corner .ensures)) }
+    record { low = omega (arith, v .low); high = omega arith; done = rw next (painted-turn atCorner both-again _ _ _ _ (v .done) _ _ (λ k. rw here) (c .before .before .protect-corner .ensures)) }
 
 returns : tie.Need-returns Inv-loop μ-loop
 unfolding contourHits
@@ -62,4 +64,4 @@ returns c =
 pub protect-contour-spec : {M : Type 1} → statement M
 protect-contour-spec =
     tie.close
-    (tie.spec Inv-loop μ-loop loop-holds protect-corner-requires (λ c. omega arith) (λ c. omega arith) loop-again (λ c. painted-long _ _ _ _ (c .before .before .loop .inv .done)) returns)
+    (tie.spec Inv-loop μ-loop loop-holds protect-corner-requires (λ c. omega arith) (λ c. omega arith) loop-again (λ c. painted-long atCorner both-again _ _ _ _ (c .before .before .loop .inv .done)) returns)

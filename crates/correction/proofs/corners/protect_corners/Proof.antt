@@ -2,21 +2,24 @@
 use mathlib.Core.Path.{_≡_, refl, _∙_}
 use mathlib.Core.Bool.{Bool}
 use mathlib.Core.List.{List}
-use Prim.Native.Nat.{ℕ, _-_, _≤_}
+use Prim.Native.Nat.{ℕ, _-_, _/_, _%_, _≤_}
 use native.Mathlib.Omega.{arith}
 use lib.ListN.{length, getD}
 use lib.Ieee.{Float}
 use denote.Ref.{now}
-use Rattle.ground.specs.Lists.{any}
-use Rattle.correction.specs.Inner.{painted, atCorner, contourHits}
-use Rattle.correction.proofs.loops.Painted.{painted-zero, painted-same}
-use Rattle.correction.proofs.corners.Contours.{painted-long, painted-celled, painted-turn, startAt, start-next, start-le, corners-at}
+use Rattle.ground.specs.Lists.{any, painted}
+use Rattle.correction.specs.Inner.{atCorner}
+use Rattle.correction.specs.Numbered.{startAt, contourHits}
+use Rattle.ground.proofs.Laws.Painted.{painted-zero, painted-same, painted-long, painted-turn}
+use Rattle.inputs.proofs.Laws.Places.{still-celled}
+use Rattle.inputs.proofs.Laws.Stencil.{both-again}
+use Rattle.correction.proofs.Laws.Contours.{start-next, start-le, corners-at}
 use Rattle.correction.proofs.corners.protect_corners.Statement.{statement}
 use Rattle.correction.proofs.corners.protect_corners.Tie as tie
 
 -- contour j
 abbrev nth : ℕ → List ℕ → List Float → List ℕ → ℕ → ℕ → Bool
-nth w colours coords ends j k = contourHits w colours coords (startAt ends j) (getD ends j 0) k
+nth w colours coords ends j k = contourHits colours coords (startAt ends j) (getD ends j 0) (k % w) (k / w)
 
 record Inv (st₀ : List ℕ) (w : ℕ) (colours : List ℕ) (coords : List Float) (ends st : List ℕ) (from c : ℕ) : Type 0 where
   high : c ≤ length ends
@@ -41,7 +44,7 @@ protect-contour-requires c κs =
     let r = t .before .before .before .before .before .before .pre in
     let o = r .1 in
     let s = start-le o (l .c) (t .loop-test .taken) in
-    (painted-celled _ _ _ _ (l .inv .done) (r .0), ((o .twice, o .few), (omega (arith, l .inv .start, s), o .within (l .c) (t .loop-test .taken))))
+    (still-celled (r .0) (painted-long atCorner both-again _ _ _ _ (l .inv .done)), ((o .twice, o .few), (omega (arith, l .inv .start, s), o .within (l .c) (t .loop-test .taken))))
 
 add-c : tie.Need-add-c Inv-loop μ-loop
 add-c c = let t = c .before .before .before .before .before in omega (arith, t .before .before .before .before .before .before .good, t .loop-test .taken)
@@ -53,7 +56,7 @@ loop-again c =
     record {
       high = omega (arith, t .loop-test .taken);
       start = start-next (now (t .before .before .before .before .before .before .args .ends)) (l .c);
-      done = painted-turn _ _ _ _ (l .inv .done) _ _ (λ k. rw (l .inv .start)) (c .before .before .protect-contour .ensures);
+      done = painted-turn atCorner both-again _ _ _ _ (l .inv .done) _ _ (λ k. rw (l .inv .start)) (c .before .before .protect-contour .ensures);
     }
 
 returns : tie.Need-returns Inv-loop μ-loop
@@ -62,7 +65,7 @@ returns c =
     let v = c .before .loop .inv in
     let e : c .before .loop .c ≡ length (now (s .args .ends)) = omega (arith, v .high) in
     rw e at (v .done)
-    ∙ painted-same atCorner _ _ _ (corners-at _ _ _ _ (s .pre .1))
+    ∙ painted-same atCorner _ _ _ (λ k. corners-at _ _ _ (s .pre .1) _ _)
 
 pub protect-corners-spec : {M : Type 1} → statement M
 protect-corners-spec =
@@ -77,5 +80,5 @@ protect-corners-spec =
     add-c
     (λ c. omega (arith, c .before .before .before .before .before .loop-test .taken))
     loop-again
-    (λ c. painted-long _ _ _ _ (c .before .loop .inv .done))
+    (λ c. painted-long atCorner both-again _ _ _ _ (c .before .loop .inv .done))
     returns)

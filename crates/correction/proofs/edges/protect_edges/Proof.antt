@@ -8,12 +8,11 @@ use lib.ListN.{length}
 use lib.Ieee.{Float}
 use Rattle.ranges.specs.declared.config.Settings.{Settings}
 use Rattle.ranges.specs.Config.{radius}
-use Rattle.ground.specs.Lists.{tab}
+use Rattle.ground.specs.Lists.{tab, painted}
 use Rattle.inputs.specs.declared.sizes.Bitmap.{Bitmap}
 use Rattle.correction.specs.declared.edges.Radii.{Radii}
 use Rattle.correction.specs.Bitmap.{texel}
 use Rattle.correction.specs.Edges.{someEdge, edgesProtect}
-use Rattle.correction.specs.Inner.{painted}
 use Rattle.inputs.specs.Stencil.{setProtected}
 use Rattle.correction.proofs.bitmap.Sweep.{Swept, swept, swept-none, swept-place, swept-next, swept-all}
 use Rattle.correction.proofs.edges.protect_edges.Statement.{statement}

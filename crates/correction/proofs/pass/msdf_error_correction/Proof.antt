@@ -3,7 +3,8 @@ use mathlib.Core.Path.{sym, _∙_}
 use denote.Ref.{now}
 use borrow.Author.Needs.{needs}
 use Rattle.inputs.specs.Checks.{Input, input}
-use Rattle.correction.proofs.pass.Whole.{refused, ready, answered}
+use Rattle.inputs.proofs.Laws.Checks.{ready}
+use Rattle.correction.proofs.pass.Whole.{refused, answered}
 use Rattle.correction.proofs.pass.msdf_error_correction.Statement.{statement}
 use Rattle.correction.proofs.pass.msdf_error_correction.Tie as tie
 

@@ -1,6 +1,6 @@
--- The laws of `painted`. Assumes nothing.
+-- A list of numbers that is painted: where a test holds a brush has gone over what stood there. Assumes nothing.
 use mathlib.Core.Path.{_≡_, refl, sym, _∙_, ap, subst}
-use mathlib.Core.Bool.{Bool, true, false, cond, _||_}
+use mathlib.Core.Bool.{Bool, true, false, cond, _&&_, _||_}
 use mathlib.Core.List.{List}
 use mathlib.Core.Logic.{dite}
 use Prim.Native.Nat.{ℕ, _+_, _<_}
@@ -10,9 +10,8 @@ use lib.Dec.{eqb}
 use lib.ListN.{length, getD, set, length-set}
 use lib.Seq.{getD-set-same, getD-set-other, ext-getD}
 use borrow.Author.Tests.{eq-eqb, ne-eqb}
-use Rattle.ground.specs.Lists.{any}
+use Rattle.ground.specs.Lists.{any, painted}
 use Rattle.ground.proofs.Laws.Fill.{tab-length, tab-at}
-use Rattle.correction.specs.Inner.{painted}
 
 -- ---- any brush
 
@@ -53,6 +52,14 @@ module _ (brush : ℕ → ℕ) where
   unfolding any
   painted-zero f st = painted-none (λ k. any 0 (λ j. f j k)) st (λ k. refl)
 
+  -- behind a test, where it holds and where it does not
+  module _ (b : Bool) (g : ℕ → Bool) where
+    pub painted-taken : b ≡ true → (st st' : List ℕ) → st' ≡ painted brush g st → st' ≡ painted brush (λ k. b && g k) st
+    painted-taken t st st' e = e ∙ painted-same g _ st (λ k. simp t)
+
+    pub painted-left : b ≡ false → (st : List ℕ) → st ≡ painted brush (λ k. b && g k) st
+    painted-left t st = painted-none _ st (λ k. simp t)
+
   -- ---- a brush that changes nothing where it has painted
 
   module _ (again : (v : ℕ) → brush (brush v) ≡ brush v) where
@@ -81,3 +88,11 @@ module _ (brush : ℕ → ℕ) where
     painted-four p q r s st a b c d e₁ e₂ e₃ e₄ =
         e₄ ∙ ap (painted brush s) (e₃ ∙ ap (painted brush r) (e₂ ∙ ap (painted brush q) e₁ ∙ painted-then p q st) ∙ painted-then (λ k. p k || q k) r st)
         ∙ painted-then (λ k. (p k || q k) || r k) s st
+
+    -- a loop whose turn i paints where f i holds, and has left st of st₀
+    module _ (f : ℕ → ℕ → Bool) (st₀ st : List ℕ) (i : ℕ) (p : st ≡ painted brush (λ k. any i (λ j. f j k)) st₀) where
+      pub painted-long : length st ≡ length st₀
+      painted-long = ap length p ∙ painted-length _ st₀
+
+      pub painted-turn : (st' : List ℕ) (g : ℕ → Bool) → ((k : ℕ) → g k ≡ f i k) → st' ≡ painted brush g st → st' ≡ painted brush (λ k. any (i + 1) (λ j. f j k)) st₀
+      painted-turn st' g h e = e ∙ painted-same g (f i) st h ∙ ap (painted brush (f i)) p ∙ painted-more f st₀ i

@@ -1,2 +1,0 @@
--- What a loop that paints a bit over many cells leaves.
-pub mod Painted
