@@ -1,0 +1,2 @@
+-- Which check answers, chosen from all that were made.
+pub mod Chosen

@@ -1,0 +1,2 @@
+-- A loop that collapses.
+pub mod Turns

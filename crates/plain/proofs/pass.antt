@@ -1,0 +1,2 @@
+-- The stages put together.
+pub mod Whole
