@@ -1,8 +1,10 @@
-//! The proved pass beside the original, a straightforward Rust port: same inputs, same process, warm, medians of several runs.
+//! The proved pass beside the original, a straightforward Rust port: same inputs, same process, warm, medians of several runs; and the plain engine, which is
+//! proved to leave the same and is slow, up to a size that it does in seconds.
 //! Times are the thread's own processor time (Linux), so that a busy machine disturbs them little.
 //!
-//! `bench [SIZE...]`: for squares of each SIZE, glyph-like, noise and checkered, Indiscriminate and EdgePriority, range tests a texel, nanoseconds a texel and their ratio.
-//! Exit status 1 if the two differ in a sample, a zero's sign aside, or in the number of range tests.
+//! `bench [SIZE...]`: for squares of each SIZE, glyph-like, noise and checkered, Indiscriminate and EdgePriority, range tests a texel, nanoseconds a texel and
+//! the proved pass's ratio to the original, then the plain engine's nanoseconds a texel and its ratio to the proved pass.
+//! Exit status 1 if the pass and the original differ in a sample, a zero's sign aside, or in the number of range tests, or the two engines in anything.
 
 mod fields;
 #[path = "../tests/differential/glyphs.rs"]
@@ -15,7 +17,7 @@ mod rng;
 mod rungtwine;
 
 use fields::{fields, Field, RATIO};
-use rungtwine::{error_correction, Counts, Mode, Outlines, Settings};
+use rungtwine::{error_correction, plain_error_correction, Counts, Mode, Outlines, Settings};
 
 extern "C" {
     fn clock_gettime(clock: i32, time: *mut [i64; 2]) -> i32;
@@ -29,16 +31,41 @@ fn now() -> f64 {
     time[0] as f64 + time[1] as f64 * 1e-9
 }
 
+/// The plain engine runs on squares up to this size.
+const PLAIN_SIZE: usize = 1024;
+
+/// The settings and the outlines of a field.
+fn given(field: &Field) -> (Settings, Outlines<'_>) {
+    let [horizontal, vertical, diagonal] = field.lengths;
+    (Settings { ratio: RATIO, horizontal, vertical, diagonal }, Outlines { colours: &field.colours, coords: &field.coords, ends: &field.ends })
+}
+
 /// One run of the proved pass: seconds, and what it counted.
 fn ours(field: &Field, mode: Mode, samples: &mut [f32], stencil: &mut [u8]) -> (f64, Counts) {
     samples.copy_from_slice(&field.samples);
-    let [horizontal, vertical, diagonal] = field.lengths;
-    let settings = Settings { ratio: RATIO, horizontal, vertical, diagonal };
-    let outlines = Outlines { colours: &field.colours, coords: &field.coords, ends: &field.ends };
+    let (settings, outlines) = given(field);
     let start = now();
     let answer = error_correction((field.size, field.size, 3), samples, stencil, mode, settings, outlines);
     let seconds = now() - start;
     (seconds, answer.expect("refused"))
+}
+
+/// Seconds of the plain engine, the median of some runs after one that warms it up, and whether it leaves what the pass left and counted.
+fn plain(field: &Field, mode: Mode, samples: &[f32], stencil: &[u8], counts: Counts) -> (f64, bool) {
+    let (settings, outlines) = given(field);
+    let (mut own, mut cells) = (field.samples.clone(), vec![0u8; stencil.len()]);
+    let (mut times, mut same) = (Vec::new(), true);
+    for round in 0..=3 {
+        own.copy_from_slice(&field.samples);
+        let start = now();
+        let answer = plain_error_correction((field.size, field.size, 3), &mut own, &mut cells, mode, settings, outlines);
+        let seconds = now() - start;
+        same &= answer == Ok(counts.cells()) && cells == stencil && own.iter().map(|v| v.to_bits()).eq(samples.iter().map(|v| v.to_bits()));
+        if round > 0 {
+            times.push(seconds);
+        }
+    }
+    (median(&mut times), same)
 }
 
 fn median(times: &mut [f64]) -> f64 {
@@ -46,7 +73,7 @@ fn median(times: &mut [f64]) -> f64 {
     times[times.len() / 2]
 }
 
-/// Prints a line of the table and answers whether the two agree.
+/// Prints a line of the table and answers whether the sides agree.
 fn row(field: &Field, mode: Mode) -> bool {
     let texels = field.size * field.size;
     let task = oracle::Task::new(mode as u8, RATIO, field.lengths, &field.colours, &field.coords, &field.ends);
@@ -56,7 +83,7 @@ fn row(field: &Field, mode: Mode) -> bool {
     let (mut original, mut proved) = (Vec::new(), Vec::new());
     // Counted once and apart from what is timed: the original's own entry counts nothing.
     let tests = oracle::answer(field.size, field.size, 3, &mut samples, &task).tests.iter().map(|&n| n as usize).sum::<usize>();
-    let (mut flagged, mut same_tests) = (0, true);
+    let (mut counted, mut same) = (None, true);
     // The first round warms both up and is not counted.
     for round in 0..=runs {
         bitmap.data_mut().copy_from_slice(&field.samples);
@@ -64,26 +91,35 @@ fn row(field: &Field, mode: Mode) -> bool {
         oracle::correct(&mut bitmap, &task);
         let seconds = now() - start;
         let (own, counts) = ours(field, mode, &mut samples, &mut stencil);
-        flagged = counts.error;
-        same_tests &= counts.tests == tests;
+        counted = Some(counts);
+        same &= counts.tests == tests;
         if round > 0 {
             original.push(seconds);
             proved.push(own);
         }
     }
-    let ns = |times: &mut [f64]| median(times) * 1e9 / texels as f64;
-    let (o, p) = (ns(&mut original), ns(&mut proved));
+    same &= samples.iter().zip(bitmap.data()).all(|(a, b)| a == b);
+    let ns = |seconds: f64| seconds * 1e9 / texels as f64;
+    let (o, p) = (ns(median(&mut original)), ns(median(&mut proved)));
+    let counts = counted.expect("a run");
+    let slow = if field.size <= PLAIN_SIZE {
+        let (seconds, agrees) = plain(field, mode, &samples, &stencil, counts);
+        same &= agrees;
+        format!("{:.0} | {:.1}", ns(seconds), ns(seconds) / p)
+    } else {
+        "- | -".into()
+    };
     println!(
-        "| {} | {} | {mode:?} | {runs} | {flagged} | {:.2} | {o:.1} | {p:.1} | {:.2} |",
-        field.size, field.name, tests as f64 / texels as f64, p / o
+        "| {} | {} | {mode:?} | {runs} | {} | {:.2} | {o:.1} | {p:.1} | {:.2} | {slow} |",
+        field.size, field.name, counts.error, tests as f64 / texels as f64, p / o
     );
-    same_tests && samples.iter().zip(bitmap.data()).all(|(a, b)| a == b)
+    same
 }
 
 fn main() {
     let sizes: Vec<usize> = std::env::args().skip(1).map(|a| a.parse().expect("a size")).collect();
-    println!("| size | field | mode | runs | flagged | range tests/texel | original, ns/texel | proved, ns/texel | ratio |");
-    println!("|---|---|---|---|---|---|---|---|---|");
+    println!("| size | field | mode | runs | flagged | range tests/texel | original, ns/texel | proved, ns/texel | ratio | plain, ns/texel | to the proved |");
+    println!("|---|---|---|---|---|---|---|---|---|---|---|");
     let mut same = true;
     for size in sizes {
         for field in fields(size) {
@@ -93,7 +129,7 @@ fn main() {
         }
     }
     if !same {
-        println!("the two differ");
+        println!("the sides differ");
     }
     std::process::exit(i32::from(!same));
 }

@@ -1,5 +1,5 @@
 /* Corrects the glyph that it reads from standard input and prints the counts, the stencil, rows from the bottom, how many flagged texels each channel
- * carries, and where the view finds two of its texels. */
+ * carries, where the view finds two of its texels, and that the plain engine leaves the same. */
 #include <stdio.h>
 #include <stdlib.h>
 #include <string.h>
@@ -100,6 +100,18 @@ int main(void)
     carriers(cells, channels, original, stencil);
     show(width, height, channels, original, samples, stencil, RUNGTWINE_ERROR);
     show(width, height, channels, original, samples, stencil, 0);
+
+    float *plain = room(count, sizeof *plain);
+    memcpy(plain, original, count * sizeof *plain);
+    uint8_t *plain_stencil = room(cells, sizeof *plain_stencil);
+    size_t plain_protected, plain_error, plain_corner;
+    refusal = rungtwine_plain_error_correction(width, height, channels, plain, count, plain_stencil, cells, (uint8_t)mode, ratio, horizontal, vertical, diagonal,
+                                               colours, segments, coords, 2 * segments, ends, contours, &place, &plain_protected, &plain_error, &plain_corner);
+    need(refusal == 0 && plain_protected == protected_cells && plain_error == error_cells && plain_corner == corner_cells, "the plain engine counts otherwise");
+    need(memcmp(plain, samples, count * sizeof *plain) == 0 && memcmp(plain_stencil, stencil, cells) == 0, "the plain engine leaves something else");
+    printf("the plain engine agrees\n");
+    free(plain_stencil);
+    free(plain);
     free(stencil);
     free(original);
     free(samples);

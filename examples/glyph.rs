@@ -1,10 +1,10 @@
 //! Corrects the glyph that it reads from standard input and prints the counts, the stencil, rows from the bottom, how many flagged texels each channel
-//! carries, and where the view finds two of its texels.
+//! carries, where the view finds two of its texels, and that the plain engine leaves the same.
 
 #[path = "../include/rungtwine.rs"]
 mod rungtwine;
 
-use rungtwine::{error_correction, texel_channel, texel_view, Bitmap, Mode, Outlines, Settings, CORNER, ERROR, PROTECTED};
+use rungtwine::{error_correction, plain_error_correction, texel_channel, texel_view, Bitmap, Mode, Outlines, Settings, CORNER, ERROR, PROTECTED};
 use std::io::Read;
 use std::str::{FromStr, SplitWhitespace};
 
@@ -71,6 +71,12 @@ fn main() {
             carriers(channels, &original, &stencil);
             show((width, height, channels), &original, &samples, &stencil, true);
             show((width, height, channels), &original, &samples, &stencil, false);
+            let (mut plain, mut plain_stencil) = (original.clone(), vec![0u8; width * height]);
+            let plain_counts = plain_error_correction((width, height, channels), &mut plain, &mut plain_stencil, mode, settings, outlines);
+            assert_eq!(plain_counts, Ok(counts.cells()), "the plain engine counts otherwise");
+            let same = plain.iter().map(|v| v.to_bits()).eq(samples.iter().map(|v| v.to_bits())) && plain_stencil == stencil;
+            assert!(same, "the plain engine leaves something else");
+            println!("the plain engine agrees");
         }
         Err(refusal) => {
             println!("refused {} {}", refusal.number, refusal.place);

@@ -1,4 +1,5 @@
-/* The error-correction pass of a multi-channel distance field, a view of its texels and the channel of a texel's median, proved against their definitions. */
+/* The error-correction pass of a multi-channel distance field by two engines, a view of its texels and the channel of a texel's median, proved against their
+ * definitions. */
 #ifndef RUNGTWINE_H
 #define RUNGTWINE_H
 
@@ -61,6 +62,22 @@ uint8_t rungtwine_error_correction(
     const double *coords, size_t coords_len,
     const size_t *ends, size_t ends_len,
     size_t *place, size_t *protected_cells, size_t *error_cells, size_t *corner_cells, size_t *tests);
+
+/*
+ * The same by a second engine, which is slow and written to be read, to hold the first against: for every texel it works out all neighbours, pairs of
+ * channels, roots and range tests, with no early stop. It takes the same arguments less `tests`. For the same arguments it leaves the same flags, stencil,
+ * samples and counts of cells, and answers the same refusals at the same places: both are proved against the same definitions. It counts no range tests.
+ * What is said above of the pointers holds here too, with three counts.
+ */
+uint8_t rungtwine_plain_error_correction(
+    size_t width, size_t height, size_t channels,
+    float *samples, size_t samples_len,
+    uint8_t *stencil, size_t stencil_len,
+    uint8_t mode, double ratio, double horizontal, double vertical, double diagonal,
+    const uint8_t *colours, size_t colours_len,
+    const double *coords, size_t coords_len,
+    const size_t *ends, size_t ends_len,
+    size_t *place, size_t *protected_cells, size_t *error_cells, size_t *corner_cells);
 
 /* A part of a bitmap: `length` samples from `samples` on. */
 typedef struct {

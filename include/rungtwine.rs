@@ -37,6 +37,31 @@ pub mod raw {
             tests: *mut usize,
         ) -> u8;
 
+        pub fn rungtwine_plain_error_correction(
+            width: usize,
+            height: usize,
+            channels: usize,
+            samples: *mut f32,
+            samples_len: usize,
+            stencil: *mut u8,
+            stencil_len: usize,
+            mode: u8,
+            ratio: f64,
+            horizontal: f64,
+            vertical: f64,
+            diagonal: f64,
+            colours: *const u8,
+            colours_len: usize,
+            coords: *const f64,
+            coords_len: usize,
+            ends: *const usize,
+            ends_len: usize,
+            place: *mut usize,
+            protected: *mut usize,
+            error: *mut usize,
+            corner: *mut usize,
+        ) -> u8;
+
         pub fn rungtwine_texel_view(
             width: usize,
             height: usize,
@@ -102,6 +127,21 @@ pub struct Counts {
     pub tests: usize,
 }
 
+impl Counts {
+    /// The counts of cells alone.
+    pub fn cells(self) -> Cells {
+        Cells { protected: self.protected, error: self.error, corner: self.corner }
+    }
+}
+
+/// What the plain engine counts: cells of the stencil with PROTECTED, with ERROR and with CORNER.
+#[derive(Clone, Copy, PartialEq, Eq, Debug)]
+pub struct Cells {
+    pub protected: usize,
+    pub error: usize,
+    pub corner: usize,
+}
+
 /// The bitmap that a view is a part of.
 #[derive(Clone, Copy, PartialEq, Eq, Debug)]
 pub enum Bitmap {
@@ -155,6 +195,46 @@ pub fn error_correction(
         )
     };
     if number == 0 { Ok(Counts { protected, error, corner, tests }) } else { Err(Refusal { number, place }) }
+}
+
+/// The same by a second engine, slow and written to be read: the same flags, stencil, samples, counts of cells and refusals, and no count of range tests.
+pub fn plain_error_correction(
+    (width, height, channels): (usize, usize, usize),
+    samples: &mut [f32],
+    stencil: &mut [u8],
+    mode: Mode,
+    settings: Settings,
+    outlines: Outlines,
+) -> Result<Cells, Refusal> {
+    let (mut place, mut protected, mut error, mut corner) = (0, 0, 0, 0);
+    // Every pointer comes from a slice with its own length or from a local, the mutable ones overlap nothing, and the function demands nothing else.
+    let number = unsafe {
+        raw::rungtwine_plain_error_correction(
+            width,
+            height,
+            channels,
+            samples.as_mut_ptr(),
+            samples.len(),
+            stencil.as_mut_ptr(),
+            stencil.len(),
+            mode as u8,
+            settings.ratio,
+            settings.horizontal,
+            settings.vertical,
+            settings.diagonal,
+            outlines.colours.as_ptr(),
+            outlines.colours.len(),
+            outlines.coords.as_ptr(),
+            outlines.coords.len(),
+            outlines.ends.as_ptr(),
+            outlines.ends.len(),
+            &mut place,
+            &mut protected,
+            &mut error,
+            &mut corner,
+        )
+    };
+    if number == 0 { Ok(Cells { protected, error, corner }) } else { Err(Refusal { number, place }) }
 }
 
 /// All channels of texel x, y, lent from `corrected` where its cell of `stencil` has the bit ERROR, whatever else is set, and from `original` otherwise.

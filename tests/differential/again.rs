@@ -67,6 +67,7 @@ pub fn run(count: u64, seed: u64) -> bool {
     let mut spoilt = accepted(&mut Rng::new(seed, 0));
     spoilt.samples[0] = f32::from_bits(1_048_576.0f32.to_bits() + 1);
     let can_fail = rounds(&mut Rng::new(seed, 0), spoilt, &mut totals).is_err();
+    println!("{}", totals.sides());
     println!("fed back, seed {seed}: {count} cases, {at_limit} of them with a sample at the limit, {} passes, {later} texels flagged by later ones, {} corner cells, {wrong} refused or different", totals.cases, totals.corner);
     wrong == 0 && can_fail && (count < 1000 || (later > 0 && at_limit > 0 && totals.corner > 0))
 }

@@ -1,11 +1,11 @@
-//! Bitmaps stored in each order of the first three channels: a texel that two of them flag gets the same bits in both, and the corner cells are the same.
+//! Bitmaps stored in each order of the first three channels: every side agrees on each, a texel that two of them flag gets the same bits in both, and the corner cells are the same.
 //! Which texels are flagged, and how many range tests are made, may differ. How many such texels a rule without an order of zeros would have told apart is counted, so that the trial can fail.
 
 use crate::cases::{accepted, glyph_case, Case};
-use crate::judge::{CORNER, ERROR};
+use crate::judge::{Seen, CORNER, ERROR};
 use crate::rng::Rng;
 use crate::shrink;
-use crate::sides::by_pass;
+use crate::sides::{compare, Outcome, Totals};
 
 /// Blue, green, red first.
 const ORDERS: [[usize; 3]; 5] = [[2, 1, 0], [0, 2, 1], [1, 0, 2], [1, 2, 0], [2, 0, 1]];
@@ -36,13 +36,22 @@ fn unordered(t: &[f32]) -> f32 {
     max(min(t[0], t[1]), min(max(t[0], t[1]), t[2]))
 }
 
-fn hold(case: &Case, order: [usize; 3], count: &mut Count) -> Result<(), String> {
-    let other = rewired(case, order);
-    let (a, b) = (by_pass(case)?, by_pass(&other)?);
-    if a.answer.refusal != 0 || b.answer.refusal != 0 {
-        return Err(format!("refused: {} and {}", a.answer.refusal, b.answer.refusal));
-    }
-    let n = case.input.channels;
+/// The case in one order and what is left of it.
+struct Stored {
+    case: Case,
+    left: Outcome,
+}
+
+/// What is left of an accepted case, once every side agrees on it.
+fn stored(case: Case, totals: &mut Totals) -> Result<Stored, String> {
+    let left = compare(&case, &mut Seen::new(), totals)?;
+    if left.answer.refusal == 0 { Ok(Stored { case, left }) } else { Err(format!("refused: {}", left.answer.refusal)) }
+}
+
+/// Holds the case as it is to the case in another order.
+fn hold(one: &Stored, other: &Stored, order: [usize; 3], count: &mut Count) -> Result<(), String> {
+    let (a, b) = (&one.left, &other.left);
+    let n = one.case.input.channels;
     for k in 0..a.stencil.len() {
         let texel = k * n..k * n + 3;
         if a.stencil[k] & CORNER != b.stencil[k] & CORNER {
@@ -57,7 +66,7 @@ fn hold(case: &Case, order: [usize; 3], count: &mut Count) -> Result<(), String>
                 }
                 count.both += 1;
                 count.zeros += u64::from(x[0] == 0.0);
-                count.told_apart += u64::from(unordered(&case.samples[texel.clone()]).to_bits() != unordered(&other.samples[texel]).to_bits());
+                count.told_apart += u64::from(unordered(&one.case.samples[texel.clone()]).to_bits() != unordered(&other.case.samples[texel]).to_bits());
             }
             (false, false) => {}
             _ => count.one += 1,
@@ -66,8 +75,19 @@ fn hold(case: &Case, order: [usize; 3], count: &mut Count) -> Result<(), String>
     Ok(())
 }
 
+/// Holds the case to each of its other orders.
+fn orders(case: &Case, count: &mut Count, totals: &mut Totals) -> Result<(), String> {
+    let one = stored(case.clone(), totals)?;
+    for order in ORDERS {
+        let other = stored(rewired(case, order), totals).map_err(|what| format!("order {order:?}: {what}"))?;
+        hold(&one, &other, order, count)?;
+    }
+    Ok(())
+}
+
 pub fn run(number: u64, seed: u64) -> bool {
     let mut count = Count::default();
+    let mut totals = Totals::default();
     let mut wrong = 0u64;
     for at in 0..number {
         let mut rng = Rng::new(seed, at);
@@ -79,15 +99,14 @@ pub fn run(number: u64, seed: u64) -> bool {
                 }
             }
         }
-        for order in ORDERS {
-            if let Err(what) = hold(&case, order, &mut count) {
-                wrong += 1;
-                if wrong <= 3 {
-                    println!("differs (seed {seed} index {at}): {what}\n{}", shrink::text(&case));
-                }
+        if let Err(what) = orders(&case, &mut count, &mut totals) {
+            wrong += 1;
+            if wrong <= 3 {
+                println!("differs (seed {seed} index {at}): {what}\n{}", shrink::text(&case));
             }
         }
     }
+    println!("{}", totals.sides());
     println!(
         "channels stored in another order, seed {seed}: {number} bitmaps in six orders, {} texels flagged in two of them, {} in one of two, {} collapsed to a zero, {} that need the order of zeros, {} corner cells, {wrong} differ",
         count.both, count.one, count.zeros, count.told_apart, count.corners

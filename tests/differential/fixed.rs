@@ -266,15 +266,18 @@ pub fn make(file: &str) -> bool {
 /// Every side against the list.
 pub fn check(file: &str) -> bool {
     let list = read(file);
+    let mut totals = Totals::default();
     let mut differ = 0;
-    for (case, expected) in &list {
-        let mut totals = Totals::default();
-        let same = match compare(case, &mut Seen::new(), &mut totals) {
-            Ok(o) => o.answer == expected.answer && bits(&o.samples) == bits(&expected.samples) && o.stencil == expected.stencil,
-            Err(_) => false,
+    for (k, (case, expected)) in list.iter().enumerate() {
+        let what = match compare(case, &mut Seen::new(), &mut totals) {
+            Ok(o) if o.answer == expected.answer && bits(&o.samples) == bits(&expected.samples) && o.stencil == expected.stencil => continue,
+            Ok(_) => "every side differs from the list".into(),
+            Err(what) => what,
         };
-        differ += usize::from(!same);
+        differ += 1;
+        println!("case {k} differs: {what}");
     }
+    println!("{}", totals.sides());
     println!("check-fixed: {} cases, {differ} differ", list.len());
     differ == 0
 }

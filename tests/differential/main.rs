@@ -1,4 +1,4 @@
-//! The proved pass against the original and against the second judge, on the same inputs.
+//! The two proved engines of the pass against the original and against the second judge, on the same inputs.
 //!
 //! `run COUNT SEED`: every refusal at every place, then COUNT cases; totals, and how often each branch was reached. What is spoilt about corners and counts has to be seen.
 //! `monotony COUNT SEED`: pairs of passes in demand 3's relation and in the corners', and pairs with the relation broken.
@@ -31,7 +31,7 @@ use sides::{compare, Totals};
 const LONG: u64 = 20_000;
 
 fn run(count: u64, seed: u64) -> bool {
-    println!("sides: the judge, {}the proved pass", if cfg!(oracle) { "the original, " } else { "" });
+    println!("sides: the judge, {}the first engine, the plain engine", if cfg!(oracle) { "the original, " } else { "" });
     let (mut seen, mut totals) = (Seen::new(), Totals::default());
     let mut wrong = 0;
     let always = cases::every_place();
@@ -55,9 +55,10 @@ fn run(count: u64, seed: u64) -> bool {
     println!("{} range tests compared, the most for a texel {}", totals.tests, totals.most_tests);
     let refused: Vec<String> = (1..10).map(|k| format!("{k}: {}", totals.refused[k])).collect();
     println!("refused {}", refused.join(", "));
-    println!("compared with the original {}, with the proved pass {}", totals.by_oracle, totals.by_pass);
+    println!("{}", totals.sides());
     println!("zeros whose sign differs from the original's: {}", totals.zero_signs);
     println!("{} of {} branches reached", BRANCHES.len() - missing, BRANCHES.len());
+    println!("cases that differ: original {}, first engine {}, plain engine {}", totals.original.differ, totals.first.differ, totals.plain.differ);
     println!("{wrong} cases differ");
     wrong == 0 && can_fail && (count < LONG || missing == 0)
 }

@@ -7,11 +7,11 @@ use crate::cases::{accepted, contour, contours_of, set_contours, Case};
 use crate::judge::{Input, Seen, CORNER, ERROR, LIMIT};
 use crate::rng::Rng;
 use crate::shrink;
-use crate::sides::{by_judge, by_pass, Outcome};
+use crate::sides::{by_engine, by_judge, Engine, Outcome};
 
-/// The judge's answer and the proved pass's.
+/// The judge's answer and the first engine's; runs hold the plain engine to both.
 fn answers(case: &Case) -> [Outcome; 2] {
-    [by_judge(case, &mut Seen::new()), by_pass(case).unwrap()]
+    [by_judge(case, &mut Seen::new()), by_engine(Engine::First, case).unwrap()]
 }
 
 fn larger(rng: &mut Rng, v: f64) -> f64 {

@@ -4,13 +4,13 @@ use crate::cases::Case;
 use crate::judge::{judge_counting, Answer, Counting, Seen, ERROR, MOST_TESTS};
 #[cfg(oracle)]
 use crate::judge::{CORNER, PROTECTED};
-use crate::rungtwine::raw::rungtwine_error_correction;
+use crate::rungtwine::raw::{rungtwine_error_correction, rungtwine_plain_error_correction};
 
 pub struct Outcome {
     pub answer: Answer,
     pub samples: Vec<f32>,
     pub stencil: Vec<u8>,
-    /// The range tests of each texel, which the judge alone tells apart; the proved pass has their sum in its answer.
+    /// The range tests of each texel, which the judge alone tells apart; the first engine has their sum in its answer, the plain engine counts none.
     pub tests: Vec<u32>,
 }
 
@@ -39,8 +39,32 @@ const ROOM: usize = 16;
 const SAMPLE_GUARD: u32 = 0x7FA5_A5A5;
 const CELL_GUARD: u8 = 0xA5;
 
-/// The proved pass, with guard elements on both sides of each slice that it may write.
-pub fn by_pass(case: &Case) -> Result<Outcome, String> {
+/// The two proved engines.
+#[derive(Clone, Copy)]
+pub enum Engine {
+    First,
+    Plain,
+}
+
+impl Engine {
+    pub fn name(self) -> &'static str {
+        match self {
+            Engine::First => "first engine",
+            Engine::Plain => "plain engine",
+        }
+    }
+
+    /// The answer that the judge's asks of this engine: the plain one counts no range tests.
+    fn due(self, judged: Answer) -> Answer {
+        match self {
+            Engine::First => judged,
+            Engine::Plain => Answer { tests: 0, ..judged },
+        }
+    }
+}
+
+/// A proved engine, with guard elements on both sides of each slice that it may write.
+pub fn by_engine(engine: Engine, case: &Case) -> Result<Outcome, String> {
     let i = &case.input;
     let (n, m) = (case.samples.len(), case.stencil.len());
     let mut samples = vec![f32::from_bits(SAMPLE_GUARD); n + 2 * ROOM];
@@ -49,32 +73,61 @@ pub fn by_pass(case: &Case) -> Result<Outcome, String> {
     stencil[ROOM..ROOM + m].copy_from_slice(&case.stencil);
     let unwritten = usize::MAX - 12345;
     let [mut place, mut protected, mut error, mut corner, mut tests] = [unwritten; 5];
-    let refusal = unsafe {
-        rungtwine_error_correction(
-            i.width,
-            i.height,
-            i.channels,
-            samples.as_mut_ptr().add(ROOM),
-            n,
-            stencil.as_mut_ptr().add(ROOM),
-            m,
-            i.mode,
-            i.ratio,
-            i.lengths[0],
-            i.lengths[1],
-            i.lengths[2],
-            i.colours.as_ptr(),
-            i.colours.len(),
-            i.coords.as_ptr(),
-            i.coords.len(),
-            i.ends.as_ptr(),
-            i.ends.len(),
-            &mut place,
-            &mut protected,
-            &mut error,
-            &mut corner,
-            &mut tests,
-        )
+    let refusal = match engine {
+        Engine::First => unsafe {
+            rungtwine_error_correction(
+                i.width,
+                i.height,
+                i.channels,
+                samples.as_mut_ptr().add(ROOM),
+                n,
+                stencil.as_mut_ptr().add(ROOM),
+                m,
+                i.mode,
+                i.ratio,
+                i.lengths[0],
+                i.lengths[1],
+                i.lengths[2],
+                i.colours.as_ptr(),
+                i.colours.len(),
+                i.coords.as_ptr(),
+                i.coords.len(),
+                i.ends.as_ptr(),
+                i.ends.len(),
+                &mut place,
+                &mut protected,
+                &mut error,
+                &mut corner,
+                &mut tests,
+            )
+        },
+        Engine::Plain => unsafe {
+            tests = 0;
+            rungtwine_plain_error_correction(
+                i.width,
+                i.height,
+                i.channels,
+                samples.as_mut_ptr().add(ROOM),
+                n,
+                stencil.as_mut_ptr().add(ROOM),
+                m,
+                i.mode,
+                i.ratio,
+                i.lengths[0],
+                i.lengths[1],
+                i.lengths[2],
+                i.colours.as_ptr(),
+                i.colours.len(),
+                i.coords.as_ptr(),
+                i.coords.len(),
+                i.ends.as_ptr(),
+                i.ends.len(),
+                &mut place,
+                &mut protected,
+                &mut error,
+                &mut corner,
+            )
+        },
     };
     let kept = |v: &&f32| v.to_bits() == SAMPLE_GUARD;
     if samples[..ROOM].iter().filter(kept).count() != ROOM || samples[ROOM + n..].iter().filter(kept).count() != ROOM {
@@ -95,6 +148,24 @@ pub fn bits(samples: &[f32]) -> Vec<u32> {
     samples.iter().map(|v| v.to_bits()).collect()
 }
 
+/// How many cases a side was held to, and in how many it differs.
+#[derive(Default)]
+pub struct Held {
+    pub cases: u64,
+    pub differ: u64,
+}
+
+impl Held {
+    /// Counts a case, and adds what differs in it.
+    fn count(&mut self, held: Result<(), String>, differences: &mut Vec<String>) {
+        self.cases += 1;
+        if let Err(what) = held {
+            self.differ += 1;
+            differences.push(what);
+        }
+    }
+}
+
 /// How many of each were compared.
 #[derive(Default)]
 pub struct Totals {
@@ -108,8 +179,16 @@ pub struct Totals {
     pub most_tests: u32,
     pub refused: [u64; 10],
     pub zero_signs: u64,
-    pub by_oracle: u64,
-    pub by_pass: u64,
+    pub original: Held,
+    pub first: Held,
+    pub plain: Held,
+}
+
+impl Totals {
+    /// How many cases each side was held to, refusals too but by the original, which has none.
+    pub fn sides(&self) -> String {
+        format!("compared with the original {}, with the first engine {}, with the plain engine {}", self.original.cases, self.first.cases, self.plain.cases)
+    }
 }
 
 /// The original's flags, none where it makes no stencil, are our bits 1 and 2, and what its corners alone protect is our bit 4.
@@ -140,9 +219,8 @@ fn against_tests(answered: &oracle::Answered, judged: &[u32]) -> Result<(), Stri
 }
 
 #[cfg(oracle)]
-pub fn against_oracle(case: &Case, judged: &Outcome, totals: &mut Totals) -> Result<(), String> {
+pub fn against_oracle(case: &Case, judged: &Outcome, zero_signs: &mut u64) -> Result<(), String> {
     let (samples, answered) = by_oracle(case);
-    totals.by_oracle += 1;
     if case.input.mode == 0 && (answered.whole.is_some() || bits(&samples) != bits(&case.samples)) {
         return Err("original: Disabled did something".into());
     }
@@ -152,7 +230,7 @@ pub fn against_oracle(case: &Case, judged: &Outcome, totals: &mut Totals) -> Res
         let (o, j) = (samples[k], judged.samples[k]);
         if o.to_bits() != j.to_bits() {
             if o == 0.0 && j == 0.0 {
-                totals.zero_signs += 1;
+                *zero_signs += 1;
             } else {
                 return Err(format!("original: sample {k} is {:08X}, judged {:08X}", o.to_bits(), j.to_bits()));
             }
@@ -161,21 +239,23 @@ pub fn against_oracle(case: &Case, judged: &Outcome, totals: &mut Totals) -> Res
     Ok(())
 }
 
-pub fn against_pass(case: &Case, judged: &Outcome, totals: &mut Totals) -> Result<(), String> {
-    let ours = by_pass(case).map_err(|e| format!("ours: {e}"))?;
-    totals.by_pass += 1;
-    if ours.answer != judged.answer {
-        return Err(format!("ours: {:?}, judged {:?}", ours.answer, judged.answer));
+/// An engine answers and leaves what is judged, to the bit; in a refusal that is what was there.
+pub fn against_engine(engine: Engine, case: &Case, judged: &Outcome) -> Result<(), String> {
+    let name = engine.name();
+    let ours = by_engine(engine, case).map_err(|e| format!("{name}: {e}"))?;
+    let due = engine.due(judged.answer);
+    if ours.answer != due {
+        return Err(format!("{name}: {:?}, judged {due:?}", ours.answer));
     }
     for k in 0..ours.stencil.len() {
         if ours.stencil[k] != judged.stencil[k] {
-            return Err(format!("ours: cell {k} is {}, judged {}", ours.stencil[k], judged.stencil[k]));
+            return Err(format!("{name}: cell {k} is {}, judged {}", ours.stencil[k], judged.stencil[k]));
         }
     }
     for k in 0..ours.samples.len() {
         let (o, j) = (ours.samples[k].to_bits(), judged.samples[k].to_bits());
         if o != j {
-            return Err(format!("ours: sample {k} is {o:08X}, judged {j:08X}"));
+            return Err(format!("{name}: sample {k} is {o:08X}, judged {j:08X}"));
         }
     }
     Ok(())
@@ -192,17 +272,26 @@ fn hold_tests(judged: &Outcome) -> Result<(), String> {
     if sum == judged.answer.tests { Ok(()) } else { Err(format!("judged: {sum} range tests, {} answered", judged.answer.tests)) }
 }
 
-/// The judge's answer, once every side that is there agrees with it.
+/// The judge leaves a refusal's samples and cells as they were, and what it counts adds up.
+fn hold_judged(case: &Case, judged: &Outcome) -> Result<(), String> {
+    if judged.answer.refusal == 0 {
+        return hold_tests(judged);
+    }
+    if bits(&judged.samples) != bits(&case.samples) || judged.stencil != case.stencil {
+        return Err("the judge wrote in a refusal".into());
+    }
+    Ok(())
+}
+
+/// The judge's answer, once every side that is there agrees with it; otherwise each side that does not.
 pub fn compare(case: &Case, seen: &mut Seen, totals: &mut Totals) -> Result<Outcome, String> {
     let judged = by_judge(case, seen);
     let a = judged.answer;
     totals.cases += 1;
     totals.refused[a.refusal as usize] += 1;
-    if a.refusal != 0 {
-        if bits(&judged.samples) != bits(&case.samples) || judged.stencil != case.stencil {
-            return Err("the judge wrote in a refusal".into());
-        }
-    } else {
+    hold_judged(case, &judged)?;
+    let mut differences = Vec::new();
+    if a.refusal == 0 {
         totals.accepted += 1;
         totals.texels += judged.stencil.len() as u64;
         totals.protected += a.protected as u64;
@@ -210,10 +299,10 @@ pub fn compare(case: &Case, seen: &mut Seen, totals: &mut Totals) -> Result<Outc
         totals.flagged += a.error as u64;
         totals.tests += a.tests as u64;
         totals.most_tests = totals.most_tests.max(judged.tests.iter().copied().max().unwrap_or(0));
-        hold_tests(&judged)?;
         #[cfg(oracle)]
-        against_oracle(case, &judged, totals)?;
+        totals.original.count(against_oracle(case, &judged, &mut totals.zero_signs), &mut differences);
     }
-    against_pass(case, &judged, totals)?;
-    Ok(judged)
+    totals.first.count(against_engine(Engine::First, case, &judged), &mut differences);
+    totals.plain.count(against_engine(Engine::Plain, case, &judged), &mut differences);
+    if differences.is_empty() { Ok(judged) } else { Err(differences.join("; ")) }
 }

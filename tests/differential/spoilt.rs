@@ -1,11 +1,11 @@
 //! Whether the comparison sees what a pass could get wrong about corners and about the count of range tests: the judge's answers to figures are spoilt, one way
-//! at a time, and every side has to differ from them. In the corners' figures an edge, a corner and both protect a texel; in the others range tests are
-//! made and left out.
+//! at a time, and every side has to differ from them; the plain engine, which counts no range tests, in the corners alone. In the corners' figures an edge, a
+//! corner and both protect a texel; in the others range tests are made and left out.
 
 use crate::cases::Case;
 use crate::fixed::{corner_figures, test_figures};
 use crate::judge::{Counting, Seen, CORNER, PROTECTED};
-use crate::sides::{against_pass, by_judge, by_judge_counting, Outcome, Totals};
+use crate::sides::{against_engine, by_judge, by_judge_counting, Engine, Outcome};
 
 /// What is spoilt, in which mode's figure, and how. An edge alone protects its first texel, an edge and a corner the second, a corner alone the third.
 const WAYS: [(&str, u8, fn(&mut Outcome)); 7] = [
@@ -35,7 +35,7 @@ const COUNTINGS: [Counting; 10] = [
 /// Whether the original differs from what was spoilt.
 #[cfg(oracle)]
 fn seen_by_original(case: &Case, spoilt: &Outcome) -> bool {
-    crate::sides::against_oracle(case, spoilt, &mut Totals::default()).is_err()
+    crate::sides::against_oracle(case, spoilt, &mut 0).is_err()
 }
 
 /// Without the original there is nothing that it could miss.
@@ -44,9 +44,14 @@ fn seen_by_original(_: &Case, _: &Outcome) -> bool {
     true
 }
 
-/// Whether each side differs from what was spoilt.
-fn seen(case: &Case, spoilt: &Outcome) -> bool {
-    seen_by_original(case, spoilt) && against_pass(case, spoilt, &mut Totals::default()).is_err()
+/// Whether an engine differs from what was spoilt.
+fn seen_by(engine: Engine, case: &Case, spoilt: &Outcome) -> bool {
+    against_engine(engine, case, spoilt).is_err()
+}
+
+/// Whether each side that counts range tests differs from what was spoilt.
+fn seen_counting(case: &Case, spoilt: &Outcome) -> bool {
+    seen_by_original(case, spoilt) && seen_by(Engine::First, case, spoilt)
 }
 
 /// Counts what was not seen, and says it.
@@ -65,12 +70,12 @@ fn corners(missed: &mut usize) {
         let case = of_mode(mode);
         let mut outcome = by_judge(case, &mut Seen::new());
         spoil(&mut outcome);
-        miss(missed, seen(case, &outcome), name);
+        miss(missed, seen_counting(case, &outcome) && seen_by(Engine::Plain, case, &outcome), name);
     }
     for of_protected in [true, false] {
         let mut outcome = by_judge(of_mode(2), &mut Seen::new());
         outcome.answer.corner = if of_protected { outcome.answer.protected } else { 0 };
-        let seen = against_pass(of_mode(2), &outcome, &mut Totals::default()).is_err();
+        let seen = [Engine::First, Engine::Plain].iter().all(|&engine| seen_by(engine, of_mode(2), &outcome));
         miss(missed, seen, &format!("{} corner cells counted", outcome.answer.corner));
     }
 }
@@ -83,7 +88,7 @@ fn countings(missed: &mut usize) {
             let wrong = by_judge_counting(&case, counting, &mut Seen::new());
             if wrong.answer.tests != by_judge(&case, &mut Seen::new()).answer.tests {
                 told += 1;
-                miss(missed, seen(&case, &wrong), &format!("{} range tests counted by {counting:?}", wrong.answer.tests));
+                miss(missed, seen_counting(&case, &wrong), &format!("{} range tests counted by {counting:?}", wrong.answer.tests));
             }
         }
         miss(missed, told > 0, &format!("{counting:?}, in any figure"));
@@ -101,13 +106,13 @@ fn single_tests(missed: &mut usize) {
             outcome.answer.tests = outcome.answer.tests + to as usize - from as usize;
             Some(outcome)
         };
-        miss(missed, spoil(0, 1).is_some_and(|o| seen(&case, &o)), "one range test more");
-        miss(missed, spoil(1, 0).map_or(case.input.mode == 0, |o| seen(&case, &o)), "one range test less");
+        miss(missed, spoil(0, 1).is_some_and(|o| seen_counting(&case, &o)), "one range test more");
+        miss(missed, spoil(1, 0).map_or(case.input.mode == 0, |o| seen_counting(&case, &o)), "one range test less");
         miss(missed, spoil(1, 1).map_or(case.input.mode == 0, |o| seen_by_original(&case, &o)), "a range test of another texel");
         case.input.mode = 4;
         let mut refused = by_judge(&case, &mut Seen::new());
         refused.answer.tests = 1;
-        miss(missed, against_pass(&case, &refused, &mut Totals::default()).is_err(), "a range test in a refusal");
+        miss(missed, seen_by(Engine::First, &case, &refused), "a range test in a refusal");
     }
 }
 

@@ -1,4 +1,4 @@
-// The pass, the texel view and the channel of a texel's median for C and Rust to call.
+// The pass by each of its two engines, the texel view and the channel of a texel's median for C and Rust to call.
 ghost use mathlib.Core.Path.{_≡_};
 ghost use mathlib.Core.List.{[], _∷_};
 ghost use denote.Ref.{ptr};
@@ -76,6 +76,70 @@ pub extern "C" fn rungtwine_error_correction(
             *error = 0;
             *corner = 0;
             *tests = 0;
+            n
+        }
+    }
+}
+
+// The same by the plain engine, which counts no range tests.
+#[no_mangle]
+pub extern "C" fn rungtwine_plain_error_correction(
+    width: usize,
+    height: usize,
+    channels: usize,
+    samples: &mut [f32],
+    stencil: &mut [u8],
+    mode: u8,
+    ratio: f64,
+    horizontal: f64,
+    vertical: f64,
+    diagonal: f64,
+    colours: &[u8],
+    coords: &[f64],
+    ends: &[usize],
+    place: &mut usize,
+    protected: &mut usize,
+    error: &mut usize,
+    corner: &mut usize,
+) -> u8
+    ensures numbers { λ r. ⌜ r ≡ Checks.refusalNumber (called width height channels (now (samples .entry)) (now (stencil .entry)) mode ratio horizontal vertical diagonal (now (colours .entry)) (now (coords .entry)) (now (ends .entry))) ⌝ }
+    ensures places { λ _. ⌜ now (place .exit) ≡ Checks.refusalPlace (called width height channels (now (samples .entry)) (now (stencil .entry)) mode ratio horizontal vertical diagonal (now (colours .entry)) (now (coords .entry)) (now (ends .entry))) ⌝ }
+    ensures protects { λ _. ⌜ now (protected .exit) ≡ Pass.protectedCells (called width height channels (now (samples .entry)) (now (stencil .entry)) mode ratio horizontal vertical diagonal (now (colours .entry)) (now (coords .entry)) (now (ends .entry))) ⌝ }
+    ensures flags { λ _. ⌜ now (error .exit) ≡ Pass.errorCells (called width height channels (now (samples .entry)) (now (stencil .entry)) mode ratio horizontal vertical diagonal (now (colours .entry)) (now (coords .entry)) (now (ends .entry))) ⌝ }
+    ensures corners { λ _. ⌜ now (corner .exit) ≡ Pass.cornerCells (called width height channels (now (samples .entry)) (now (stencil .entry)) mode ratio horizontal vertical diagonal (now (colours .entry)) (now (coords .entry)) (now (ends .entry))) ⌝ }
+    ensures leaves { λ _. ⌜ now (stencil .exit) ≡ Pass.stencilAfter (called width height channels (now (samples .entry)) (now (stencil .entry)) mode ratio horizontal vertical diagonal (now (colours .entry)) (now (coords .entry)) (now (ends .entry))) ⌝ }
+    ensures writes { λ _. ⌜ now (samples .exit) ≡ Pass.samplesAfter (called width height channels (now (samples .entry)) (now (stencil .entry)) mode ratio horizontal vertical diagonal (now (colours .entry)) (now (coords .entry)) (now (ends .entry))) ⌝ }
+{
+    let s = Settings {
+        ratio: ratio,
+        horizontal: horizontal,
+        vertical: vertical,
+        diagonal: diagonal,
+    };
+    match plain::pass::plain_error_correction(
+        width,
+        height,
+        channels,
+        samples,
+        stencil,
+        mode,
+        s,
+        colours,
+        coords,
+        ends,
+    ) {
+        plain::pass::Answer::Accepted(c) => {
+            *place = 0;
+            *protected = c.protected;
+            *error = c.error;
+            *corner = c.corner;
+            0
+        }
+        plain::pass::Answer::Refused(n, p) => {
+            *place = p;
+            *protected = 0;
+            *error = 0;
+            *corner = 0;
             n
         }
     }

@@ -4,6 +4,13 @@ ghost use lib.ListN.{length};
 use correction::pass::Answer;
 use ground::bytes;
 
+// The list's number of range tests.
+pub fn tests(list: &[u8], at: usize) -> usize
+    requires { ⌜ at < 800000 ⌝ }
+{
+    bytes::be64(list, at + 33) as usize
+}
+
 // Refusal, place, the three counts and the number of range tests; what an answer lacks is 0.
 pub fn is_answer(list: &[u8], at: usize, a: Answer) -> bool
     requires { ⌜ at < 800000 ⌝ }
@@ -13,14 +20,13 @@ pub fn is_answer(list: &[u8], at: usize, a: Answer) -> bool
     let protected = bytes::be64(list, at + 9);
     let error = bytes::be64(list, at + 17);
     let corner = bytes::be64(list, at + 25);
-    let tests = bytes::be64(list, at + 33);
+    let tests = tests(list, at);
     match a {
         Answer::Accepted(c, t) => {
             number == 0
                 && (place == 0
                     && (protected == c.protected as u64
-                        && (error == c.error as u64
-                            && (corner == c.corner as u64 && tests == t as u64))))
+                        && (error == c.error as u64 && (corner == c.corner as u64 && tests == t))))
         }
         Answer::Refused(n, p) => {
             number == n

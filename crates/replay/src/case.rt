@@ -158,23 +158,51 @@ fn load(
     number::words(list, ends_at(c), ends);
 }
 
-// Runs a case.
+// The plain engine's answer with this number of range tests, which it does not count.
+fn counted(a: plain::pass::Answer, tests: usize) -> Answer {
+    match a {
+        plain::pass::Answer::Accepted(c) => Answer::Accepted(c, tests),
+        plain::pass::Answer::Refused(n, p) => Answer::Refused(n, p),
+    }
+}
+
+// Runs a case, by the plain engine where it is asked for, which answers the list's number of range tests.
 fn correct(
     list: &[u8],
-    at: usize,
+    c: Case,
+    plain: bool,
     samples: &mut [f32],
     cells: &mut [u8],
     colours: &[u8],
     coords: &[f64],
     ends: &[usize],
 ) -> Answer
-    requires { ⌜ at ≤ 262144 ⌝ }
+    requires { ⌜ Sized 65 c ⌝ }
 {
+    let at = c.at;
     let width = bytes::be64(list, at) as usize;
     let height = bytes::be64(list, at + 8) as usize;
     let channels = bytes::be64(list, at + 16) as usize;
     let mode = bytes::byte_from(list, at, 24);
     let s = settings(list, at);
+    if plain {
+        let tests = answer::tests(list, answer_at(c));
+        return counted(
+            plain::pass::plain_error_correction(
+                width,
+                height,
+                channels,
+                samples,
+                cells,
+                mode,
+                s,
+                colours,
+                coords,
+                ends,
+            ),
+            tests,
+        );
+    }
     pass::msdf_error_correction(
         width,
         height,
@@ -205,6 +233,7 @@ fn is_right(list: &[u8], c: Case, a: Answer, samples: &[f32], cells: &[u8]) -> b
 fn run(
     list: &[u8],
     c: Case,
+    plain: bool,
     samples: &mut [f32],
     cells: &mut [u8],
     colours: &mut [u8],
@@ -215,12 +244,12 @@ fn run(
     requires { ⌜ (length (now samples) ≤ 64) × (length (now cells) ≤ 64) × (length (now colours) ≤ 64) × (length (now coords) ≤ 64) × (length (now ends) ≤ 64) ⌝ }
 {
     load(list, c, samples, cells, colours, coords, ends);
-    let a = correct(list, c.at, samples, cells, colours, coords, ends);
+    let a = correct(list, c, plain, samples, cells, colours, coords, ends);
     is_right(list, c, a, samples, cells)
 }
 
-// Whether a case goes as the list says.
-pub fn is_same(list: &[u8], c: Case) -> bool
+// Whether a case goes as the list says, by the plain engine or by the first.
+pub fn is_same(list: &[u8], c: Case, plain: bool) -> bool
     requires { ⌜ Sized 64 c ⌝ }
 {
     let mut samples = [0.0f32; 64];
@@ -231,6 +260,7 @@ pub fn is_same(list: &[u8], c: Case) -> bool
     run(
         list,
         c,
+        plain,
         &mut samples[..c.samples],
         &mut cells[..c.cells],
         &mut colours[..c.colours],

@@ -4,6 +4,7 @@ use mathlib.Core.Path.{_≡_}
 use denote.Ref.{now, ptr}
 use Rattle.ground.proofs.Laws.Alike.{alike}
 use Rattle.correction_c.proofs.rungtwine_error_correction.Reads as pass
+use Rattle.correction_c.proofs.rungtwine_plain_error_correction.Reads as plain
 use Rattle.correction_c.proofs.rungtwine_texel_view.Reads as view
 use Rattle.correction_c.proofs.rungtwine_texel_channel.Reads as channel
 
@@ -38,6 +39,34 @@ pass-stencils-alike κs a z z' e e' p q = alike (p .1 .1 .1 .1 .1 .1 .0) (q .1 .
 -- and two lists of samples, the fourth.
 pub pass-samples-alike : (κs : _) (a : _) (z z' : _) (e e' : _) → pass.Post κs a z e → pass.Post κs a z' e' → now (e .1 .1 .1 .0) ≡ now (e' .1 .1 .1 .0)
 pass-samples-alike κs a z z' e e' p q = alike (p .1 .1 .1 .1 .1 .1 .1) (q .1 .1 .1 .1 .1 .1 .1)
+
+-- Two answers of the plain engine are the same,
+pub plain-answers-alike : (κs : _) (a : _) (z z' : _) (e e' : _) → plain.Post κs a z e → plain.Post κs a z' e' → z ≡ z'
+plain-answers-alike κs a z z' e e' p q = alike (p .0) (q .0)
+
+-- so are two places, the fourteenth argument,
+pub plain-places-alike : (κs : _) (a : _) (z z' : _) (e e' : _) → plain.Post κs a z e → plain.Post κs a z' e' → now (e .1 .1 .1 .1 .1 .1 .1 .1 .1 .1 .1 .1 .1 .0) ≡ now (e' .1 .1 .1 .1 .1 .1 .1 .1 .1 .1 .1 .1 .1 .0)
+plain-places-alike κs a z z' e e' p q = alike (p .1 .0) (q .1 .0)
+
+-- two counts of protected cells, the fifteenth,
+pub plain-protected-alike : (κs : _) (a : _) (z z' : _) (e e' : _) → plain.Post κs a z e → plain.Post κs a z' e' → now (e .1 .1 .1 .1 .1 .1 .1 .1 .1 .1 .1 .1 .1 .1 .0) ≡ now (e' .1 .1 .1 .1 .1 .1 .1 .1 .1 .1 .1 .1 .1 .1 .0)
+plain-protected-alike κs a z z' e e' p q = alike (p .1 .1 .0) (q .1 .1 .0)
+
+-- two counts of errors, the sixteenth,
+pub plain-errors-alike : (κs : _) (a : _) (z z' : _) (e e' : _) → plain.Post κs a z e → plain.Post κs a z' e' → now (e .1 .1 .1 .1 .1 .1 .1 .1 .1 .1 .1 .1 .1 .1 .1 .0) ≡ now (e' .1 .1 .1 .1 .1 .1 .1 .1 .1 .1 .1 .1 .1 .1 .1 .0)
+plain-errors-alike κs a z z' e e' p q = alike (p .1 .1 .1 .0) (q .1 .1 .1 .0)
+
+-- two counts of corner cells, the seventeenth,
+pub plain-corners-alike : (κs : _) (a : _) (z z' : _) (e e' : _) → plain.Post κs a z e → plain.Post κs a z' e' → now (e .1 .1 .1 .1 .1 .1 .1 .1 .1 .1 .1 .1 .1 .1 .1 .1 .0) ≡ now (e' .1 .1 .1 .1 .1 .1 .1 .1 .1 .1 .1 .1 .1 .1 .1 .1 .0)
+plain-corners-alike κs a z z' e e' p q = alike (p .1 .1 .1 .1 .0) (q .1 .1 .1 .1 .0)
+
+-- two stencils, the fifth,
+pub plain-stencils-alike : (κs : _) (a : _) (z z' : _) (e e' : _) → plain.Post κs a z e → plain.Post κs a z' e' → now (e .1 .1 .1 .1 .0) ≡ now (e' .1 .1 .1 .1 .0)
+plain-stencils-alike κs a z z' e e' p q = alike (p .1 .1 .1 .1 .1 .0) (q .1 .1 .1 .1 .1 .0)
+
+-- and two lists of samples, the fourth.
+pub plain-samples-alike : (κs : _) (a : _) (z z' : _) (e e' : _) → plain.Post κs a z e → plain.Post κs a z' e' → now (e .1 .1 .1 .0) ≡ now (e' .1 .1 .1 .0)
+plain-samples-alike κs a z z' e e' p q = alike (p .1 .1 .1 .1 .1 .1) (q .1 .1 .1 .1 .1 .1)
 
 -- Two texels that the view leaves in its ninth argument hold the same samples,
 pub views-alike : (κs : _) (a : _) (z z' : _) (e e' : _) → view.Post κs a z e → view.Post κs a z' e' → now (now (e .1 .1 .1 .1 .1 .1 .1 .1 .0)) ≡ now (now (e' .1 .1 .1 .1 .1 .1 .1 .1 .0))

@@ -16,11 +16,14 @@ abbrev μ-loop : tie.MeasureT-loop
 is-same-requires : tie.Need-is-same-requires Inv-loop μ-loop
 is-same-requires c κs = c .before .has-room .ensures (not-false _ (c .if1 .left)) .1
 
+is-same-requires-2 : tie.Need-is-same-requires-2 Inv-loop μ-loop
+is-same-requires-2 c κs = c .before .before .has-room .ensures (not-false _ (c .before .if1 .left)) .1
+
 loop-again : tie.Need-loop-again Inv-loop μ-loop
-loop-again c = (omega (arith, c .before .before .before .has-room .ensures (not-false _ (c .before .before .if1 .left)) .0), omega arith, omega arith)
+loop-again c = (omega (arith, c .before .before .before .before .has-room .ensures (not-false _ (c .before .before .before .if1 .left)) .0), omega arith, omega arith)
 
 pub replay-spec : {M : Type 1} → statement M
 replay-spec =
     tie.close
-    (tie.spec Inv-loop μ-loop (λ c κs. search needs) (λ c. search needs) (λ c κs. search needs) (λ c κs. search needs) (λ c κs. search needs) is-same-requires (λ c κs. search needs) (λ c. search needs)
+    (tie.spec Inv-loop μ-loop (λ c κs. search needs) (λ c. search needs) (λ c κs. search needs) (λ c κs. search needs) (λ c κs. search needs) is-same-requires is-same-requires-2 (λ c κs. search needs) (λ c. search needs)
     (λ c. search needs) loop-again (λ c κs. search needs) (λ c κs. search needs) (λ c κs. search needs) (λ c. search needs))

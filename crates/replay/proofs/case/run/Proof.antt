@@ -13,11 +13,11 @@ start c = c .before .before .before .before .before .before .before .before .bef
 few : (a b d : ℕ) → a ≡ b → b ≡ d → d ≤ 64 → a ≤ 64
 few a b d e f h = omega arith
 
-lengths : (c : tie.After-correct) → (length (c .correct .last .1 .1 .0) ≤ 64) × (length (c .correct .last .1 .1 .1 .0) ≤ 64)
+lengths : (c : tie.After-correct) → (length (c .correct .last .1 .1 .1 .0) ≤ 64) × (length (c .correct .last .1 .1 .1 .1 .0) ≤ 64)
 lengths c =
     let l = c .before .before .before .before .before .before .before .before .before .before .before .before .before .before .before .before .load in
     let p = start c .pre .1 in
-    (few _ _ _ (c .correct .kept .1 .1 .0) (l .kept .1 .1 .0) (p .0), few _ _ _ (c .correct .kept .1 .1 .1 .0) (l .kept .1 .1 .1 .0) (p .1))
+    (few _ _ _ (c .correct .kept .1 .1 .1 .0) (l .kept .1 .1 .0) (p .0), few _ _ _ (c .correct .kept .1 .1 .1 .1 .0) (l .kept .1 .1 .1 .0) (p .1))
 
 is-right-requires : tie.Need-is-right-requires
 is-right-requires c κs = let a = c .before .before .before .before .before .before in (start a .pre .0, lengths a)
