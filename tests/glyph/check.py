@@ -85,6 +85,8 @@ def check_answer(data, says):
     named = {(int(x), int(y)): int(channel) for x, y, channel in re.findall(r"^(\d+) (\d+) [0-9A-F]{8} ch (\d+)$", says, re.M)}
     need(answer.carriers == named, f"the channels of {data[:80].hex()}")
     need(says.split("\n")[1].endswith(f" tests {answer.tests}"), f"the range tests of {data[:80].hex()}")
+    plainly = glyph.Answer("answer", re.sub(r" tests \d+", "", says, count=1), read)
+    need(plainly.tests is None and (plainly.rows, plainly.medians, plainly.carriers) == (answer.rows, answer.medians, answer.carriers), f"the plain engine's answer to {data[:80].hex()}")
     for y, (old, new) in enumerate(zip(read.rows, answer.corrected())):
         for x in range(read.size[0]):
             texel, after = old[x * channels:(x + 1) * channels], new[x * channels:(x + 1) * channels]
@@ -188,15 +190,15 @@ def check_marks():
 
 
 def check_legend():
-    """The legend fits with the largest counts, and tells each channel, a corner, an edge, EdgeOnly's own protection and another number of range tests apart."""
+    """The legend fits with the largest counts, and tells each channel, a corner, an edge, EdgeOnly's own protection, another number of range tests and none apart."""
     seen = set()
-    for mark, channel, mode, less in (("B", 0, 2, 0), ("B", 1, 2, 0), ("B", 2, 2, 0), ("D", 0, 2, 0), ("B", 0, 3, 0), ("B", 0, 2, 1)):
+    for mark, channel, mode, less in (("B", 0, 2, 0), ("B", 1, 2, 0), ("B", 2, 2, 0), ("D", 0, 2, 0), ("B", 0, 3, 0), ("B", 0, 2, 1), ("B", 0, 2, None)):
         answer = answered(64, 64, [0.5, 0.5, 0.5], mark, channel)[1]
-        answer.glyph.mode, answer.tests = mode, answer.tests - less
+        answer.glyph.mode, answer.tests = mode, None if less is None else answer.tests - less
         picture = glyph.Picture(*glyph.LEGEND)
         glyph.draw_legend(picture, 0, 0, answer)
         seen.add(whole(picture, *glyph.LEGEND, "the legend"))
-    need(len(seen) == 6, "legends of different answers look alike")
+    need(len(seen) == 7, "legends of different answers look alike")
 
 
 GOOD = "size 2 1 3\nmode 1\nratio 1\nlengths 1 1 1\ncontour\n  red 1 1\nrow 0\n  1 0 0.75\n  0 0.75 0.75\n"
@@ -240,9 +242,9 @@ def bad_answers():
     for tests in (0, 1, 169):
         yield (ANSWER.replace("tests 2", f"tests {tests}"),
                f"b:2:36: {tests} range tests are counted here, and with these flags, size and mode there are from 2 to 168")
-    for line in ("protected 0 error 2", "protected 0 error 2 corner 0", "protected 0 error 2 corner 0 tests", "protected 0 error 2 corner 0 tests 2 ",
+    for line in ("protected 0 error 2", "protected 0 error 2 corner 0 ", "protected 0 error 2 corner 0 tests", "protected 0 error 2 corner 0 tests 2 ",
                  "protected 0 error 2 corner 0 tests -2", "protected 0 error 2 tests 2 corner 0", "protected 0 corner 0 error 2 tests 2", "tests 2"):
-        yield ANSWER.replace("protected 0 error 2 corner 0 tests 2", line), "b:2:1: 'protected COUNT error COUNT corner COUNT tests COUNT' should stand here"
+        yield ANSWER.replace("protected 0 error 2 corner 0 tests 2", line), "b:2:1: 'protected COUNT error COUNT corner COUNT', and 'tests COUNT' unless the plain engine answers, should stand here"
     yield ANSWER.replace("EE", "EX"), "b:3:1: row 0, 2 letters of . P E B C D"
     yield ANSWER.replace("EE", "EB"), "b:2:11: 0 are counted here, and the rows have 1"
     yield ANSWER.replace("EE", "ED").replace("protected 0", "protected 1"), "b:2:28: 0 are counted here, and the rows have 1"

@@ -1,4 +1,4 @@
-"""compare.py JUDGE COUNT SEED PROGRAM-WORDS: gives the program each input and holds what it prints to the judge's answer."""
+"""compare.py JUDGE COUNT SEED PROGRAM-WORDS -- PLAIN-WORDS: gives both programs each input and holds what they print to the judge's answer."""
 import concurrent.futures
 import os
 import re
@@ -35,6 +35,14 @@ def by_program(words, data, slow=False):
         return out.read(), err.read(), status
 
 
+def without_tests(answer):
+    """The judge's answer as the plain program has to print it: the counts' line, the second of an accepted answer, has no tests."""
+    if not answer.startswith(b"size "):
+        return answer
+    size, counts, rest = answer.split(b"\n", 2)
+    return b"\n".join([size, counts.partition(b" tests ")[0], rest])
+
+
 def check_figures(answers):
     """The judge's answers to the figures of docs/RULES.md, held to what that page says of them."""
     for name, data, says in cases.figures():
@@ -60,6 +68,8 @@ def check_reach(answers):
 
 def main():
     judge, count, seed, words = sys.argv[1], int(sys.argv[2]), int(sys.argv[3]), sys.argv[4:]
+    cut = words.index("--")
+    programs = [("program", words[:cut], lambda answer: answer), ("plain program", words[cut + 1:], without_tests)]
     environment = {name: value for name, value in os.environ.items() if not name.startswith("QEMU_")}
     os.environ.clear()
     os.environ.update(environment)
@@ -73,20 +83,22 @@ def main():
     check_figures(answers)
     places = check_reach(answers)
     large = [(f"{name}, in pieces", data, True) for name, data in tried if len(data) > 60000 or name in ("P", "65536 bytes", "good cut at 100")]
-    work = [(name, data, False) for name, data in tried] + large
+    inputs = [(name, data, False) for name, data in tried] + large
+    work = [(program, *given) for given in inputs for program in programs]
     bad = 0
     with concurrent.futures.ThreadPoolExecutor(os.cpu_count() or 1) as pool:
-        for (name, data, _), got in zip(work, pool.map(lambda w: by_program(words, w[1], w[2]), work)):
-            if got != (answers[data], b"", 0):
+        for ((who, _, of), name, data, _), got in zip(work, pool.map(lambda w: by_program(w[0][1], w[2], w[3]), work)):
+            wanted = of(answers[data])
+            if got != (wanted, b"", 0):
                 bad += 1
                 if bad <= SHOWN:
                     print(f"tests/reading: {name}: {len(data)} bytes {data[:200].hex()}")
-                    print(f"  the judge: {answers[data][:200]!r}")
-                    print(f"  the program: {got[0][:200]!r}" + ("" if got[1:] == (b"", 0) else f", status {got[2]}, error output {got[1][:200]!r}"))
+                    print(f"  the judge: {wanted[:200]!r}")
+                    print(f"  the {who}: {got[0][:200]!r}" + ("" if got[1:] == (b"", 0) else f", status {got[2]}, error output {got[1][:200]!r}"))
     accepted = sum(a.startswith(b"size") for a in answers.values())
     refused = sum(a.startswith(b"refused") for a in answers.values())
-    print(f"tests/reading: {len(work)} inputs ({accepted} accepted, {refused} refused, {len(tried) - accepted - refused} bad at {places} places, "
-          f"{len(large)} again in pieces), {bad} differ, {time.time() - begin:.0f} s")
+    print(f"tests/reading: {len(inputs)} inputs ({accepted} accepted, {refused} refused, {len(tried) - accepted - refused} bad at {places} places, "
+          f"{len(large)} again in pieces) to the program and to the plain one, {bad} of {len(work)} answers differ, {time.time() - begin:.0f} s")
     sys.exit(1 if bad else 0)
 
 

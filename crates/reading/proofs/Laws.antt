@@ -1,4 +1,5 @@
--- What follows from the definitions and from the promise of the reading library.
+-- What follows from the definitions and from the promises of the reading library.
 pub mod Decimal
 pub mod Bounds
 pub mod Alike
+pub mod Plainly

@@ -1,12 +1,28 @@
 -- What the inner functions ask of each other; no public promise rests on it. Definitions only.
 use mathlib.Core.Path.{_≡_}
 use Prim.Native.Nat.{ℕ, zero, suc, _+_, _-_, _*_, _≤_, _<_}
+use mathlib.Core.Bool.{Bool, cond}
 use mathlib.Core.List.{List}
 use lib.ListN.{length, getD}
 use lib.Ieee.{Float}
 use Rattle.ground.specs.Write.{Written}
+use Rattle.inputs.specs.Checks.{Input}
+use Rattle.inputs.specs.declared.stencil.Counts.{Counts}
+use Rattle.correction.specs.Bitmap.{cellTexel}
+use Rattle.correction.specs.Pass.{answer, passStencil}
+use Rattle.correction.specs.declared.pass.Answer as First
+use Rattle.correction.specs.declared.pass.Answer.the-variants as first
+use Rattle.plain.specs.Answer.{plainAnswer}
+use Rattle.plain.specs.declared.pass.Answer as Plain
+use Rattle.plain.specs.declared.pass.Answer.the-variants as plain
 use Rattle.reading.specs.Grammar.{fine, lengthAt, start, before, contoursFrom, contours, rowSize, sizeBreach, fieldBreach, outlineBreach, rowsBreach, endAt, width, height, channels, breach}
 use Rattle.reading.specs.Case.{coloursOf, coordsOf, endsOf}
+use Rattle.reading.specs.Text.{refusedText, countsText, countsPlainly, acceptedWith}
+use Rattle.reading.specs.Answer.{printed, written, printedPlainly, writtenPlainly}
+use Rattle.reading.specs.declared.text.Tests.{Tests}
+use Rattle.reading.specs.declared.text.Tests.the-variants.{Counted, Uncounted}
+use Rattle.reading.specs.declared.engines.Judged.{Judged}
+use Rattle.reading.specs.declared.engines.Judged.the-variants.{Accepted, Refused}
 use Rattle.reading.specs.declared.reader.Field.{Field}
 use Rattle.reading.specs.declared.fields.Layout.{Layout}
 
@@ -120,3 +136,35 @@ pub record Decoded (s : List ℕ) (k n : ℕ) (cs₀ cs : List ℕ) (ps₀ ps : 
   pub colours : Written cs₀ 0 (coloursOf s) n cs
   pub coords : Written ps₀ 0 (coordsOf s) (2 * n) ps
   pub ends : Written es₀ 0 (endsOf s) k es
+
+-- ---- either engine: the plain one, or the first
+
+-- the counts' line, with the tests where they are counted
+unfoldable pub countsLine : Counts → Tests → List ℕ
+countsLine c (Counted t) = countsText c t
+countsLine c Uncounted = countsPlainly c
+
+-- an answer of the first engine, the pass, and one of the plain engine
+unfoldable pub ofPass : First.Answer → Judged
+ofPass (first.Accepted c t) = Accepted c (Counted t)
+ofPass (first.Refused n p) = Refused n p
+
+unfoldable pub ofPlain : Plain.Answer → Judged
+ofPlain (plain.Accepted c) = Accepted c Uncounted
+ofPlain (plain.Refused n p) = Refused n p
+
+-- what the engine answers
+unfoldable pub judged : Bool → Input → Judged
+judged plainly i = cond plainly (ofPlain (plainAnswer i)) (ofPass (answer i))
+
+-- its text
+unfoldable pub judgedText : Input → Judged → List ℕ
+judgedText i (Accepted c t) = acceptedWith (i .width) (i .height) (i .channels) (countsLine c t) (passStencil i) (cellTexel (i .samples) (i .channels))
+judgedText i (Refused n p) = refusedText n p
+
+-- all that is printed with it, and what is written into a slice of n bytes
+unfoldable pub printedBy : Bool → List ℕ → List ℕ
+printedBy plainly s = cond plainly (printedPlainly s) (printed s)
+
+unfoldable pub writtenBy : Bool → ℕ → List ℕ → List ℕ
+writtenBy plainly n s = cond plainly (writtenPlainly n s) (written n s)

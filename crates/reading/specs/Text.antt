@@ -45,13 +45,24 @@ refusedText n place = (114 ∷ 101 ∷ 102 ∷ 117 ∷ 115 ∷ 101 ∷ 100 ∷ 3
 unfoldable pub sizeText : ℕ → ℕ → ℕ → List ℕ
 sizeText w h ch = (115 ∷ 105 ∷ 122 ∷ 101 ∷ 32 ∷ []) ++ (numbered w 32 ++ (numbered h 32 ++ numbered ch 10))
 
--- `protected P error E corner K tests T`
-unfoldable pub countsText : Counts → ℕ → List ℕ
-countsText c t =
+-- `protected P error E corner K`
+unfoldable pub cellsText : Counts → List ℕ
+cellsText c =
     (112 ∷ 114 ∷ 111 ∷ 116 ∷ 101 ∷ 99 ∷ 116 ∷ 101 ∷ 100 ∷ 32 ∷ []) ++ (numbered (c .protected) 32
     ++ ((101 ∷ 114 ∷ 114 ∷ 111 ∷ 114 ∷ 32 ∷ []) ++ (numbered (c .error) 32
-    ++ ((99 ∷ 111 ∷ 114 ∷ 110 ∷ 101 ∷ 114 ∷ 32 ∷ []) ++ (numbered (c .corner) 32
-    ++ ((116 ∷ 101 ∷ 115 ∷ 116 ∷ 115 ∷ 32 ∷ []) ++ numbered t 10))))))
+    ++ ((99 ∷ 111 ∷ 114 ∷ 110 ∷ 101 ∷ 114 ∷ 32 ∷ []) ++ decimal (c .corner)))))
+
+-- ` tests T`
+unfoldable pub testsText : ℕ → List ℕ
+testsText t = (32 ∷ 116 ∷ 101 ∷ 115 ∷ 116 ∷ 115 ∷ 32 ∷ []) ++ decimal t
+
+-- the counts' line: `protected P error E corner K tests T`
+unfoldable pub countsText : Counts → ℕ → List ℕ
+countsText c t = cellsText c ++ (testsText t ++ (10 ∷ []))
+
+-- that of the plain engine, which counts no tests: `protected P error E corner K`
+unfoldable pub countsPlainly : Counts → List ℕ
+countsPlainly c = cellsText c ++ (10 ∷ [])
 
 -- a cell's mark: `C` corner, `D` corner with error; without a corner `.` none, `P`, `E`, `B` both
 unfoldable pub mark : ℕ → ℕ
@@ -76,7 +87,15 @@ texelText x y m = numbered x 32 ++ (numbered y 32 ++ (hex (toBits binary32 (m .v
 unfoldable pub flaggedText : ℕ → List ℕ → (ℕ → List Float) → ℕ → List ℕ
 flaggedText w st texels k = cond (isError (getD st k 0)) (texelText (k % w) (k / w) (texelMiddle (texels k))) []
 
--- the size, the counts, the rows, then each flagged texel, row by row
+-- the size, the counts' line that is given, the rows, then each flagged texel, row by row
+unfoldable pub acceptedWith : ℕ → ℕ → ℕ → List ℕ → List ℕ → (ℕ → List Float) → List ℕ
+acceptedWith w h ch counts st texels =
+    sizeText w h ch ++ (counts ++ (rowsText w h st ++ joined (w * h) (flaggedText w st texels)))
+
+-- with the pass's line
 unfoldable pub acceptedText : ℕ → ℕ → ℕ → Counts → ℕ → List ℕ → (ℕ → List Float) → List ℕ
-acceptedText w h ch c t st texels =
-    sizeText w h ch ++ (countsText c t ++ (rowsText w h st ++ joined (w * h) (flaggedText w st texels)))
+acceptedText w h ch c t st texels = acceptedWith w h ch (countsText c t) st texels
+
+-- with the plain engine's line
+unfoldable pub acceptedPlainly : ℕ → ℕ → ℕ → Counts → List ℕ → (ℕ → List Float) → List ℕ
+acceptedPlainly w h ch c st texels = acceptedWith w h ch (countsPlainly c) st texels

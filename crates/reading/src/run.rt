@@ -5,16 +5,15 @@ ghost use lib.ListN.{length};
 ghost use Rattle.ground.specs.Lists.{tab};
 ghost use Rattle.ground.specs.Write.{Written};
 ghost use Rattle.inputs.specs.Checks.{input};
-ghost use Rattle.correction.specs.Pass as Pass;
 ghost use Rattle.reading.specs.Answer as Answers;
 ghost use Rattle.reading.specs.Case.{modeOf};
 ghost use Rattle.reading.specs.Grammar.{channels};
-ghost use Rattle.reading.specs.Inner.{Whole, Lent};
+ghost use Rattle.reading.specs.Inner as Inner;
 use crate::decode;
+use crate::engines;
+use crate::engines::Judged;
 use crate::fields::Layout;
 use crate::text;
-use correction::pass;
-use correction::pass::Answer;
 use ground::bytes;
 use inputs::sizes::Bitmap;
 use ranges::config::Settings;
@@ -44,8 +43,9 @@ fn keep(xs: &[f32], out: &mut [f32]) -> usize
     j
 }
 
-// The pass on a decoded case, with the mode and the settings of the input s. The medians are printed of the samples as they came in.
+// The pass on a decoded case, by the plain engine or the first, with the mode and the settings of the input s. The medians are printed of the samples as they came in.
 fn run(
+    plain: bool,
     out: &mut [u8],
     s: &[u8],
     b: Bitmap,
@@ -56,14 +56,13 @@ fn run(
     ends: &[usize],
 ) -> usize
     requires { ⌜ (131072 ≤ length (now out)) × (length (now samples) ≤ 12288) × (11 < length (now s)) ⌝ }
-    ensures { λ r. ⌜ Written (now (out .entry)) 0 (Answers.answerText (input (b .width) (b .height) (b .channels) (now (samples .entry)) (now (stencil .entry)) (modeOf (now (s .entry))) (Answers.settingsOf (now (s .entry))) (now (colours .entry)) (now (coords .entry)) (now (ends .entry))) (Pass.answer (input (b .width) (b .height) (b .channels) (now (samples .entry)) (now (stencil .entry)) (modeOf (now (s .entry))) (Answers.settingsOf (now (s .entry))) (now (colours .entry)) (now (coords .entry)) (now (ends .entry))))) r (now (out .exit)) ⌝ }
+    ensures { λ r. ⌜ Written (now (out .entry)) 0 (Inner.judgedText (input (b .width) (b .height) (b .channels) (now (samples .entry)) (now (stencil .entry)) (modeOf (now (s .entry))) (Answers.settingsOf (now (s .entry))) (now (colours .entry)) (now (coords .entry)) (now (ends .entry))) (Inner.judged plain (input (b .width) (b .height) (b .channels) (now (samples .entry)) (now (stencil .entry)) (modeOf (now (s .entry))) (Answers.settingsOf (now (s .entry))) (now (colours .entry)) (now (coords .entry)) (now (ends .entry))))) r (now (out .exit)) ⌝ }
 {
     let mut kept = [0.0f32; 12288];
     let n = keep(samples, &mut kept);
-    match pass::msdf_error_correction(
-        b.width,
-        b.height,
-        b.channels,
+    match engines::judge(
+        plain,
+        b,
         samples,
         stencil,
         s[11],
@@ -72,8 +71,8 @@ fn run(
         coords,
         ends,
     ) {
-        Answer::Accepted(c, t) => text::put_accepted(out, b, c, t, stencil, &kept[..n]),
-        Answer::Refused(n, p) => text::put_refused(out, n as usize, p),
+        Judged::Accepted(c, t) => text::put_accepted(out, b, c, t, stencil, &kept[..n]),
+        Judged::Refused(n, p) => text::put_refused(out, n as usize, p),
     }
 }
 
@@ -92,6 +91,7 @@ fn clear(out: &mut [u8], n: usize) -> usize
 
 // A well formed input, laid out as l says, decoded into what is lent.
 pub fn answer_case(
+    plain: bool,
     s: &[u8],
     l: Layout,
     out: &mut [u8],
@@ -101,10 +101,10 @@ pub fn answer_case(
     coords: &mut [f64],
     ends: &mut [usize],
 ) -> usize
-    requires { ⌜ Whole (now s) (l .rows) (l .contours) (l .segments) ⌝ }
+    requires { ⌜ Inner.Whole (now s) (l .rows) (l .contours) (l .segments) ⌝ }
     requires { ⌜ (131072 ≤ length (now out)) × (0 < channels (now s)) ⌝ }
-    requires { ⌜ Lent (now samples) (now stencil) (now colours) (now coords) (now ends) ⌝ }
-    ensures { λ r. ⌜ Written (now (out .entry)) 0 (Answers.answerText (Answers.caseOf (now (s .entry))) (Pass.answer (Answers.caseOf (now (s .entry))))) r (now (out .exit)) ⌝ }
+    requires { ⌜ Inner.Lent (now samples) (now stencil) (now colours) (now coords) (now ends) ⌝ }
+    ensures { λ r. ⌜ Written (now (out .entry)) 0 (Inner.judgedText (Answers.caseOf (now (s .entry))) (Inner.judged plain (Answers.caseOf (now (s .entry))))) r (now (out .exit)) ⌝ }
 {
     let b = Bitmap {
         width: bytes::be16(s, 3),
@@ -117,6 +117,7 @@ pub fn answer_case(
     let c = clear(stencil, b.width * b.height);
     decode::decode_outline(s, l.rows, k, n, colours, coords, ends);
     run(
+        plain,
         out,
         s,
         b,

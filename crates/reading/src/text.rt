@@ -8,6 +8,7 @@ ghost use Rattle.ground.specs.Write.{Written};
 ghost use Rattle.correction.specs.Bitmap.{cellTexel};
 ghost use Rattle.reading.specs.Decimal.{decimal};
 ghost use Rattle.reading.specs.Text as Text;
+ghost use Rattle.reading.specs.Inner.{countsLine};
 use detectors::texel;
 use ground::bytes;
 use inputs::sizes::Bitmap;
@@ -161,15 +162,33 @@ fn put_size(out: &mut [u8], at: usize, b: Bitmap) -> usize
     put_number(out, c, b.channels, 10)
 }
 
-// `protected P error E corner K tests T`
-fn put_counts(out: &mut [u8], at: usize, c: Counts, tests: usize) -> usize
-    requires { ⌜ at + 113 ≤ length (now out) ⌝ }
-    ensures { λ r. ⌜ Written (now (out .entry)) at (Text.countsText c tests) r (now (out .exit)) ⌝ }
+// `protected P error E corner K`
+fn put_cells(out: &mut [u8], at: usize, c: Counts) -> usize
+    requires { ⌜ at + 85 ≤ length (now out) ⌝ }
+    ensures { λ r. ⌜ Written (now (out .entry)) at (Text.cellsText c) r (now (out .exit)) ⌝ }
 {
     let a = put_named(out, at, b"protected ", c.protected, 32);
     let b = put_named(out, a, b"error ", c.error, 32);
-    let d = put_named(out, b, b"corner ", c.corner, 32);
-    put_named(out, d, b"tests ", tests, 10)
+    let d = put_all(out, b, b"corner ");
+    put_decimal(out, d, c.corner)
+}
+
+// How many range tests were made, where they are counted.
+pub enum Tests {
+    Counted(usize),
+    Uncounted,
+}
+
+// The counts' line: the tests are there where they are counted.
+fn put_counts(out: &mut [u8], at: usize, c: Counts, tests: Tests) -> usize
+    requires { ⌜ at + 113 ≤ length (now out) ⌝ }
+    ensures { λ r. ⌜ Written (now (out .entry)) at (countsLine c tests) r (now (out .exit)) × (r ≤ at + 113) ⌝ }
+{
+    let a = put_cells(out, at, c);
+    match tests {
+        Tests::Counted(t) => put_named(out, a, b" tests ", t, 10),
+        Tests::Uncounted => put(out, a, 10),
+    }
 }
 
 fn put_marks(out: &mut [u8], at: usize, st: &[u8], from: usize, w: usize) -> usize
@@ -254,13 +273,13 @@ pub fn put_accepted(
     out: &mut [u8],
     b: Bitmap,
     c: Counts,
-    tests: usize,
+    tests: Tests,
     st: &[u8],
     xs: &[f32],
 ) -> usize
     requires { ⌜ (0 < b .width) × (3 ≤ b .channels) × (b .height ≤ 4096) × (b .width * b .height ≤ 4096) ⌝ }
     requires { ⌜ (b .width * b .height ≤ length (now st)) × (b .width * b .height * b .channels ≤ length (now xs)) × (131072 ≤ length (now out)) ⌝ }
-    ensures { λ r. ⌜ Written (now (out .entry)) 0 (Text.acceptedText (b .width) (b .height) (b .channels) c tests (now (st .entry)) (cellTexel (now (xs .entry)) (b .channels))) r (now (out .exit)) ⌝ }
+    ensures { λ r. ⌜ Written (now (out .entry)) 0 (Text.acceptedWith (b .width) (b .height) (b .channels) (countsLine c tests) (now (st .entry)) (cellTexel (now (xs .entry)) (b .channels))) r (now (out .exit)) ⌝ }
 {
     let counts = put_size(out, 0, b);
     let rows = put_counts(out, counts, c, tests);

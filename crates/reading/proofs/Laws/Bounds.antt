@@ -1,7 +1,7 @@
--- How large the numbers are that are printed: the place of a breach, a refusal with its place, and the counts. Assumes nothing.
+-- How large the numbers are that are printed: the place of a breach, a refusal with its place, and the counts; and that a text fits where it is written. Assumes nothing.
 use mathlib.Core.Bool.{Bool, true, false, cond, not}
-use mathlib.Core.List.{List}
-use mathlib.Core.Path.{_≡_, refl, _∙_}
+use mathlib.Core.List.{List, _++_}
+use mathlib.Core.Path.{_≡_, refl, ap, _∙_}
 use Prim.Native.Nat.{ℕ, zero, suc, _+_, _*_, _/_, _%_, _≤_, _<_}
 use native.Mathlib.Nat.{le-trans}
 use native.Mathlib.Omega.{arith}
@@ -168,3 +168,9 @@ module _ (s : List ℕ) (short : length s ≤ 65536) where
   pub colours-le : length (coloursOf s) ≤ 256
   unfolding coloursOf contours before
   colours-le = omega (arith, colours-before s (contours s), before-le 64 0 (omega arith))
+
+-- ---- a text in front
+
+-- what is written for an input into the front of a list is no longer than the whole
+pub in-front : (text : ℕ → List ℕ → List ℕ) (n : ℕ) (s d l : List ℕ) (m : ℕ) → m ≡ length (text n s) → l ≡ text n s ++ d → m ≤ length l
+in-front text n s d l m e f = omega (arith, ap length f, length-append (text n s) d)

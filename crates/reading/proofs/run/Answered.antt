@@ -13,10 +13,13 @@ use Rattle.inputs.proofs.Laws.Checks.{sizes, passed}
 use Rattle.correction.specs.Bitmap.{cellTexel}
 use Rattle.correction.specs.Pass.{passStencil, answer, stencilAfter}
 use Rattle.correction.proofs.Laws.Leaves as Leaves
-use Rattle.correction.specs.declared.pass.Answer.the-variants.{Accepted, Refused}
+use Rattle.correction.specs.declared.pass.Answer.the-variants as first
 use Rattle.inputs.specs.declared.stencil.Counts.{Counts}
-use Rattle.reading.specs.Answer.{answerText}
-use Rattle.reading.specs.Text.{acceptedText, refusedText}
+use Rattle.plain.specs.Answer.{plainAnswer, untested}
+use Rattle.reading.specs.Inner.{countsLine, ofPass, ofPlain, judged, judgedText}
+use Rattle.reading.specs.Text.{acceptedWith, refusedText}
+use Rattle.reading.specs.declared.text.Tests.{Tests}
+use Rattle.reading.specs.declared.engines.Judged.the-variants.{Accepted, Refused}
 
 -- ---- what acceptance says of the sizes
 
@@ -38,14 +41,16 @@ sized i a =
 
 -- ---- the answer
 
-accepted-go : (b : Bool) (c d : Counts) (t u n p : ℕ) → Accepted c t ≡ cond b (Accepted d u) (Refused n p) → b ≡ true
-accepted-go true c d t u n p e = refl
-accepted-go false c d t u n p e = absurd (let z : _≡_ {A = ℕ} 0 1 = cc in omega arith)
+accepted-go : (plain b : Bool) (c d : Counts) (t : Tests) (u n p : ℕ) → Accepted c t ≡ cond plain (ofPlain (untested (cond b (first.Accepted d u) (first.Refused n p)))) (ofPass (cond b (first.Accepted d u) (first.Refused n p))) → b ≡ true
+unfolding untested ofPlain ofPass
+accepted-go plain true c d t u n p e = refl
+accepted-go true false c d t u n p e = absurd (let z : _≡_ {A = ℕ} 0 1 = cc in omega arith)
+accepted-go false false c d t u n p e = absurd (let z : _≡_ {A = ℕ} 0 1 = cc in omega arith)
 
 -- an answer that counts is one of acceptance
-pub was-accepted : (i : Input) (c : Counts) (t : ℕ) → Accepted c t ≡ answer i → accepted i ≡ true
-unfolding answer
-was-accepted i c t e = accepted-go (accepted i) c _ t _ _ _ e
+pub was-accepted : (plain : Bool) (i : Input) (c : Counts) (t : Tests) → Accepted c t ≡ judged plain i → accepted i ≡ true
+unfolding judged plainAnswer answer
+was-accepted plain i c t e = accepted-go plain (accepted i) c _ t _ _ _ e
 
 module _ (i : Input) (a : accepted i ≡ true) where
   -- what an accepted pass leaves in the stencil
@@ -60,9 +65,9 @@ module _ (i : Input) (a : accepted i ≡ true) where
 -- ---- the text
 
 -- what is printed from the stencil that an accepted pass leaves and the samples that it was given
-pub accepted-text : (i : Input) (c : Counts) (t : ℕ) (st : List ℕ) (xs : List Float) → Accepted c t ≡ answer i → st ≡ stencilAfter i → xs ≡ i .samples → acceptedText (i .width) (i .height) (i .channels) c t st (cellTexel xs (i .channels)) ≡ answerText i (answer i)
-unfolding answerText
-accepted-text i c t st xs e p q = rw (p, q, stencil-left i (was-accepted i c t e)) (ap (answerText i) e)
+pub accepted-text : (plain : Bool) (i : Input) (c : Counts) (t : Tests) (st : List ℕ) (xs : List Float) → Accepted c t ≡ judged plain i → st ≡ stencilAfter i → xs ≡ i .samples → acceptedWith (i .width) (i .height) (i .channels) (countsLine c t) st (cellTexel xs (i .channels)) ≡ judgedText i (judged plain i)
+unfolding judgedText
+accepted-text plain i c t st xs e p q = rw (p, q, stencil-left i (was-accepted plain i c t e)) (ap (judgedText i) e)
 
 -- there is room for it
 pub record Roomy (i : Input) (st : List ℕ) (xs : List Float) : Type 0 where
@@ -71,9 +76,9 @@ pub record Roomy (i : Input) (st : List ℕ) (xs : List Float) : Type 0 where
   pub samples : i .width * i .height * i .channels ≤ length xs
 
 -- the stencil and the samples are long enough to be printed
-pub roomy : (i : Input) (c : Counts) (t : ℕ) (st : List ℕ) (xs : List Float) → Accepted c t ≡ answer i → length (i .samples) ≤ 12288 → st ≡ stencilAfter i → xs ≡ i .samples → Roomy i st xs
-roomy i c t st xs e few p q =
-    let a = was-accepted i c t e in
+pub roomy : (plain : Bool) (i : Input) (c : Counts) (t : Tests) (st : List ℕ) (xs : List Float) → Accepted c t ≡ judged plain i → length (i .samples) ≤ 12288 → st ≡ stencilAfter i → xs ≡ i .samples → Roomy i st xs
+roomy plain i c t st xs e few p q =
+    let a = was-accepted plain i c t e in
     let z = sized i a in
     record {
       sizes = (z .wide, z .deep, z .high, omega (arith, z .samples, mul-le-mul-left (i .width * i .height) (z .deep)));
@@ -82,6 +87,6 @@ roomy i c t st xs e few p q =
     }
 
 -- what is printed of a refusal
-pub refused-text : (i : Input) (n p : ℕ) → Refused n p ≡ answer i → refusedText n p ≡ answerText i (answer i)
-unfolding answerText
-refused-text i n p e = ap (answerText i) e
+pub refused-text : (plain : Bool) (i : Input) (n p : ℕ) → Refused n p ≡ judged plain i → refusedText n p ≡ judgedText i (judged plain i)
+unfolding judgedText
+refused-text plain i n p e = ap (judgedText i) e

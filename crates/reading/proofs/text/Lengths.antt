@@ -15,7 +15,9 @@ use Rattle.detectors.specs.Texel.{texelMiddle}
 use Rattle.detectors.proofs.Laws.Texel.{texel-channel-below}
 use Rattle.inputs.specs.declared.stencil.Counts.{Counts}
 use Rattle.inputs.specs.Stencil.{isError}
-use Rattle.reading.specs.Text.{hexPair, hex, numbered, badText, refusedText, sizeText, countsText, marksText, rowText, rowsText, texelText, flaggedText, acceptedText}
+use Rattle.reading.specs.Text.{hexPair, hex, numbered, badText, refusedText, sizeText, cellsText, testsText, countsText, countsPlainly, marksText, rowText, rowsText, texelText, flaggedText, acceptedWith}
+use Rattle.reading.specs.Inner.{countsLine}
+use Rattle.reading.specs.declared.text.Tests.the-variants.{Counted, Uncounted}
 use Rattle.reading.proofs.Laws.Decimal.{decimal-length, decimal-length-u64}
 
 cond-length : (t : Bool) (m : ℕ) (l : List ℕ) → length l ≤ m → length (cond t l []) ≤ m
@@ -74,10 +76,19 @@ pub size-length : (w h ch : ℕ) → w < 2 ^ 64 → h < 2 ^ 64 → ch < 2 ^ 64 �
 unfolding sizeText
 size-length w h ch p q r = simp length-append (omega (arith, numbered-length w 32 p, numbered-length h 32 q, numbered-length ch 10 r))
 
--- the counts line
-pub counts-length : (c : Counts) (t : ℕ) → c .protected < 2 ^ 64 → c .error < 2 ^ 64 → c .corner < 2 ^ 64 → t < 2 ^ 64 → length (countsText c t) ≤ 113
-unfolding countsText
-counts-length c t l m n o = simp length-append (omega (arith, numbered-length (c .protected) 32 l, numbered-length (c .error) 32 m, numbered-length (c .corner) 32 n, numbered-length t 10 o))
+-- the counts
+pub cells-length : (c : Counts) → c .protected < 2 ^ 64 → c .error < 2 ^ 64 → c .corner < 2 ^ 64 → length (cellsText c) ≤ 85
+unfolding cellsText
+cells-length c l m n = simp length-append (omega (arith, numbered-length (c .protected) 32 l, numbered-length (c .error) 32 m, decimal-length-u64 (c .corner) n))
+
+-- their line with the tests, and without
+pub counted-length : (c : Counts) (t : ℕ) → length (cellsText c) ≤ 85 → t < 2 ^ 64 → length (countsLine c (Counted t)) ≤ 113
+unfolding countsLine countsText testsText
+counted-length c t l o = simp length-append (omega (arith, decimal-length-u64 t o))
+
+pub uncounted-length : (c : Counts) → length (cellsText c) ≤ 85 → length (countsLine c Uncounted) ≤ 113
+unfolding countsLine countsPlainly
+uncounted-length c l = simp length-append (omega arith)
 
 -- all rows
 pub rows-length : (w h : ℕ) (st : List ℕ) → length (rowsText w h st) ≤ w * h + h
@@ -99,8 +110,8 @@ pub texels-length : (n w : ℕ) (st : List ℕ) (texels : ℕ → List Float) �
 texels-length n w st texels l = joined-length n 26 (flaggedText w st texels) (λ k p. flagged-length w st texels k (omega arith))
 
 -- an accepted pass
-pub accepted-length : (w h ch : ℕ) (n : Counts) (t : ℕ) (st : List ℕ) (texels : ℕ → List Float) → w < 2 ^ 64 → h < 2 ^ 64 → ch < 2 ^ 64 → length (countsText n t) ≤ 113 → w * h ≤ 100000 → length (acceptedText w h ch n t st texels) ≤ 181 + (w * h + h) + 26 * (w * h)
-unfolding acceptedText
-accepted-length w h ch n t st texels a b c d l =
+pub accepted-length : (w h ch : ℕ) (counts st : List ℕ) (texels : ℕ → List Float) → w < 2 ^ 64 → h < 2 ^ 64 → ch < 2 ^ 64 → length counts ≤ 113 → w * h ≤ 100000 → length (acceptedWith w h ch counts st texels) ≤ 181 + (w * h + h) + 26 * (w * h)
+unfolding acceptedWith
+accepted-length w h ch counts st texels a b c d l =
     simp length-append
     (omega (arith, size-length w h ch a b c, d, rows-length w h st, texels-length (w * h) w st texels l))

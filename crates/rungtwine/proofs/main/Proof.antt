@@ -1,24 +1,17 @@
 -- `rungtwine::main` meets its contract: what is written is the front of the output that `answer` filled. Assumes nothing.
-use mathlib.Core.List.{List, _++_}
-use mathlib.Core.Path.{_≡_, sym, ap}
-use Prim.Native.Nat.{ℕ, _≤_}
-use native.Mathlib.Omega.{arith}
-use lib.ListN.{length, length-append}
+use mathlib.Core.Path.{sym}
 use lib.Seq.{length-take-le}
 use borrow.Author.Needs.{needs}
 use Rattle.reading.specs.Answer.{written}
+use Rattle.reading.proofs.Laws.Bounds.{in-front}
 use Rattle.rungtwine.proofs.main.Statement.{statement}
 use Rattle.rungtwine.proofs.main.Tie as tie
 
--- a text that fills the front is no longer than the whole
-in-front : (n : ℕ) (s d l : List ℕ) (m : ℕ) → m ≡ length (written n s) → l ≡ written n s ++ d → m ≤ length l
-in-front n s d l m e f = omega (arith, ap length f, length-append (written n s) d)
-
 array-share-prefix-output : tie.Need-array-share-prefix-output
-array-share-prefix-output c = in-front _ _ _ _ _ (c .before .answer .ensures .0) (c .before .answer .ensures .1)
+array-share-prefix-output c = in-front written _ _ _ _ _ (c .before .answer .ensures .0) (c .before .answer .ensures .1)
 
 slice-aggregate-write-all : tie.Need-slice-aggregate-write-all
-slice-aggregate-write-all c = sym (length-take-le _ _ (in-front _ _ _ _ _ (c .before .before .answer .ensures .0) (c .before .before .answer .ensures .1)))
+slice-aggregate-write-all c = sym (length-take-le _ _ (in-front written _ _ _ _ _ (c .before .before .answer .ensures .0) (c .before .before .answer .ensures .1)))
 
 pub main-spec : {M : Type 1} → statement M
 main-spec =

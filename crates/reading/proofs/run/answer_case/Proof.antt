@@ -7,8 +7,7 @@ use lib.ListN.{length, getD}
 use denote.Ref.{now}
 use borrow.Author.Needs.{needs}
 use Rattle.ground.proofs.Laws.Write.{written-fits, front, front-length, written-as}
-use Rattle.correction.specs.Pass.{answer}
-use Rattle.reading.specs.Answer.{answerText}
+use Rattle.reading.specs.Inner.{judged, judgedText}
 use Rattle.reading.proofs.decode.Decoded.{decoded-samples, decoded-case, whole-samples, whole-cells, whole-rows}
 use Rattle.reading.proofs.fields.Sizes.{row-fits, pair-fits}
 use Rattle.reading.proofs.run.answer_case.Statement.{statement}
@@ -122,7 +121,7 @@ returns c =
     let e =
     decoded-case (s .pre .0) w h (front (x .decode-samples .ensures .0) (samples-fit x) ∙ decoded-samples (s .pre .0) w h) (front (z .clear .ensures .0) (cells-fit z)) (front (o .colours) (f .0))
     (front (o .coords) (f .1)) (front (o .ends) (f .2)) in
-    written-as _ (ap (λ i. answerText i (answer i)) e) (at-run .run .ensures)
+    written-as _ (ap (λ i. judgedText i (judged (s .args .plain) i)) e) (at-run .run .ensures)
 
 pub answer-case-spec : {M : Type 1} → statement M
 answer-case-spec =

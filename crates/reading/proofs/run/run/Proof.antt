@@ -1,4 +1,4 @@
--- `reading::run::run` meets its contract: the pass's answer is matched, and the stencil that it leaves and the samples that were kept are printed. Assumes nothing.
+-- `reading::run::run` meets its contract: the engine's answer is matched, and the stencil that it leaves and the samples that were kept are printed. Assumes nothing.
 use mathlib.Core.Path.{sym, _∙_, ap}
 use Prim.Native.Nat.{_≤_}
 use native.Mathlib.Omega.{arith}
@@ -7,10 +7,8 @@ use borrow.Author.Needs.{needs}
 use Rattle.ground.proofs.Laws.Write.{written-as, front, front-length}
 use Rattle.ranges.specs.declared.config.Settings.{Settings}
 use Rattle.inputs.specs.Checks.{Input, input}
-use Rattle.correction.specs.Pass.{answer}
-use Rattle.correction.proofs.Laws.Answer.{answers-fix}
-use Rattle.reading.specs.Answer.{answerText}
 use Rattle.reading.specs.Case.{modeOf}
+use Rattle.reading.specs.Inner.{judged, judgedText}
 use Rattle.reading.proofs.run.Answered.{accepted-text, refused-text, roomy}
 use Rattle.reading.proofs.run.run.Statement.{statement}
 use Rattle.reading.proofs.run.run.Tie as tie
@@ -44,8 +42,8 @@ put-accepted-requires c κs =
     let i = case (m .before) (m .before .settings .result) in
     let k = kept (m .before) in
     let s = begun k in
-    let p = m .msdf-error-correction .ensures in
-    let r = roomy i _ _ _ _ (sym (at-c .c .given .1) ∙ answers-fix i _ (p .0)) (s .pre .1) (p .1 .0) (front (k .keep .ensures) (keeps k)) in
+    let p = m .judge .ensures in
+    let r = roomy _ i _ _ _ _ (sym (at-c .c .given .1) ∙ p .0) (s .pre .1) (p .1) (front (k .keep .ensures) (keeps k)) in
     (r .sizes, (r .cells, r .samples, s .pre .0))
 
 returns : tie.Need-returns
@@ -55,9 +53,9 @@ returns c =
     let k = kept (m .before) in
     let f = case (m .before) in
     let i = f (m .before .settings .result) in
-    let p = m .msdf-error-correction .ensures in
-    let e = accepted-text i _ _ _ _ (sym (at-c .c .given .1) ∙ answers-fix i _ (p .0)) (p .1 .0) (front (k .keep .ensures) (keeps k)) in
-    written-as _ (e ∙ ap (λ t. answerText (f t) (answer (f t))) (m .before .settings .ensures)) (c .before .before .put-accepted .ensures)
+    let p = m .judge .ensures in
+    let e = accepted-text _ i _ _ _ _ (sym (at-c .c .given .1) ∙ p .0) (p .1) (front (k .keep .ensures) (keeps k)) in
+    written-as _ (e ∙ ap (λ t. judgedText (f t) (judged (start (m .before) .args .plain) (f t))) (m .before .settings .ensures)) (c .before .before .put-accepted .ensures)
 
 returns-2 : tie.Need-returns-2
 returns-2 c =
@@ -65,8 +63,8 @@ returns-2 c =
     let m = at-n .before .before .before .before .before .before in
     let f = case (m .before) in
     let i = f (m .before .settings .result) in
-    let e = refused-text i _ _ (sym (at-n .n .given .1) ∙ answers-fix i _ (m .msdf-error-correction .ensures .0)) in
-    written-as _ (e ∙ ap (λ t. answerText (f t) (answer (f t))) (m .before .settings .ensures)) (c .before .before .put-refused .ensures)
+    let e = refused-text _ i _ _ (sym (at-n .n .given .1) ∙ m .judge .ensures .0) in
+    written-as _ (e ∙ ap (λ t. judgedText (f t) (judged (start (m .before) .args .plain) (f t))) (m .before .settings .ensures)) (c .before .before .put-refused .ensures)
 
 pub run-spec : {M : Type 1} → statement M
 run-spec =

@@ -5,9 +5,9 @@ use native.Mathlib.Omega.{arith}
 use lib.ListN.{length}
 use denote.Ref.{now}
 use borrow.Author.Needs.{needs}
-use Rattle.ground.proofs.Laws.Write.{written-then, written-room}
-use Rattle.reading.specs.Text.{acceptedText}
-use Rattle.reading.proofs.text.Lengths.{size-length, counts-length, rows-length}
+use Rattle.ground.proofs.Laws.Write.{written-then, written-room, written-length}
+use Rattle.reading.specs.Text.{acceptedWith}
+use Rattle.reading.proofs.text.Lengths.{size-length, rows-length}
 use Rattle.reading.proofs.text.put_accepted.Statement.{statement}
 use Rattle.reading.proofs.text.put_accepted.Tie as tie
 
@@ -27,9 +27,7 @@ size-room c =
     written-room 68 131004 (c .put-size .ensures) (size-length (b .width) (b .height) (b .channels) (omega arith) (omega arith) (omega arith)) (omega arith)
 
 counts-room : (c : tie.After-put-counts) → c .put-counts .result + 130891 ≤ length (c .put-counts .last .0)
-counts-room c =
-    let a = start (sized c) .args in
-    written-room 113 130891 (c .put-counts .ensures) (counts-length (a .c) (a .tests) (omega arith) (omega arith) (omega arith) (omega arith)) (omega (arith, size-room (sized c)))
+counts-room c = omega (arith, c .put-counts .ensures .1, written-length (c .put-counts .ensures .0), size-room (sized c))
 
 -- ---- the needs
 
@@ -50,11 +48,11 @@ put-texels-requires c κs =
     ((r, s .pre .1 .0), (s .pre .1 .1, s .pre .0 .1, s .pre .0 .0, omega arith))
 
 returns : tie.Need-returns
-unfolding acceptedText
+unfolding acceptedWith
 returns c =
     let at-put-rows = c .before .before .before .before .before .before in
     let at-put-counts = at-put-rows .before .before .before .before in
-    written-then (sized at-put-counts .put-size .ensures) (written-then (at-put-counts .put-counts .ensures) (written-then (at-put-rows .put-rows .ensures) (c .before .before .put-texels .ensures)))
+    written-then (sized at-put-counts .put-size .ensures) (written-then (at-put-counts .put-counts .ensures .0) (written-then (at-put-rows .put-rows .ensures) (c .before .before .put-texels .ensures)))
 
 pub put-accepted-spec : {M : Type 1} → statement M
 put-accepted-spec =

@@ -1,55 +1,55 @@
--- `reading::text::put_counts` meets its contract. Assumes nothing.
-use Prim.Native.Nat.{_+_, _^_, _≤_, _<_}
+-- `reading::text::put_counts` meets its contract: each arm is given whether the tests are counted. Assumes nothing.
+use mathlib.Core.List.{List}
+use mathlib.Core.Path.{_≡_}
+use Prim.Native.Nat.{ℕ, _+_, _≤_}
 use native.Mathlib.Omega.{arith}
 use lib.ListN.{length}
 use borrow.Author.Needs.{needs}
+use Rattle.ground.specs.Write.{Written}
 use Rattle.ground.proofs.Laws.Write.{written-then, written-room}
-use Rattle.reading.specs.Text.{countsText}
-use Rattle.reading.proofs.text.Lengths.{numbered-length}
+use Rattle.inputs.specs.declared.stencil.Counts.{Counts}
+use Rattle.reading.specs.Inner.{countsLine}
+use Rattle.reading.specs.Text.{numbered, cellsText, testsText, countsText, countsPlainly}
+use Rattle.reading.specs.declared.text.Tests.{Tests}
+use Rattle.reading.proofs.text.Lengths.{cells-length, counted-length, uncounted-length}
 use Rattle.reading.proofs.text.put_counts.Statement.{statement}
 use Rattle.reading.proofs.text.put_counts.Tie as tie
 
-abbrev start : tie.After-put-named → tie.Start
-start c = c .before .before .before .before
+abbrev start : tie.After-put-cells → tie.Start
+start c = c .before .before .before
 
--- the counts fit a u64
-fits : (c : tie.Start) → (c .args .c .protected < 2 ^ 64) × (c .args .c .error < 2 ^ 64) × (c .args .c .corner < 2 ^ 64)
-fits c = (omega arith, omega arith, omega arith)
+-- the counts have at most 85 bytes, and there is room for the rest
+short : (c : tie.After-put-cells) → length (cellsText (start c .args .c)) ≤ 85
+short c = cells-length (start c .args .c) (omega arith) (omega arith) (omega arith)
 
-abbrev first : tie.After-put-named2 → tie.After-put-named
-first c = c .before .before .before .before .before
+room : (c : tie.After-put-cells) → c .put-cells .result + 28 ≤ length (c .put-cells .last .0)
+room c = written-room 85 28 (c .put-cells .ensures) (short c) (omega arith)
 
-abbrev second : tie.After-put-named3 → tie.After-put-named2
-second c = c .before .before .before .before .before
+-- the line, by what is known of the tests
+line : {out after : List ℕ} {at next : ℕ} (c : Counts) (t u : Tests) → t ≡ u → length (countsLine c u) ≤ 113 → Written out at (countsLine c u) next after → Written out at (countsLine c t) next after × (next ≤ at + 113)
+line c t u e l p = rw e (p, omega (arith, p .to))
 
--- the room after the first count, the second and the third
-room : (c : tie.After-put-named) → c .put-named .result + 82 ≤ length (c .put-named .last .0)
-room c = written-room 31 82 (c .put-named .ensures) (omega (arith, numbered-length (start c .args .c .protected) 32 (fits (start c) .0))) (omega arith)
+put-named-requires : tie.Need-put-named-requires
+put-named-requires c κs = omega (arith, room (c .before .before .before .before .before .before .before))
 
-room-2 : (c : tie.After-put-named2) → c .put-named2 .result + 55 ≤ length (c .put-named2 .last .0)
-room-2 c =
-    let s = start (first c) in
-    written-room 27 55 (c .put-named2 .ensures) (omega (arith, numbered-length (s .args .c .error) 32 (fits s .1))) (omega (arith, room (first c)))
-
-room-3 : (c : tie.After-put-named3) → c .put-named3 .result + 27 ≤ length (c .put-named3 .last .0)
-room-3 c =
-    let s = start (first (second c)) in
-    written-room 28 27 (c .put-named3 .ensures) (omega (arith, numbered-length (s .args .c .corner) 32 (fits s .2))) (omega (arith, room-2 (second c)))
-
-put-named-requires-2 : tie.Need-put-named-requires-2
-put-named-requires-2 c κs = omega (arith, room (c .before .before .before .before))
-
-put-named-requires-3 : tie.Need-put-named-requires-3
-put-named-requires-3 c κs = omega (arith, room-2 (c .before .before .before .before))
-
-put-named-requires-4 : tie.Need-put-named-requires-4
-put-named-requires-4 c κs = omega (arith, room-3 (c .before .before .before .before))
+put-requires : tie.Need-put-requires
+put-requires c κs = omega (arith, room (c .before .before .before .before .before))
 
 returns : tie.Need-returns
-unfolding countsText
+unfolding countsLine countsText testsText numbered
 returns c =
-    let third = c .before .before .before .before .before .before .before in
-    written-then (first (second third) .put-named .ensures) (written-then (second third .put-named2 .ensures) (written-then (third .put-named3 .ensures) (c .before .before .put-named4 .ensures)))
+    let at-tests = c .before .before .before .before .before .before in
+    let at-put-cells = at-tests .before .before .before .before in
+    line _ _ _ (at-tests .tests .given .1) (counted-length _ _ (short at-put-cells) (omega arith)) (written-then (at-put-cells .put-cells .ensures) (c .before .before .put-named .ensures))
+
+returns-2 : tie.Need-returns-2
+unfolding countsLine countsPlainly
+returns-2 c =
+    let at-told = c .before .before .before .before in
+    let at-put-cells = at-told .before .before .before .before in
+    line _ _ _ (at-told .enum-told .given .1) (uncounted-length _ (short at-put-cells)) (written-then (at-put-cells .put-cells .ensures) (c .before .before .put .ensures))
 
 pub put-counts-spec : {M : Type 1} → statement M
-put-counts-spec = tie.close (tie.spec (λ c. search needs) (λ c κs. search needs) (λ c. search needs) put-named-requires-2 (λ c. search needs) put-named-requires-3 (λ c. search needs) put-named-requires-4 (λ c. search needs) returns)
+put-counts-spec =
+    tie.close
+    (tie.spec (λ c κs. search needs) (λ c. search needs) (λ c. search needs) put-named-requires (λ c. search needs) put-requires (λ c. search needs) returns (λ c. search needs) returns-2)

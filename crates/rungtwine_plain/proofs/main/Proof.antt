@@ -1,0 +1,20 @@
+-- `rungtwine_plain::main` meets its contract: what is written is the front of the output that `answer_plainly` filled. Assumes nothing.
+use mathlib.Core.Path.{sym}
+use lib.Seq.{length-take-le}
+use borrow.Author.Needs.{needs}
+use Rattle.reading.specs.Answer.{writtenPlainly}
+use Rattle.reading.proofs.Laws.Bounds.{in-front}
+use Rattle.rungtwine_plain.proofs.main.Statement.{statement}
+use Rattle.rungtwine_plain.proofs.main.Tie as tie
+
+array-share-prefix-output : tie.Need-array-share-prefix-output
+array-share-prefix-output c = in-front writtenPlainly _ _ _ _ _ (c .before .answer-plainly .ensures .0) (c .before .answer-plainly .ensures .1)
+
+slice-aggregate-write-all : tie.Need-slice-aggregate-write-all
+slice-aggregate-write-all c = sym (length-take-le _ _ (in-front writtenPlainly _ _ _ _ _ (c .before .before .answer-plainly .ensures .0) (c .before .before .answer-plainly .ensures .1)))
+
+pub main-spec : {M : Type 1} → statement M
+main-spec =
+    tie.close
+    (tie.spec (λ c κs. search needs) (λ c κs. search needs) (λ c. search needs) (λ c κs. search needs) (λ c. search needs) (λ c. search needs) (λ c. search needs) (λ c κs. search needs)
+    array-share-prefix-output slice-aggregate-write-all (λ c κs. search needs) (λ c. search needs))
