@@ -1,8 +1,8 @@
 -- Collapsing: the first three channels of flagged texels become their median. Definitions only.
-use Prim.Native.Nat.{ℕ, _+_, _/_, _%_}
+use Prim.Native.Nat.{ℕ, _+_, _*_, _/_, _%_}
 use mathlib.Core.Bool.{Bool, cond, _&&_}
-use mathlib.Core.List.{List, [], _∷_}
-use lib.ListN.{getD, length, set}
+use mathlib.Core.List.{List}
+use lib.ListN.{getD, length}
 use lib.Dec.{ltb}
 use lib.Ieee.{Float, nan}
 use Rattle.ground.specs.Lists.{tab}
@@ -20,7 +20,3 @@ collapsedSample xs ch flag j = cond (flag (j / ch) && ltb (j % ch) 3) (cellMedia
 -- the samples after collapsing the texels whose cells are flagged
 unfoldable pub collapsed : List Float → ℕ → (ℕ → Bool) → List Float
 collapsed xs ch flag = tab (length xs) (collapsedSample xs ch flag)
-
--- the three samples from a place on set to the value of their median
-abbrev pub collapsedAt : List Float → ℕ → List Float
-collapsedAt xs at = let m = texelMedian (getD xs at nan ∷ getD xs (at + 1) nan ∷ getD xs (at + 2) nan ∷ []) in set (set (set xs at m) (at + 1) m) (at + 2) m

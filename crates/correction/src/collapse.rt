@@ -5,6 +5,7 @@ ghost use mathlib.Core.Bool.{cond};
 ghost use lib.ListN.{length, getD};
 ghost use Rattle.correction.specs.Bitmap.{place};
 ghost use Rattle.correction.specs.Collapse as Collapse;
+ghost use Rattle.correction.specs.Numbered.{collapsedAt};
 ghost use Rattle.inputs.specs.Inner.{Sized};
 ghost use Rattle.inputs.specs.Stencil.{isError};
 use crate::bitmap;
@@ -15,7 +16,7 @@ use inputs::stencil;
 // The three samples from a place on become the value of their median, a zero's sign included.
 fn collapse(xs: &mut [f32], at: usize)
     requires { ⌜ at + 2 < length (now xs) ⌝ }
-    ensures { λ _. ⌜ now (xs .exit) ≡ Collapse.collapsedAt (now (xs .entry)) at ⌝ }
+    ensures { λ _. ⌜ now (xs .exit) ≡ collapsedAt (now (xs .entry)) at ⌝ }
 {
     let m = texel::median([xs[at], xs[at + 1], xs[at + 2]]);
     xs[at] = m.value;
@@ -27,7 +28,7 @@ fn collapse(xs: &mut [f32], at: usize)
 fn collapse_flagged(xs: &mut [f32], b: Bitmap, v: u8, x: usize, y: usize)
     requires { ⌜ Sized (b .width) (b .height) (b .channels) (now xs) ⌝ }
     requires { ⌜ (x < b .width) × (y < b .height) ⌝ }
-    ensures { λ _. ⌜ now (xs .exit) ≡ cond (isError v) (Collapse.collapsedAt (now (xs .entry)) (place (b .width) (b .channels) x y 0)) (now (xs .entry)) ⌝ }
+    ensures { λ _. ⌜ now (xs .exit) ≡ cond (isError v) (collapsedAt (now (xs .entry)) (place (b .width) (b .channels) x y 0)) (now (xs .entry)) ⌝ }
 {
     if stencil::is_error(v) {
         collapse(xs, bitmap::place(b, x, y));

@@ -1,5 +1,6 @@
 -- What the plain engine answers: what the pass answers, less the number of range tests. Definitions only.
 use Prim.Native.Nat.{ℕ}
+use mathlib.Core.Bool.{Bool, true, false}
 use Rattle.correction.specs.declared.pass.Answer.{Answer}
 use Rattle.correction.specs.declared.pass.Answer.the-variants.{Accepted, Refused}
 use Rattle.plain.specs.declared.pass.Answer as Plain
@@ -16,7 +17,12 @@ untested (Refused n p) = plain.Refused n p
 unfoldable pub plainAnswer : Input → Plain.Answer
 plainAnswer i = untested (answer i)
 
--- ---- a plain answer's number, place and counts
+-- ---- a plain answer's case, number, place and counts
+
+-- whether it accepts
+unfoldable pub isAccepted : Plain.Answer → Bool
+isAccepted (plain.Accepted c) = true
+isAccepted (plain.Refused n p) = false
 
 -- its number, 0 where it accepts
 unfoldable pub numberOf : Plain.Answer → ℕ

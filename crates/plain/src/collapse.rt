@@ -5,13 +5,14 @@ ghost use mathlib.Core.Bool.{cond};
 ghost use lib.ListN.{length, getD};
 ghost use Rattle.inputs.specs.Stencil.{isError};
 ghost use Rattle.correction.specs.Collapse as Collapse;
+ghost use Rattle.correction.specs.Numbered.{collapsedAt};
 ghost use Rattle.plain.specs.Inner.{Collapsible};
 use numbers::scalar;
 
 // The texel whose samples stand from a place on.
 fn collapse_texel(xs: &mut [f32], at: usize, flagged: bool)
     requires { ⌜ at + 2 < length (now xs) ⌝ }
-    ensures { λ _. ⌜ now (xs .exit) ≡ cond flagged (Collapse.collapsedAt (now (xs .entry)) at) (now (xs .entry)) ⌝ }
+    ensures { λ _. ⌜ now (xs .exit) ≡ cond flagged (collapsedAt (now (xs .entry)) at) (now (xs .entry)) ⌝ }
 {
     if flagged {
         let m = scalar::median_value(xs[at], xs[at + 1], xs[at + 2]);

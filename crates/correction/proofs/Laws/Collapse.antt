@@ -18,7 +18,8 @@ use borrow.Author.Tests.{lt-ltb, le-ltb}
 use Rattle.detectors.specs.Texel.{texelMedian}
 use Rattle.ground.specs.Lists.{tab}
 use Rattle.ground.proofs.Laws.Fill.{tab-length, tab-at, tab-same, Filled, filled-more, filled-run, filled-at}
-use Rattle.correction.specs.Collapse.{cellMedian, collapsedSample, collapsed, collapsedAt}
+use Rattle.correction.specs.Collapse.{cellMedian, collapsedSample, collapsed}
+use Rattle.correction.specs.Numbered.{collapsedAt}
 
 -- sample r of texel k after collapsing
 at-channel : (flag : ℕ → Bool) (xs : List Float) (ch k r : ℕ) → r < ch → collapsedSample xs ch flag (k * ch + r) ≡ cond (flag k && ltb r 3) (cellMedian xs ch k) (getD xs (k * ch + r) nan)

@@ -10,7 +10,8 @@ use lib.Ieee.{Float, nan}
 use Rattle.ground.proofs.Laws.Fill.{Filled, filled-none, filled-at, filled-all}
 use Rattle.correction.specs.declared.bitmap.Visit.{Visit}
 use Rattle.correction.specs.Bitmap.{place}
-use Rattle.correction.specs.Collapse.{collapsedSample, collapsed, collapsedAt}
+use Rattle.correction.specs.Collapse.{collapsedSample, collapsed}
+use Rattle.correction.specs.Numbered.{collapsedAt}
 use Rattle.correction.proofs.Laws.Collapse.{kept, flat}
 use Rattle.correction.specs.Inner.{Reached}
 use Rattle.inputs.specs.Inner.{Sized}

@@ -1,14 +1,19 @@
--- The plain engine's answer has the number, the place and the counts of its input, as the first engine's has. Assumes nothing.
+-- The plain engine's answer has the case, the number, the place and the counts of its input, as the first engine's has. Assumes nothing.
 use mathlib.Core.Path.{_≡_, refl, _∙_}
 use Rattle.correction.specs.declared.pass.Answer.{Answer}
 use Rattle.correction.specs.declared.pass.Answer.the-variants.{Accepted, Refused}
-use Rattle.inputs.specs.Checks.{Input, refusalNumber, refusalPlace}
+use Rattle.inputs.specs.Checks.{Input, accepted, refusalNumber, refusalPlace}
 use Rattle.correction.specs.Pass as Pass
 use Rattle.correction.specs.Pass.{answer, protectedCells, errorCells, cornerCells}
 use Rattle.correction.proofs.Laws.Answer.{answer-answers}
-use Rattle.plain.specs.Answer.{untested, plainAnswer, numberOf, placeIn, protectedIn, errorsIn, cornersIn}
+use Rattle.plain.specs.Answer.{untested, plainAnswer, isAccepted, numberOf, placeIn, protectedIn, errorsIn, cornersIn}
 
 -- ---- without its number of range tests an answer keeps the rest
+
+keeps-case : (r : Answer) → isAccepted (untested r) ≡ Pass.isAccepted r
+unfolding untested isAccepted Pass.isAccepted
+keeps-case (Accepted c t) = refl
+keeps-case (Refused n p) = refl
 
 keeps-number : (r : Answer) → numberOf (untested r) ≡ Pass.numberOf r
 unfolding untested numberOf Pass.numberOf
@@ -37,7 +42,12 @@ keeps-corners (Refused n p) = refl
 
 -- ---- what the plain engine answers
 
--- Its number is that of the first check that fails,
+-- It accepts where no check fails,
+pub plain-accepts : (i : Input) → isAccepted (plainAnswer i) ≡ accepted i
+unfolding plainAnswer
+plain-accepts i = keeps-case (answer i) ∙ answer-answers i .accepts
+
+-- its number is that of the first check that fails,
 pub plain-number : (i : Input) → numberOf (plainAnswer i) ≡ refusalNumber i
 unfolding plainAnswer
 plain-number i = keeps-number (answer i) ∙ answer-answers i .number

@@ -15,7 +15,8 @@ use lib.Ieee.{Float, nan}
 use Rattle.ground.proofs.Laws.Fill.{Filled, filled-none, filled-at, filled-all}
 use Rattle.inputs.specs.Stencil.{isError}
 use Rattle.inputs.proofs.Laws.Places.{place-lt, next-row}
-use Rattle.correction.specs.Collapse.{collapsedSample, collapsed, collapsedAt}
+use Rattle.correction.specs.Collapse.{collapsedSample, collapsed}
+use Rattle.correction.specs.Numbered.{collapsedAt}
 use Rattle.correction.proofs.Laws.Collapse.{kept, flat}
 use Rattle.plain.specs.Inner.{Collapsible}
 
