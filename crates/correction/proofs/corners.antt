@@ -1,4 +1,5 @@
--- Clipped columns, the four texels around a point, contours.
+-- Clipped columns, the four texels around a point, contours, and painting in a window.
 pub mod Around
 pub mod Clips
 pub mod Contours
+pub mod Strokes

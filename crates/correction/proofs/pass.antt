@@ -1,3 +1,2 @@
--- What the stages of the pass leave for each other.
-pub mod Staged
+-- The answer of the pass.
 pub mod Whole

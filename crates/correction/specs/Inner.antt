@@ -1,7 +1,7 @@
 -- What the inner functions ask of each other and leave for each other. No public function's promise rests on this page. Definitions only.
 use mathlib.Core.Path.{_≡_}
-use Prim.Native.Nat.{ℕ, zero, suc, _+_, _-_, _/_, _%_, _≤_, _<_}
-use mathlib.Core.Bool.{Bool, cond, _&&_, _||_}
+use Prim.Native.Nat.{ℕ, zero, suc, _+_, _-_, _*_, _/_, _%_, _≤_, _<_}
+use mathlib.Core.Bool.{Bool, false, cond, _&&_, _||_}
 use mathlib.Core.List.{List}
 use lib.ListN.{getD, length}
 use lib.Dec.{eqb, ltb}
@@ -10,18 +10,22 @@ use lib.Ieee.{Float}
 use Rattle.ranges.specs.declared.config.Settings.{Settings}
 use Rattle.detectors.specs.Texel.{texelMedian}
 use Rattle.detectors.specs.Edge.{protectsLower, protectsUpper}
+use Rattle.inputs.specs.declared.sizes.Window.{Window}
+use Rattle.inputs.specs.Window.{cellIn, cutCells, cutSamples}
+use Rattle.inputs.specs.Checks.{Input, input}
 use Rattle.correction.specs.declared.bitmap.Visit.{Visit}
 use Rattle.correction.specs.declared.bitmap.Centre.{Centre}
 use Rattle.ground.specs.Lists.{tab, total}
 use Rattle.correction.specs.Bitmap.{cell, texel, inBounds}
-use Rattle.inputs.specs.Stencil.{isProtected, setCorner, setProtected, setError}
+use Rattle.inputs.specs.Stencil.{stencilByte, isProtected, setCorner, setProtected, setError}
 use Rattle.correction.specs.Errors.{hasArtifact, testsMade}
+use Rattle.correction.specs.Pass.{cornered, protects}
 
--- A sweep over the cells of a bitmap, row by row, has come to this one, or past the last row.
-pub record Reached (w h : ℕ) (at : Visit) : Type 0 where
-  pub here : at .number ≡ cell w (at .x) (at .y)
-  pub column : at .x < w
-  pub row : at .y ≤ h
+-- A sweep over the cells of a window, row by row, has come to this one, or past the last row.
+pub record Reached (g : Window) (at : Visit) : Type 0 where
+  pub here : at .number ≡ cellIn g (at .x) (at .y)
+  pub column : at .x < g .width
+  pub row : at .y ≤ g .height
 
 -- texel x, y as the centre of its neighbours
 abbrev pub centreOf : List Float → ℕ → ℕ → ℕ → ℕ → Centre
@@ -78,3 +82,15 @@ madeFor xs w h ch s v x y = testsMade (texel xs w ch) w h s (isProtected v) x y
 -- the range tests made in finding
 unfoldable pub madeIn : List Float → ℕ → ℕ → ℕ → Settings → List ℕ → ℕ
 madeIn xs w h ch s st = total (length st) (λ k. madeFor xs w h ch s (getD st k 0) (k % w) (k / w))
+
+-- the cells of a window hold zeros
+abbrev pub Cleared : Window → List ℕ → Type 0
+Cleared g st = cutCells g st ≡ tab (g .height * g .width) (λ k. 0)
+
+-- a window as a bitmap alone, with a stencil of zeros
+abbrev pub cutOut : Window → List Float → ℕ → Settings → List ℕ → List Float → List ℕ → Input
+cutOut g xs mode s colours coords ends = input (g .width) (g .height) (g .channels) (cutSamples g xs) (tab (g .height * g .width) (λ k. 0)) mode s colours coords ends
+
+-- the stencil that protection leaves
+unfoldable pub shieldedCells : Input → List ℕ
+shieldedCells i = tab (i .height * i .width) (λ k. stencilByte (cornered i (k % i .width) (k / i .width)) (protects i (k % i .width) (k / i .width)) false)

@@ -3,14 +3,14 @@ ghost use mathlib.Core.Path.{_≡_};
 ghost use Prim.Native.Nat.{_+_, _*_, _<_};
 ghost use mathlib.Core.Bool.{cond};
 ghost use lib.ListN.{length, getD};
-ghost use Rattle.correction.specs.Bitmap.{place};
 ghost use Rattle.correction.specs.Collapse as Collapse;
 ghost use Rattle.correction.specs.Numbered.{collapsedAt};
-ghost use Rattle.inputs.specs.Inner.{Sized};
+ghost use Rattle.inputs.specs.Inner.{Sampled, Stencilled};
+ghost use Rattle.inputs.specs.Window.{cellIn, cutCells, cutSamples, SamplesPasted};
 ghost use Rattle.inputs.specs.Stencil.{isError};
 use crate::bitmap;
 use detectors::texel;
-use inputs::sizes::Bitmap;
+use inputs::sizes::Window;
 use inputs::stencil;
 
 // The three samples from a place on become the value of their median, a zero's sign included.
@@ -25,10 +25,10 @@ fn collapse(xs: &mut [f32], at: usize)
 }
 
 // Those of texel x, y where the byte v of its cell has the error bit.
-fn collapse_flagged(xs: &mut [f32], b: Bitmap, v: u8, x: usize, y: usize)
-    requires { ⌜ Sized (b .width) (b .height) (b .channels) (now xs) ⌝ }
+fn collapse_flagged(xs: &mut [f32], b: Window, v: u8, x: usize, y: usize)
+    requires { ⌜ Sampled b (now xs) ⌝ }
     requires { ⌜ (x < b .width) × (y < b .height) ⌝ }
-    ensures { λ _. ⌜ now (xs .exit) ≡ cond (isError v) (collapsedAt (now (xs .entry)) (place (b .width) (b .channels) x y 0)) (now (xs .entry)) ⌝ }
+    ensures { λ _. ⌜ now (xs .exit) ≡ cond (isError v) (collapsedAt (now (xs .entry)) (cellIn b x y * b .channels)) (now (xs .entry)) ⌝ }
 {
     if stencil::is_error(v) {
         collapse(xs, bitmap::place(b, x, y));
@@ -36,10 +36,10 @@ fn collapse_flagged(xs: &mut [f32], b: Bitmap, v: u8, x: usize, y: usize)
 }
 
 // Collapses each texel whose cell has the error bit.
-pub fn apply(stencil: &[u8], xs: &mut [f32], b: Bitmap)
-    requires { ⌜ Sized (b .width) (b .height) (b .channels) (now xs) ⌝ }
-    requires { ⌜ length (now stencil) ≡ b .height * b .width ⌝ }
-    ensures { λ _. ⌜ now (xs .exit) ≡ Collapse.collapsed (now (xs .entry)) (b .channels) (λ k. isError (getD (now (stencil .entry)) k 0)) ⌝ }
+pub fn apply(stencil: &[u8], xs: &mut [f32], b: Window)
+    requires { ⌜ Sampled b (now xs) ⌝ }
+    requires { ⌜ Stencilled b (now stencil) ⌝ }
+    ensures { λ _. ⌜ SamplesPasted b (now (xs .entry)) (now (xs .exit)) (Collapse.collapsed (cutSamples b (now (xs .entry))) (b .channels) (λ k. isError (getD (cutCells b (now (stencil .entry))) k 0))) ⌝ }
 {
     let mut at = bitmap::first(b);
     while at.y < b.height {

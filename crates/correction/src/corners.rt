@@ -7,10 +7,11 @@ ghost use lib.ListN.{length};
 ghost use Rattle.correction.specs.Corners as Corners;
 ghost use Rattle.correction.specs.Inner.{atCorner, spot, clip};
 ghost use Rattle.correction.specs.Numbered.{cornerHits, contourHits};
-ghost use Rattle.inputs.specs.Inner.{Celled, Outlined};
+ghost use Rattle.inputs.specs.Inner.{Stencilled, Outlined};
+ghost use Rattle.inputs.specs.Window.{cutCells, CellsPasted};
 ghost use Rattle.ground.specs.Lists.{painted};
 use crate::bitmap;
-use inputs::sizes::Bitmap;
+use inputs::sizes::Window;
 use inputs::stencil;
 use numbers::rounding;
 use ranges::constants;
@@ -45,9 +46,9 @@ fn lower(x: f64, n: usize) -> usize
 }
 
 // Sets the corner and the protected bit of the cell at column nx and row ny, counted from 1, where they are inside.
-fn mark(stencil: &mut [u8], b: Bitmap, nx: usize, ny: usize)
-    requires { ⌜ Celled (b .width) (b .height) (now stencil) ⌝ }
-    ensures { λ _. ⌜ now (stencil .exit) ≡ painted atCorner (spot (b .width) (b .height) nx ny) (now (stencil .entry)) ⌝ }
+fn mark(stencil: &mut [u8], b: Window, nx: usize, ny: usize)
+    requires { ⌜ Stencilled b (now stencil) ⌝ }
+    ensures { λ _. ⌜ CellsPasted b (now (stencil .entry)) (now (stencil .exit)) (painted atCorner (spot (b .width) (b .height) nx ny) (cutCells b (now (stencil .entry)))) ⌝ }
 {
     if bitmap::in_bounds(b, nx, ny) {
         let k = bitmap::cell(b, nx - 1, ny - 1);
@@ -56,9 +57,9 @@ fn mark(stencil: &mut [u8], b: Bitmap, nx: usize, ny: usize)
 }
 
 // The four cells around a point.
-fn mark_around(stencil: &mut [u8], b: Bitmap, px: f64, py: f64)
-    requires { ⌜ Celled (b .width) (b .height) (now stencil) ⌝ }
-    ensures { λ _. ⌜ now (stencil .exit) ≡ painted atCorner (λ k. Corners.beside (Corners.lower px) (k % b .width) && Corners.beside (Corners.lower py) (k / b .width)) (now (stencil .entry)) ⌝ }
+fn mark_around(stencil: &mut [u8], b: Window, px: f64, py: f64)
+    requires { ⌜ Stencilled b (now stencil) ⌝ }
+    ensures { λ _. ⌜ CellsPasted b (now (stencil .entry)) (now (stencil .exit)) (painted atCorner (λ k. Corners.beside (Corners.lower px) (k % b .width) && Corners.beside (Corners.lower py) (k / b .width)) (cutCells b (now (stencil .entry)))) ⌝ }
 {
     let left = lower(px, b.width);
     let bottom = lower(py, b.height);
@@ -95,16 +96,16 @@ fn previous(c: Contour, i: usize) -> usize
 // Segment i of a contour, where it is a corner.
 fn protect_corner(
     stencil: &mut [u8],
-    b: Bitmap,
+    b: Window,
     colours: &[u8],
     coords: &[f64],
     c: Contour,
     i: usize,
 )
-    requires { ⌜ Celled (b .width) (b .height) (now stencil) ⌝ }
+    requires { ⌜ Stencilled b (now stencil) ⌝ }
     requires { ⌜ (length (now coords) ≡ 2 * length (now colours)) × (length (now colours) ≤ 65536) ⌝ }
     requires { ⌜ (c .from ≤ i) × (i < c .end) × (c .end ≤ length (now colours)) ⌝ }
-    ensures { λ _. ⌜ now (stencil .exit) ≡ painted atCorner (λ k. cornerHits (now (colours .entry)) (now (coords .entry)) (c .from) (c .end) i (k % b .width) (k / b .width)) (now (stencil .entry)) ⌝ }
+    ensures { λ _. ⌜ CellsPasted b (now (stencil .entry)) (now (stencil .exit)) (painted atCorner (λ k. cornerHits (now (colours .entry)) (now (coords .entry)) (c .from) (c .end) i (k % b .width) (k / b .width)) (cutCells b (now (stencil .entry)))) ⌝ }
 {
     let j = previous(c, i);
     if is_corner(colours[j], colours[i]) {
@@ -113,11 +114,11 @@ fn protect_corner(
 }
 
 // One contour.
-fn protect_contour(stencil: &mut [u8], b: Bitmap, colours: &[u8], coords: &[f64], c: Contour)
-    requires { ⌜ Celled (b .width) (b .height) (now stencil) ⌝ }
+fn protect_contour(stencil: &mut [u8], b: Window, colours: &[u8], coords: &[f64], c: Contour)
+    requires { ⌜ Stencilled b (now stencil) ⌝ }
     requires { ⌜ (length (now coords) ≡ 2 * length (now colours)) × (length (now colours) ≤ 65536) ⌝ }
     requires { ⌜ (c .from ≤ c .end) × (c .end ≤ length (now colours)) ⌝ }
-    ensures { λ _. ⌜ now (stencil .exit) ≡ painted atCorner (λ k. contourHits (now (colours .entry)) (now (coords .entry)) (c .from) (c .end) (k % b .width) (k / b .width)) (now (stencil .entry)) ⌝ }
+    ensures { λ _. ⌜ CellsPasted b (now (stencil .entry)) (now (stencil .exit)) (painted atCorner (λ k. contourHits (now (colours .entry)) (now (coords .entry)) (c .from) (c .end) (k % b .width) (k / b .width)) (cutCells b (now (stencil .entry)))) ⌝ }
 {
     let mut i = c.from;
     while i < c.end {
@@ -129,14 +130,14 @@ fn protect_contour(stencil: &mut [u8], b: Bitmap, colours: &[u8], coords: &[f64]
 // All contours; an empty one is skipped.
 pub fn protect_corners(
     stencil: &mut [u8],
-    b: Bitmap,
+    b: Window,
     colours: &[u8],
     coords: &[f64],
     ends: &[usize],
 )
-    requires { ⌜ Celled (b .width) (b .height) (now stencil) ⌝ }
+    requires { ⌜ Stencilled b (now stencil) ⌝ }
     requires { ⌜ Outlined (now colours) (now coords) (now ends) ⌝ }
-    ensures { λ _. ⌜ now (stencil .exit) ≡ painted atCorner (λ k. Corners.cornersProtect (Corners.contours (now (colours .entry)) (now (coords .entry)) (now (ends .entry))) (k % b .width) (k / b .width)) (now (stencil .entry)) ⌝ }
+    ensures { λ _. ⌜ CellsPasted b (now (stencil .entry)) (now (stencil .exit)) (painted atCorner (λ k. Corners.cornersProtect (Corners.contours (now (colours .entry)) (now (coords .entry)) (now (ends .entry))) (k % b .width) (k / b .width)) (cutCells b (now (stencil .entry)))) ⌝ }
 {
     let mut from = 0usize;
     let mut c = 0usize;

@@ -2,20 +2,20 @@
 ghost use mathlib.Core.Path.{_≡_};
 ghost use Prim.Native.Nat.{_*_, _/_, _%_, _<_};
 ghost use mathlib.Core.Bool.{cond, _||_};
-ghost use lib.ListN.{length};
 ghost use lib.Ieee.{lt};
 ghost use Rattle.detectors.specs.Texel.{texelMedian};
 ghost use Rattle.correction.specs.Bitmap.{texel};
 ghost use Rattle.correction.specs.Edges as Edges;
 ghost use Rattle.correction.specs.Inner.{Centred, protectsAs, asEither, someOf};
-ghost use Rattle.inputs.specs.Inner.{Sized};
+ghost use Rattle.inputs.specs.Inner.{Sampled, Stencilled};
+ghost use Rattle.inputs.specs.Window.{cutCells, cutSamples, CellsPasted};
 ghost use Rattle.ground.specs.Lists.{painted};
 ghost use Rattle.inputs.specs.Stencil.{setProtected};
 use crate::bitmap;
 use crate::bitmap::Centre;
 use detectors::edge;
 use detectors::texel;
-use inputs::sizes::Bitmap;
+use inputs::sizes::Window;
 use inputs::stencil;
 use ranges::config::Settings;
 
@@ -59,20 +59,20 @@ fn protects(r: f32, lower: bool, t: Centre, n: [f32; 3]) -> bool
 
 // The same with the neighbour at column nx and row ny, counted from 1.
 // Where the texel is too far by itself the neighbour is not looked at.
-fn as_either(xs: &[f32], b: Bitmap, r: f32, lower: bool, t: Centre, nx: usize, ny: usize) -> bool
-    requires { ⌜ Sized (b .width) (b .height) (b .channels) (now xs) ⌝ }
-    requires { ⌜ Centred (now xs) (b .width) (b .height) (b .channels) t ⌝ }
-    ensures { λ v. ⌜ v ≡ asEither lower (texel (now (xs .entry)) (b .width) (b .channels)) (b .width) (b .height) r (t .x) (t .y) nx ny ⌝ }
+fn as_either(xs: &[f32], b: Window, r: f32, lower: bool, t: Centre, nx: usize, ny: usize) -> bool
+    requires { ⌜ Sampled b (now xs) ⌝ }
+    requires { ⌜ Centred (cutSamples b (now xs)) (b .width) (b .height) (b .channels) t ⌝ }
+    ensures { λ v. ⌜ v ≡ asEither lower (texel (cutSamples b (now (xs .entry))) (b .width) (b .channels)) (b .width) (b .height) r (t .x) (t .y) nx ny ⌝ }
 {
     edge::away(t.median) < r
         && (bitmap::in_bounds(b, nx, ny) && protects(r, lower, t, bitmap::neighbour(xs, b, nx, ny)))
 }
 
 // Some pair with one half of the neighbours protects the texel of t.
-fn some_of(xs: &[f32], b: Bitmap, r: Radii, t: Centre, n: Half) -> bool
-    requires { ⌜ Sized (b .width) (b .height) (b .channels) (now xs) ⌝ }
-    requires { ⌜ Centred (now xs) (b .width) (b .height) (b .channels) t ⌝ }
-    ensures { λ v. ⌜ v ≡ someOf (n .lower) (texel (now (xs .entry)) (b .width) (b .channels)) (b .width) (b .height) (r .horizontal) (r .vertical) (r .diagonal) (t .x) (t .y) (n .ahead) (n .behind) (n .level) ⌝ }
+fn some_of(xs: &[f32], b: Window, r: Radii, t: Centre, n: Half) -> bool
+    requires { ⌜ Sampled b (now xs) ⌝ }
+    requires { ⌜ Centred (cutSamples b (now xs)) (b .width) (b .height) (b .channels) t ⌝ }
+    ensures { λ v. ⌜ v ≡ someOf (n .lower) (texel (cutSamples b (now (xs .entry))) (b .width) (b .channels)) (b .width) (b .height) (r .horizontal) (r .vertical) (r .diagonal) (t .x) (t .y) (n .ahead) (n .behind) (n .level) ⌝ }
 {
     as_either(xs, b, r.horizontal, n.lower, t, n.ahead, t.y + 1)
         || (as_either(xs, b, r.vertical, n.lower, t, t.x + 1, n.level)
@@ -81,10 +81,10 @@ fn some_of(xs: &[f32], b: Bitmap, r: Radii, t: Centre, n: Half) -> bool
 }
 
 // Some pair protects texel x, y. Most texels are too far from the outline for any.
-fn some_edge(xs: &[f32], b: Bitmap, r: Radii, x: usize, y: usize) -> bool
-    requires { ⌜ Sized (b .width) (b .height) (b .channels) (now xs) ⌝ }
+fn some_edge(xs: &[f32], b: Window, r: Radii, x: usize, y: usize) -> bool
+    requires { ⌜ Sampled b (now xs) ⌝ }
     requires { ⌜ (x < b .width) × (y < b .height) ⌝ }
-    ensures { λ v. ⌜ v ≡ Edges.someEdge (texel (now (xs .entry)) (b .width) (b .channels)) (b .width) (b .height) (r .horizontal) (r .vertical) (r .diagonal) x y ⌝ }
+    ensures { λ v. ⌜ v ≡ Edges.someEdge (texel (cutSamples b (now (xs .entry))) (b .width) (b .channels)) (b .width) (b .height) (r .horizontal) (r .vertical) (r .diagonal) x y ⌝ }
 {
     let t = bitmap::centre_at(xs, b, x, y);
     let above = Half {
@@ -103,10 +103,10 @@ fn some_edge(xs: &[f32], b: Bitmap, r: Radii, x: usize, y: usize) -> bool
 }
 
 // The byte of a cell, with its protected bit set where a pair protects its texel.
-fn protected_byte(xs: &[f32], b: Bitmap, r: Radii, v: u8, x: usize, y: usize) -> u8
-    requires { ⌜ Sized (b .width) (b .height) (b .channels) (now xs) ⌝ }
+fn protected_byte(xs: &[f32], b: Window, r: Radii, v: u8, x: usize, y: usize) -> u8
+    requires { ⌜ Sampled b (now xs) ⌝ }
     requires { ⌜ (x < b .width) × (y < b .height) ⌝ }
-    ensures { λ u. ⌜ u ≡ cond (Edges.someEdge (texel (now (xs .entry)) (b .width) (b .channels)) (b .width) (b .height) (r .horizontal) (r .vertical) (r .diagonal) x y) (setProtected v) v ⌝ }
+    ensures { λ u. ⌜ u ≡ cond (Edges.someEdge (texel (cutSamples b (now (xs .entry))) (b .width) (b .channels)) (b .width) (b .height) (r .horizontal) (r .vertical) (r .diagonal) x y) (setProtected v) v ⌝ }
 {
     if some_edge(xs, b, r, x, y) {
         stencil::set_protected(v)
@@ -116,10 +116,10 @@ fn protected_byte(xs: &[f32], b: Bitmap, r: Radii, v: u8, x: usize, y: usize) ->
 }
 
 // Protects each texel that a pair protects.
-pub fn protect_edges(stencil: &mut [u8], xs: &[f32], b: Bitmap, s: Settings)
-    requires { ⌜ Sized (b .width) (b .height) (b .channels) (now xs) ⌝ }
-    requires { ⌜ length (now stencil) ≡ b .height * b .width ⌝ }
-    ensures { λ _. ⌜ now (stencil .exit) ≡ painted setProtected (λ k. Edges.edgesProtect (texel (now (xs .entry)) (b .width) (b .channels)) (b .width) (b .height) s (k % b .width) (k / b .width)) (now (stencil .entry)) ⌝ }
+pub fn protect_edges(stencil: &mut [u8], xs: &[f32], b: Window, s: Settings)
+    requires { ⌜ Sampled b (now xs) ⌝ }
+    requires { ⌜ Stencilled b (now stencil) ⌝ }
+    ensures { λ _. ⌜ CellsPasted b (now (stencil .entry)) (now (stencil .exit)) (painted setProtected (λ k. Edges.edgesProtect (texel (cutSamples b (now (xs .entry))) (b .width) (b .channels)) (b .width) (b .height) s (k % b .width) (k / b .width)) (cutCells b (now (stencil .entry)))) ⌝ }
 {
     let r = Radii {
         horizontal: edge::radius(s.horizontal),

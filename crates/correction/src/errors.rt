@@ -3,37 +3,37 @@ ghost use mathlib.Core.Path.{_≡_};
 ghost use Prim.Native.Nat.{_+_, _*_, _<_};
 ghost use mathlib.Core.Bool.{cond};
 ghost use lib.Dec.{eqb, leb};
-ghost use lib.ListN.{length};
 ghost use Rattle.ranges.specs.Config.{sideSpan, diagonalSpan};
 ghost use Rattle.detectors.specs.Verdict.{verdict};
 ghost use Rattle.inputs.specs.Stencil.{isProtected, setError};
 ghost use Rattle.correction.specs.Bitmap.{texel};
 ghost use Rattle.correction.specs.Errors as Errors;
 ghost use Rattle.correction.specs.Inner.{found, madeFor, madeIn};
-ghost use Rattle.inputs.specs.Inner.{Sized};
+ghost use Rattle.inputs.specs.Inner.{Sampled, Stencilled};
+ghost use Rattle.inputs.specs.Window.{cutCells, cutSamples, CellsPasted};
 use crate::bitmap;
 use crate::bitmap::Centre;
 use detectors::diagonal;
 use detectors::linear;
 use detectors::texel;
 use detectors::verdict;
-use inputs::sizes::Bitmap;
+use inputs::sizes::Window;
 use inputs::stencil;
 use ranges::config::Settings;
 
 // Texel a of t against the side neighbour at column nx and row ny, counted from 1: in its column where nx is its own, else in its row.
 fn side_artifact(
     xs: &[f32],
-    b: Bitmap,
+    b: Window,
     s: Settings,
     protected: bool,
     t: Centre,
     nx: usize,
     ny: usize,
 ) -> usize
-    requires { ⌜ Sized (b .width) (b .height) (b .channels) (now xs) ⌝ }
+    requires { ⌜ Sampled b (now xs) ⌝ }
     requires { ⌜ (t .x < b .width) × (t .y < b .height) ⌝ }
-    ensures { λ r. ⌜ r ≡ verdict (Errors.sideArtifact (texel (now (xs .entry)) (b .width) (b .channels)) (b .width) (b .height) (sideSpan s (eqb nx (t .x + 1))) protected (t .median) (t .texel) nx ny) (Errors.sideTests (texel (now (xs .entry)) (b .width) (b .channels)) (b .width) (b .height) (sideSpan s (eqb nx (t .x + 1))) protected (t .median) (t .texel) nx ny) ⌝ }
+    ensures { λ r. ⌜ r ≡ verdict (Errors.sideArtifact (texel (cutSamples b (now (xs .entry))) (b .width) (b .channels)) (b .width) (b .height) (sideSpan s (eqb nx (t .x + 1))) protected (t .median) (t .texel) nx ny) (Errors.sideTests (texel (cutSamples b (now (xs .entry))) (b .width) (b .channels)) (b .width) (b .height) (sideSpan s (eqb nx (t .x + 1))) protected (t .median) (t .texel) nx ny) ⌝ }
 {
     let a = t.texel;
     if bitmap::in_bounds(b, nx, ny) {
@@ -46,16 +46,16 @@ fn side_artifact(
 // Texel a of t against the diagonal neighbour at column nx and row ny, counted from 1. The two beside it are read only once the guard has passed.
 fn diagonal_artifact(
     xs: &[f32],
-    b: Bitmap,
+    b: Window,
     s: Settings,
     protected: bool,
     t: Centre,
     nx: usize,
     ny: usize,
 ) -> usize
-    requires { ⌜ Sized (b .width) (b .height) (b .channels) (now xs) ⌝ }
+    requires { ⌜ Sampled b (now xs) ⌝ }
     requires { ⌜ (t .x < b .width) × (t .y < b .height) ⌝ }
-    ensures { λ r. ⌜ r ≡ verdict (Errors.diagonalArtifact (texel (now (xs .entry)) (b .width) (b .channels)) (b .width) (b .height) (diagonalSpan s) protected (t .median) (t .texel) (t .x) (t .y) nx ny) (Errors.acrossTests (texel (now (xs .entry)) (b .width) (b .channels)) (b .width) (b .height) (diagonalSpan s) protected (t .median) (t .texel) (t .x) (t .y) nx ny) ⌝ }
+    ensures { λ r. ⌜ r ≡ verdict (Errors.diagonalArtifact (texel (cutSamples b (now (xs .entry))) (b .width) (b .channels)) (b .width) (b .height) (diagonalSpan s) protected (t .median) (t .texel) (t .x) (t .y) nx ny) (Errors.acrossTests (texel (cutSamples b (now (xs .entry))) (b .width) (b .channels)) (b .width) (b .height) (diagonalSpan s) protected (t .median) (t .texel) (t .x) (t .y) nx ny) ⌝ }
 {
     if bitmap::in_bounds(b, nx, ny) {
         let d = bitmap::neighbour(xs, b, nx, ny);
@@ -76,10 +76,10 @@ fn diagonal_artifact(
 }
 
 // Texel a of t towards its neighbours in order, up to the first with an artifact: left, below, right, above, lower left, lower right, upper left, upper right.
-fn some_artifact(xs: &[f32], b: Bitmap, s: Settings, protected: bool, t: Centre) -> usize
-    requires { ⌜ Sized (b .width) (b .height) (b .channels) (now xs) ⌝ }
+fn some_artifact(xs: &[f32], b: Window, s: Settings, protected: bool, t: Centre) -> usize
+    requires { ⌜ Sampled b (now xs) ⌝ }
     requires { ⌜ (t .x < b .width) × (t .y < b .height) ⌝ }
-    ensures { λ r. ⌜ r ≡ verdict (Errors.someArtifact (texel (now (xs .entry)) (b .width) (b .channels)) (b .width) (b .height) s protected (t .median) (t .texel) (t .x) (t .y)) (Errors.someMade (texel (now (xs .entry)) (b .width) (b .channels)) (b .width) (b .height) s protected (t .median) (t .texel) (t .x) (t .y)) ⌝ }
+    ensures { λ r. ⌜ r ≡ verdict (Errors.someArtifact (texel (cutSamples b (now (xs .entry))) (b .width) (b .channels)) (b .width) (b .height) s protected (t .median) (t .texel) (t .x) (t .y)) (Errors.someMade (texel (cutSamples b (now (xs .entry))) (b .width) (b .channels)) (b .width) (b .height) s protected (t .median) (t .texel) (t .x) (t .y)) ⌝ }
 {
     let left = t.x;
     let low = t.y;
@@ -119,10 +119,10 @@ fn some_artifact(xs: &[f32], b: Bitmap, s: Settings, protected: bool, t: Centre)
 }
 
 // The verdict of texel x, y, whose cell has the byte v.
-fn verdict_at(xs: &[f32], b: Bitmap, s: Settings, v: u8, x: usize, y: usize) -> usize
-    requires { ⌜ Sized (b .width) (b .height) (b .channels) (now xs) ⌝ }
+fn verdict_at(xs: &[f32], b: Window, s: Settings, v: u8, x: usize, y: usize) -> usize
+    requires { ⌜ Sampled b (now xs) ⌝ }
     requires { ⌜ (x < b .width) × (y < b .height) ⌝ }
-    ensures { λ r. ⌜ r ≡ verdict (Errors.hasArtifact (texel (now (xs .entry)) (b .width) (b .channels)) (b .width) (b .height) s (isProtected v) x y) (madeFor (now (xs .entry)) (b .width) (b .height) (b .channels) s v x y) ⌝ }
+    ensures { λ r. ⌜ r ≡ verdict (Errors.hasArtifact (texel (cutSamples b (now (xs .entry))) (b .width) (b .channels)) (b .width) (b .height) s (isProtected v) x y) (madeFor (cutSamples b (now (xs .entry))) (b .width) (b .height) (b .channels) s v x y) ⌝ }
 {
     let t = bitmap::centre_at(xs, b, x, y);
     some_artifact(xs, b, s, stencil::is_protected(v), t)
@@ -140,11 +140,11 @@ fn marked_byte(v: u8, found: usize) -> u8
 }
 
 // Sets the error bit of each flagged texel's cell, and answers how many range tests that took.
-pub fn find_errors(stencil: &mut [u8], xs: &[f32], b: Bitmap, s: Settings) -> usize
-    requires { ⌜ Sized (b .width) (b .height) (b .channels) (now xs) ⌝ }
-    requires { ⌜ length (now stencil) ≡ b .height * b .width ⌝ }
-    ensures finds { λ _. ⌜ now (stencil .exit) ≡ found (now (xs .entry)) (b .width) (b .height) (b .channels) s (now (stencil .entry)) ⌝ }
-    ensures makes { λ r. ⌜ r ≡ madeIn (now (xs .entry)) (b .width) (b .height) (b .channels) s (now (stencil .entry)) ⌝ }
+pub fn find_errors(stencil: &mut [u8], xs: &[f32], b: Window, s: Settings) -> usize
+    requires { ⌜ Sampled b (now xs) ⌝ }
+    requires { ⌜ Stencilled b (now stencil) ⌝ }
+    ensures finds { λ _. ⌜ CellsPasted b (now (stencil .entry)) (now (stencil .exit)) (found (cutSamples b (now (xs .entry))) (b .width) (b .height) (b .channels) s (cutCells b (now (stencil .entry)))) ⌝ }
+    ensures makes { λ r. ⌜ r ≡ madeIn (cutSamples b (now (xs .entry))) (b .width) (b .height) (b .channels) s (cutCells b (now (stencil .entry))) ⌝ }
 {
     let mut at = bitmap::first(b);
     let mut tests = 0usize;

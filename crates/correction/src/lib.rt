@@ -3,6 +3,8 @@ mod bitmap;
 mod collapse;
 mod corners;
 mod edges;
+mod engine;
 mod errors;
 pub mod pass;
 pub mod view;
+mod window;

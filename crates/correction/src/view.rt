@@ -38,8 +38,9 @@ pub fn texel_view<'a>(
     if y >= height {
         return none;
     }
-    let k = bitmap::cell(b, x, y);
-    let at = bitmap::place(b, x, y);
+    let g = bitmap::whole(b);
+    let k = bitmap::cell(g, x, y);
+    let at = bitmap::place(g, x, y);
     let end = at + channels;
     if stencil::is_error(stencil[k]) {
         return &corrected[at..end];

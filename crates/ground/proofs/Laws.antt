@@ -5,6 +5,7 @@ pub mod Count
 pub mod Spent
 pub mod Fill
 pub mod Painted
+pub mod Picked
 pub mod Nan
 pub mod Refuse
 pub mod Join

@@ -136,12 +136,15 @@ contentChecks i = (badSettings (i .mode) (i .settings), 5) ∷ (badSamples (i .s
 abbrev pub checks : Input → List (Bool × ℕ)
 checks i = bitmapChecks i ++ contentChecks i
 
--- the number of the first check that fails, and 0 where all pass: of checks 1 to 4, of checks 7 to 9, and of all
+-- the number of the first check that fails, and 0 where all pass: of checks 1 to 4, of checks 7 to 9, of checks 5 to 9, and of all
 unfoldable pub sizeRefusal : ℕ → ℕ → ℕ → ℕ → ℕ → ℕ
 sizeRefusal w h ch n m = firstFailing (sizeChecks w h ch n m)
 
 unfoldable pub outlineRefusal : List ℕ → List Float → List ℕ → ℕ
 outlineRefusal colours coords ends = firstFailing (outlineChecks colours coords ends)
+
+unfoldable pub contentRefusal : Input → ℕ
+contentRefusal i = firstFailing (contentChecks i)
 
 unfoldable pub refusalNumber : Input → ℕ
 refusalNumber i = firstFailing (checks i)

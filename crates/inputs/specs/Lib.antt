@@ -1,4 +1,5 @@
 -- The pages of definitions, each after those that it rests on.
 pub mod Stencil
+pub mod Window
 pub mod Checks
 pub mod Inner

@@ -6,7 +6,6 @@ ghost use lib.Dec.{ltb};
 ghost use lib.ListN.{length};
 ghost use lib.Ieee.{binary32, binary64};
 ghost use Rattle.inputs.specs.Checks as Checks;
-ghost use Rattle.inputs.specs.Checks.{input};
 use crate::sizes::Bitmap;
 use ranges::config::Settings;
 use ranges::constants;
@@ -90,7 +89,7 @@ fn bad_length(v: f64) -> bool
 }
 
 // The place of check 5: the first that is bad, or 5.
-fn settings_place(mode: u8, s: Settings) -> usize
+pub fn settings_place(mode: u8, s: Settings) -> usize
     ensures { λ r. ⌜ r ≡ Checks.settingsPlace mode s ⌝ }
 {
     if mode > 3 {
@@ -122,7 +121,7 @@ fn bad_sample(v: f32) -> bool
 }
 
 // The place of check 6: the first bad sample, or their number.
-fn samples_place(xs: &[f32]) -> usize
+pub fn samples_place(xs: &[f32]) -> usize
     ensures { λ r. ⌜ r ≡ Checks.samplesPlace (now (xs .entry)) ⌝ }
 {
     let mut i = 0usize;
@@ -218,7 +217,7 @@ fn segments_place(colours: &[u8], coords: &[f64]) -> usize
 }
 
 // The first of checks 7 to 9 that fails, with its place.
-fn outline_refusal(colours: &[u8], coords: &[f64], ends: &[usize]) -> Refusal
+pub fn outline_refusal(colours: &[u8], coords: &[f64], ends: &[usize]) -> Refusal
     ensures { λ r. ⌜ (r .number ≡ Checks.outlineRefusal (now (colours .entry)) (now (coords .entry)) (now (ends .entry))) × (r .place ≡ Checks.outlinePlace (now (colours .entry)) (now (coords .entry)) (now (ends .entry)) (r .number)) ⌝ }
 {
     if bad_outlines(colours.len(), coords.len()) {
@@ -245,42 +244,4 @@ fn outline_refusal(colours: &[u8], coords: &[f64], ends: &[usize]) -> Refusal
         number: 0,
         place: 0,
     }
-}
-
-// All checks, in number order; the first failure answers.
-pub fn check(
-    b: Bitmap,
-    xs: &[f32],
-    stencil: &[u8],
-    mode: u8,
-    s: Settings,
-    colours: &[u8],
-    coords: &[f64],
-    ends: &[usize],
-) -> Refusal
-    ensures numbers { λ r. ⌜ r .number ≡ Checks.refusalNumber (input (b .width) (b .height) (b .channels) (now (xs .entry)) (now (stencil .entry)) mode s (now (colours .entry)) (now (coords .entry)) (now (ends .entry))) ⌝ }
-    ensures places { λ r. ⌜ r .place ≡ Checks.refusalPlace (input (b .width) (b .height) (b .channels) (now (xs .entry)) (now (stencil .entry)) mode s (now (colours .entry)) (now (coords .entry)) (now (ends .entry))) ⌝ }
-{
-    let n = size_refusal(b, xs.len(), stencil.len());
-    if n != 0 {
-        return Refusal {
-            number: n,
-            place: 0,
-        };
-    }
-    let p = settings_place(mode, s);
-    if p < 5 {
-        return Refusal {
-            number: 5,
-            place: p,
-        };
-    }
-    let q = samples_place(xs);
-    if q < xs.len() {
-        return Refusal {
-            number: 6,
-            place: q,
-        };
-    }
-    outline_refusal(colours, coords, ends)
 }

@@ -33,7 +33,7 @@ use Rattle.correction.specs.Pass.{cornered, edgePriorityProtects, protec
 use Rattle.correction.specs.Stricter.{MoreOutlines}
 use Rattle.ground.proofs.Laws.Bools.{and-implies, both-hold}
 use Rattle.inputs.proofs.Laws.Stencil.{clear-says, corner-falls, corner-within}
-use Rattle.correction.proofs.pass.Staged.{byte-at-disabled}
+use Rattle.correction.proofs.engine.Staged.{byte-at-disabled}
 use Rattle.correction.proofs.pass.msdf_error_correction.Kinds.{ps}
 use Rattle.correction.proofs.pass.msdf_error_correction.Reads as entry
 use Rattle.correction.proofs.Laws.Answer.{zero-accepts}

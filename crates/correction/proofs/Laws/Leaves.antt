@@ -18,7 +18,7 @@ use Rattle.inputs.specs.Stencil.{hasCorner, isProtected, isError}
 use Rattle.inputs.specs.Checks.{Input, input, refusalNumber, accepted}
 use Rattle.correction.specs.Pass.{cornered, protects, flags, byteAt, passStencil, passSamples, stencilAfter, samplesAfter}
 use Rattle.ground.proofs.Laws.Fill.{tab-length, tab-at}
-use Rattle.correction.proofs.pass.Staged.{byte-at-says}
+use Rattle.correction.proofs.engine.Staged.{byte-at-says}
 use Rattle.correction.proofs.pass.msdf_error_correction.Kinds.{ps}
 
 pub number-zero : (i : Input) → accepted i ≡ true → refusalNumber i ≡ 0

@@ -1,66 +1,143 @@
--- A sweep that collapses the flagged texels: before cell k the samples below its texel are as `collapsed` has them, the others as they were. Assumes nothing.
+-- A sweep that collapses the flagged texels of a window: before a cell the samples below its texel are as `collapsed` has them, the others as they were. Assumes nothing.
+--     turning-cell      a cell that is inside is one of the stencil's
+--     turning-flag      its byte says what is said of it in what is cut out
+--     turning-none      at the first cell
+--     turning-sampled   the samples are as many as they were
+--     turning-next      after a turn, by what the byte says, and a step
+--     turning-all       past the last row the window's samples are collapsed
 use mathlib.Core.Path.{_≡_, refl, sym, _∙_, ap, subst}
 use mathlib.Core.Bool.{Bool, true, false, cond}
-use mathlib.Core.List.{List}
+use mathlib.Core.List.{List, [], _∷_}
 use Prim.Native.Nat.{ℕ, _+_, _*_, _<_, _≤_}
 use native.Mathlib.Nat.{zero-mul, add-zero, mul-le-mul-right}
 use native.Mathlib.Omega.{arith}
-use lib.ListN.{length, getD}
+use lib.ListN.{length, getD, set}
 use lib.Ieee.{Float, nan}
 use Rattle.ground.proofs.Laws.Fill.{Filled, filled-none, filled-at, filled-all}
-use Rattle.correction.specs.declared.bitmap.Visit.{Visit}
-use Rattle.correction.specs.Bitmap.{place}
-use Rattle.correction.specs.Collapse.{collapsedSample, collapsed}
-use Rattle.correction.specs.Numbered.{collapsedAt}
-use Rattle.correction.proofs.Laws.Collapse.{kept, flat}
-use Rattle.correction.specs.Inner.{Reached}
-use Rattle.inputs.specs.Inner.{Sized}
+use Rattle.ground.proofs.Laws.Picked.{picked-length, picked-at, pasted-none, pasted-then, pasted-more, pasted-as}
+use Rattle.detectors.specs.Texel.{texelMedian}
+use Rattle.inputs.specs.declared.sizes.Window.{Window}
+use Rattle.inputs.specs.Window.{cellIn, cellShown, sampleShown, cutCells, cutSamples, SamplesPasted}
+use Rattle.inputs.specs.Inner.{Sampled, Stencilled}
 use Rattle.inputs.specs.Stencil.{isError}
 use Rattle.inputs.proofs.Laws.Places.{cell-lt, place-lt, next-row}
+use Rattle.inputs.proofs.Laws.Windows.{cell-shown, sample-shown, samples-apart, still-sampled}
+use Rattle.correction.specs.declared.bitmap.Visit.{Visit}
+use Rattle.correction.specs.Bitmap.{cell}
+use Rattle.correction.specs.Collapse.{collapsedSample, collapsed}
+use Rattle.correction.specs.Numbered.{collapsedAt}
+use Rattle.correction.specs.Inner.{Reached}
+use Rattle.correction.proofs.Laws.Collapse.{kept, flat}
 
 -- the cells with the error bit
 abbrev pub flags : List ℕ → ℕ → Bool
 flags st k = isError (getD st k 0)
 
 -- the sweep has come to a cell, and left xs
-pub record Turning (flag : ℕ → Bool) (xs₀ : List Float) (w h ch : ℕ) (xs : List Float) (at : Visit) : Type 0 where
-  pub on : Reached w h at
-  pub filled : Filled nan (collapsedSample xs₀ ch flag) xs₀ (at .number * ch) xs
+pub record Turning (flag : ℕ → Bool) (g : Window) (xs₀ xs : List Float) (at : Visit) : Type 0 where
+  pub on : Reached g at
+  pub filled : Filled nan (collapsedSample (cutSamples g xs₀) (g .channels) flag) (cutSamples g xs₀) (cell (g .width) (at .x) (at .y) * g .channels) (cutSamples g xs)
+  pub rest : SamplesPasted g xs₀ xs (cutSamples g xs)
 
-module _ (flag : ℕ → Bool) (xs₀ : List Float) (w h ch : ℕ) where
-  pub turning-none : {at : Visit} → (at .number ≡ 0) × Reached w h at → Turning flag xs₀ w h ch xs₀ at
-  turning-none {at} p = record { on = p .1; filled = filled-at nan (collapsedSample xs₀ ch flag) xs₀ (at .number * ch) (filled-none nan (collapsedSample xs₀ ch flag) xs₀) (sym (ap (λ (n : ℕ). n * ch) (p .0) ∙ zero-mul ch)) }
+module _ (g : Window) (st : List ℕ) {at : Visit} (o : Reached g at) (l : at .y < g .height) where
+  pub turning-cell : Stencilled g st → at .number < length st
+  turning-cell s = subst (λ (n : ℕ). n < length st) (sym (o .here)) (s .held (at .x) (at .y) (o .column) l)
 
-  module _ (s : Sized w h ch xs₀) {xs : List Float} {at : Visit} (i : Turning flag xs₀ w h ch xs at) where
-    -- the sizes are as they were
-    pub turning-sized : Sized w h ch xs
-    turning-sized = record { any = s .any; wide = s .wide; high = s .high; some = s .some; few = s .few; long = i .filled .len ∙ s .long }
+  pub turning-flag : isError (getD st (at .number) 0) ≡ flags (cutCells g st) (cell (g .width) (at .x) (at .y))
+  turning-flag =
+      ap isError
+      (ap (λ (n : ℕ). getD st n 0) (o .here ∙ sym (cell-shown g (at .x) (at .y) (o .column)))
+      ∙ sym (picked-at 0 (g .height * g .width) (cellShown g) st (cell (g .width) (at .x) (at .y)) (cell-lt (g .width) (g .height) (at .x) (at .y) (o .column) l)))
 
-    pub turning-cell : at .y < h → at .number < h * w
-    turning-cell l = omega (arith, i .on .here, cell-lt w h (at .x) (at .y) (i .on .column) l)
+-- a texel of a window collapses, and so does it in what is cut out
+module _ (g : Window) {xs : List Float} (s : Sampled g xs) (x y : ℕ) (p : x < g .width) (q : y < g .height) where
+  abbrev n : ℕ
+  n = g .height * g .width * g .channels
 
-    pub turning-next : {ys : List Float} {to : Visit} → at .y < h → ys ≡ cond (flag (at .number)) (collapsedAt xs (place w ch (at .x) (at .y) 0)) xs → (to .number ≡ at .number + 1) × Reached w h to → Turning flag xs₀ w h ch ys to
-    turning-next {ys} {to} l e q =
+  k : ℕ
+  k = cell (g .width) x y * g .channels
+
+  at : ℕ
+  at = cellIn g x y * g .channels
+
+  -- its first three samples
+  lies : (r : ℕ) → r < 3 → sampleShown g (k + r) ≡ at + r
+  unfolding k at
+  lies r l = sample-shown g (cell (g .width) x y) r (omega (arith, s .some)) ∙ ap (λ (m : ℕ). m * g .channels + r) (cell-shown g x y p)
+
+  low : (r : ℕ) → r < 3 → k + r < n
+  unfolding k
+  low r l = omega (arith, place-lt (g .channels) (cell (g .width) x y) (g .height * g .width) (s .some) (cell-lt (g .width) (g .height) x y p q))
+
+  held : (r : ℕ) → r < 3 → at + r < length xs
+  unfolding at
+  held r l = omega (arith, s .some, s .held x y p q)
+
+  same : (r : ℕ) → r < 3 → getD xs (at + r) nan ≡ getD (cutSamples g xs) (k + r) nan
+  same r l = sym (picked-at nan n (sampleShown g) xs (k + r) (low r l) ∙ ap (λ (m : ℕ). getD xs m nan) (lies r l))
+
+  collapses : SamplesPasted g xs (collapsedAt xs (cellIn g x y * g .channels)) (collapsedAt (cutSamples g xs) (cell (g .width) x y * g .channels))
+  unfolding k at
+  collapses =
+      let m : Float = texelMedian (getD xs at nan ∷ getD xs (at + 1) nan ∷ getD xs (at + 2) nan ∷ []) in
+      let a = samples-apart g s in
+      let z : SamplesPasted g xs xs (cutSamples g xs) = pasted-none nan n (sampleShown g) xs in
+      let p₀ = pasted-more nan n (sampleShown g) z a k at m (rw add-zero at (low 0 (omega arith))) (rw (add-zero k, add-zero at) at (lies 0 (omega arith))) (rw add-zero at (held 0 (omega arith))) in
+      let p₁ = pasted-more nan n (sampleShown g) p₀ a (k + 1) (at + 1) m (low 1 (omega arith)) (lies 1 (omega arith)) (held 1 (omega arith)) in
+      let p₂ = pasted-more nan n (sampleShown g) p₁ a (k + 2) (at + 2) m (low 2 (omega arith)) (lies 2 (omega arith)) (held 2 (omega arith)) in
+      let e : m ≡ texelMedian (getD (cutSamples g xs) k nan ∷ getD (cutSamples g xs) (k + 1) nan ∷ getD (cutSamples g xs) (k + 2) nan ∷ []) = rw (rw (add-zero k, add-zero at) at (same 0 (omega arith)), same 1 (omega arith), same 2 (omega arith)) in
+      pasted-as nan n (sampleShown g) p₂ (ap (λ (v : Float). set (set (set (cutSamples g xs) k v) (k + 1) v) (k + 2) v) e)
+
+module _ (flag : ℕ → Bool) (g : Window) (xs₀ : List Float) where
+  abbrev f : ℕ → Float
+  f = collapsedSample (cutSamples g xs₀) (g .channels) flag
+
+  pub turning-none : {at : Visit} → (cell (g .width) (at .x) (at .y) ≡ 0) × Reached g at → Turning flag g xs₀ xs₀ at
+  turning-none {at} p =
+      record {
+        on = p .1;
+        filled = filled-at nan f (cutSamples g xs₀) (cell (g .width) (at .x) (at .y) * g .channels) (filled-none nan f (cutSamples g xs₀)) (sym (ap (λ (n : ℕ). n * g .channels) (p .0) ∙ zero-mul (g .channels)));
+        rest = pasted-none nan (g .height * g .width * g .channels) (sampleShown g) xs₀;
+      }
+
+  module _ (s : Sampled g xs₀) {xs : List Float} {at : Visit} (i : Turning flag g xs₀ xs at) where
+    pub turning-sampled : Sampled g xs
+    turning-sampled = still-sampled g s xs (i .rest .long)
+
+    pub turning-next : {b : Bool} {ys : List Float} {to : Visit} → at .y < g .height → b ≡ flag (cell (g .width) (at .x) (at .y)) → ys ≡ cond b (collapsedAt xs (cellIn g (at .x) (at .y) * g .channels)) xs → (cell (g .width) (to .x) (to .y) ≡ cell (g .width) (at .x) (at .y) + 1) × Reached g to → Turning flag g xs₀ ys to
+    turning-next {b} {ys} {to} l d e q =
         record {
           on = q .1;
-          filled = filled-at nan f xs₀ (to .number * ch) (subst (Filled nan f xs₀ (at .number * ch + ch)) (sym (e ∙ ap (λ (n : ℕ). cond (flag (at .number)) (collapsedAt xs n) xs) there)) (go (flag (at .number)) refl)) (sym (ap (λ (n : ℕ). n * ch) (q .0) ∙ next-row ch (at .number)));
+          filled = filled-at nan f (cutSamples g xs₀) (cell (g .width) (to .x) (to .y) * g .channels) (after .0) (sym (ap (λ (n : ℕ). n * g .channels) (q .0) ∙ next-row (g .channels) k));
+          rest = after .1;
         }
       where
-        f : ℕ → Float
-        f = collapsedSample xs₀ ch flag
+        k : ℕ
+        k = cell (g .width) (at .x) (at .y)
 
-        there : place w ch (at .x) (at .y) 0 ≡ at .number * ch
-        there = rw (i .on .here, add-zero)
+        n : ℕ
+        n = g .height * g .width * g .channels
 
-        third : at .number * ch + 2 < length xs
-        third = omega (arith, i .filled .len, s .long, place-lt ch (at .number) (h * w) (s .some) (turning-cell l))
+        Then : List Float → Type 0
+        Then zs = Filled nan f (cutSamples g xs₀) (k * g .channels + g .channels) (cutSamples g zs) × SamplesPasted g xs₀ zs (cutSamples g zs)
 
-        go : (b : Bool) → flag (at .number) ≡ b → Filled nan f xs₀ (at .number * ch + ch) (cond b (collapsedAt xs (at .number * ch)) xs)
-        go true p = flat flag xs₀ ch xs (at .number) (at .number * ch) refl (i .filled) p (s .some) third
-        go false p = kept flag xs₀ ch xs (at .number) (at .number * ch) refl (i .filled) p
+        third : k * g .channels + 2 < length (cutSamples g xs)
+        third = subst (λ (m : ℕ). k * g .channels + 2 < m) (sym (picked-length nan n (sampleShown g) xs)) (place-lt (g .channels) k (g .height * g .width) (s .some) (cell-lt (g .width) (g .height) (at .x) (at .y) (i .on .column) l))
 
-    pub turning-all : h ≤ at .y → xs ≡ collapsed xs₀ ch flag
+        go : (b : Bool) → b ≡ flag k → Then (cond b (collapsedAt xs (cellIn g (at .x) (at .y) * g .channels)) xs)
+        go true p =
+            let c = collapses g turning-sampled (at .x) (at .y) (i .on .column) l in (
+              subst (Filled nan f (cutSamples g xs₀) (k * g .channels + g .channels)) (sym (c .inside)) (flat flag (cutSamples g xs₀) (g .channels) (cutSamples g xs) k (k * g .channels) refl (i .filled) (sym p) (s .some) third),
+              pasted-as nan n (sampleShown g) (pasted-then nan n (sampleShown g) (i .rest) c) (sym (c .inside)),
+            )
+        go false p = (kept flag (cutSamples g xs₀) (g .channels) (cutSamples g xs) k (k * g .channels) refl (i .filled) (sym p), i .rest)
+
+        after : Then ys
+        after = subst Then (sym e) (go b d)
+
+    pub turning-all : g .height ≤ at .y → SamplesPasted g xs₀ xs (collapsed (cutSamples g xs₀) (g .channels) flag)
     unfolding collapsed
     turning-all l =
-        let b : h * w ≤ at .number = omega (arith, i .on .here, mul-le-mul-right w l) in
-        filled-all nan (collapsedSample xs₀ ch flag) xs₀ (i .filled) (omega (arith, s .long, mul-le-mul-right ch b))
+        let n : ℕ = g .height * g .width * g .channels in
+        let b : g .height * g .width ≤ cell (g .width) (at .x) (at .y) = omega (arith, mul-le-mul-right (g .width) l) in
+        pasted-as nan n (sampleShown g) (i .rest) (filled-all nan f (cutSamples g xs₀) (i .filled) (omega (arith, picked-length nan n (sampleShown g) xs₀, mul-le-mul-right (g .channels) b)))

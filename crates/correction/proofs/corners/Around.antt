@@ -11,20 +11,19 @@ use native.Mathlib.Decide.{decLt}
 use native.Mathlib.Omega.{arith}
 use lib.Arith.{digits-div, digits-mod}
 use lib.Dec.{eqb, eqb·suc-suc}
-use lib.ListN.{length}
 use lib.IntN.{ℤ, pos, negsuc}
 use mir.Syntax.{w64}
 use mir.Val.{Fits}
 use borrow.Author.Tests.{eqb-true, lt-ltb, le-ltb, le-leb, eq-eqb, ne-eqb}
 use Rattle.ground.proofs.Laws.Bools.{both-hold, both-ways, spread}
+use Rattle.inputs.specs.declared.sizes.Window.{Window}
 use Rattle.correction.specs.Bitmap.{inBounds}
 use Rattle.correction.specs.Corners.{beside}
 use Rattle.correction.specs.Inner.{atCorner, spot, clip}
-use Rattle.ground.specs.Lists.{painted}
 use Rattle.correction.proofs.bitmap.Places.{inside}
 use Rattle.inputs.proofs.Laws.Places.{row-lt}
 use Rattle.inputs.proofs.Laws.Stencil.{both-again}
-use Rattle.ground.proofs.Laws.Painted.{painted-four, painted-same-below}
+use Rattle.correction.proofs.corners.Strokes.{Painted, stroke-same, stroke-then}
 
 bounded : (w h nx ny : ℕ) → 0 < nx → nx ≤ w → 0 < ny → ny ≤ h → inBounds w h nx ny ≡ true
 unfolding inBounds
@@ -100,9 +99,12 @@ around-at w h l b k o p =
     subst (λ (m : ℕ). (((spot w h (clip l w) (clip b h) m || spot w h (clip l w + 1) (clip b h) m) || spot w h (clip l w) (clip b h + 1) m) || spot w h (clip l w + 1) (clip b h + 1) m) ≡ (beside l (k % w) && beside b (k / w))) e
     (four w h (clip l w) (clip b h) (k % w) (k / w) x y ∙ rw (beside-clip l w (k % w) x, beside-clip b h (k / w) y))
 
-pub marked-around : (w h : ℕ) (l b : ℤ) (r s : ℕ) (st st₁ st₂ st₃ st₄ : List ℕ) → 1 ≤ w → length st ≡ h * w → r ≡ clip l w → s ≡ clip b h
-    → st₁ ≡ painted atCorner (spot w h r s) st → st₂ ≡ painted atCorner (spot w h (r + 1) s) st₁ → st₃ ≡ painted atCorner (spot w h r (s + 1)) st₂ → st₄ ≡ painted atCorner (spot w h (r + 1) (s + 1)) st₃
-    → st₄ ≡ painted atCorner (λ k. beside l (k % w) && beside b (k / w)) st
-marked-around w h l b r s st st₁ st₂ st₃ st₄ o n e f e₁ e₂ e₃ e₄ =
-    painted-four atCorner both-again (spot w h r s) (spot w h (r + 1) s) (spot w h r (s + 1)) (spot w h (r + 1) (s + 1)) st st₁ st₂ st₃ st₄ e₁ e₂ e₃ e₄
-    ∙ painted-same-below atCorner _ _ st (λ k p. rw (e, f) (around-at w h l b k o (subst (λ (m : ℕ). k < m) n p)))
+pub marked-around : (g : Window) (l b : ℤ) (r s : ℕ) {st st₁ st₂ st₃ st₄ : List ℕ} → 1 ≤ g .width → r ≡ clip l (g .width) → s ≡ clip b (g .height)
+    → Painted atCorner g (spot (g .width) (g .height) r s) st st₁ → Painted atCorner g (spot (g .width) (g .height) (r + 1) s) st₁ st₂
+    → Painted atCorner g (spot (g .width) (g .height) r (s + 1)) st₂ st₃ → Painted atCorner g (spot (g .width) (g .height) (r + 1) (s + 1)) st₃ st₄
+    → Painted atCorner g (λ k. beside l (k % g .width) && beside b (k / g .width)) st st₄
+marked-around g l b r s o e f e₁ e₂ e₃ e₄ =
+    let w = g .width in
+    let h = g .height in
+    stroke-same atCorner g _ _ (λ k p. rw (e, f) (around-at w h l b k o p))
+    (stroke-then atCorner g both-again _ _ (stroke-then atCorner g both-again _ _ (stroke-then atCorner g both-again _ _ e₁ e₂) e₃) e₄)

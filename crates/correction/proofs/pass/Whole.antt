@@ -1,136 +1,82 @@
--- The stages of the pass put together, over plain lists. Assumes nothing.
---     protects-all, protects-none, protects-some   the bytes of each mode, as protection leaves them
---     switched-off, done                           what all stages leave, in mode Disabled and in the others
---     refused, answered                            the answer and what is left, of a refusal and of an accepted input
-use mathlib.Core.Path.{_≡_, refl, sym, _∙_, ap, subst}
-use mathlib.Core.Bool.{Bool, true, false, cond, _||_}
-use mathlib.Core.List.{List}
-use Prim.Native.Nat.{ℕ, _*_, _/_, _%_, _<_}
-use native.Mathlib.Nat.{mul-comm}
+-- The pass over plain lists: a bitmap alone is the window that is the whole, and what the engine leaves there is what the pass leaves. Assumes nothing.
+--     held                the window has its samples
+--     windowed            checks 5 to 9 of the window are those of the bitmap
+--     started, finished   what the engine asks for, and what it leaves
+--     refused, answered   the answer and what is left, of a refusal and of an accepted input
+use mathlib.Core.Path.{_≡_, sym, _∙_, ap, subst}
+use mathlib.Core.Bool.{true, false}
+use mathlib.Core.List.{List, []}
+use Prim.Native.Nat.{ℕ, _*_}
 use lib.Dec.{eqb}
-use lib.ListN.{length, getD}
-use lib.Ieee.{Float}
+use lib.ListN.{length}
+use lib.Ieee.{Float, nan}
 use borrow.Author.Tests.{eq-eqb, ne-eqb}
-use Rattle.correction.specs.declared.pass.Answer.the-variants.{Accepted, Refused}
+use Rattle.ground.specs.Lists.{tab}
+use Rattle.ground.proofs.Laws.Fill.{tab-length}
+use Rattle.ground.proofs.Laws.Picked.{picked-all, pasted-all}
+use Rattle.inputs.specs.declared.sizes.Window.{Window}
 use Rattle.inputs.specs.declared.stencil.Counts.{Counts}
-use Rattle.ground.specs.Lists.{tab, total, painted}
-use Rattle.correction.specs.Bitmap.{texel}
-use Rattle.inputs.specs.Stencil.{stencilByte, isError, setCorner, setProtected, countsOf}
-use Rattle.inputs.specs.Checks.{Input, accepted, refusalNumber, refusalPlace}
-use Rattle.correction.specs.Corners.{contours, cornersProtect}
-use Rattle.correction.specs.Edges.{edgesProtect}
-use Rattle.correction.specs.Errors.{hasArtifact}
-use Rattle.correction.specs.Collapse.{collapsed}
-use Rattle.correction.specs.Inner.{atCorner, found, madeIn}
-use Rattle.inputs.specs.Inner.{Sized}
-use Rattle.correction.specs.Pass.{texels, cornered, edgePriorityProtects, protects, flags, byteAt, passStencil, passSamples, testsAt, passTests, Answers, answer, stencilAfter, samplesAfter}
-use Rattle.ground.proofs.Laws.Fill.{tab-length, tab-at, tab-same}
-use Rattle.ground.proofs.Laws.Spent.{total-zero, total-same}
-use Rattle.ground.proofs.Laws.Painted.{painted-length, painted-at, is-painted}
-use Rattle.correction.proofs.pass.Staged.{found-staged, made-staged, byte-at-says, byte-at-disabled}
-use Rattle.correction.proofs.Laws.Collapse.{collapsed-same, collapsed-none}
-use Rattle.inputs.proofs.Laws.Stencil.{byte-sets, byte-clear, byte-only-protected}
+use Rattle.inputs.specs.Window.{cellShown, sampleShown, cutSamples, CellsPasted, SamplesPasted, whole}
+use Rattle.inputs.specs.Inner.{Sized, Celled, Sampled, Stencilled}
+use Rattle.inputs.specs.Stencil.{countsOf}
+use Rattle.inputs.specs.Checks.{Input, input, accepted, contentRefusal, placeOf, refusalNumber, refusalPlace}
+use Rattle.inputs.proofs.Laws.Windows.{whole-cells, whole-samples, whole-sampled, whole-stencilled}
+use Rattle.correction.specs.declared.pass.Answer.the-variants.{Accepted, Refused}
+use Rattle.correction.specs.Inner.{Cleared, cutOut}
+use Rattle.correction.specs.Pass.{texels, cornered, edgePriorityProtects, protects, flags, byteAt, testsAt, passStencil, passSamples, passTests, Answers, answer, stencilAfter, samplesAfter}
 use Rattle.correction.proofs.Laws.Answer.{as-answered}
 
--- what two paintings leave of zeros
-painted-twice : (n : ℕ) (f g : ℕ → ℕ) (c d : ℕ → Bool) → painted g d (painted f c (tab n (λ k. 0))) ≡ tab n (λ k. cond (d k) (g (cond (c k) (f 0) 0)) (cond (c k) (f 0) 0))
-painted-twice n f g c d =
-    let z : List ℕ = tab n (λ k. 0) in
-    let long : length (painted f c z) ≡ n = painted-length f c z ∙ tab-length n (λ k. 0) in
-    sym (is-painted g d (painted f c z) _ (tab-length n _ ∙ sym long)
-    (λ k l. let b : k < n = subst (λ (m : ℕ). k < m) long l in
-    tab-at n _ k 0 b ∙ sym (ap (λ (v : ℕ). cond (d k) (g v) v) (painted-at f c z k (subst (λ (m : ℕ). k < m) (sym (tab-length n (λ k. 0))) b) ∙ ap (λ (v : ℕ). cond (c k) (f v) v) (tab-at n (λ k. 0) k 0 b)))))
-
--- the byte that a corner and an edge leave of 0
-both : (c d : Bool) → cond d (setProtected (cond c (atCorner 0) 0)) (cond c (atCorner 0) 0) ≡ stencilByte c (c || d) false
-both c d = rw byte-clear (go c d)
-  where
-    corner : atCorner (stencilByte false false false) ≡ stencilByte true true false
-    corner = ap setCorner (byte-sets false false false .1) ∙ byte-sets false true false .0
-
-    go : (c d : Bool) → let z = stencilByte false false false in cond d (setProtected (cond c (atCorner z) z)) (cond c (atCorner z) z) ≡ stencilByte c (c || d) false
-    go true true = ap setProtected corner ∙ byte-sets true true false .1
-    go true false = corner
-    go false true = byte-sets false false false .1
-    go false false = refl
-
 module _ (i : Input) where
-  -- the cells that a corner protects, those that the mode protects, and the bytes that protection leaves of them
-  corners : ℕ → Bool
-  corners k = cornered i (k % i .width) (k / i .width)
+  abbrev all : Window
+  all = whole (i .width) (i .height) (i .channels)
 
-  covers : ℕ → Bool
-  covers k = protects i (k % i .width) (k / i .width)
+  -- a window as a bitmap alone, as the checks are given it
+  abbrev alone : Window → Input
+  alone g = input (g .width) (g .height) (g .channels) (cutSamples g (i .samples)) [] (i .mode) (i .settings) (i .colours) (i .coords) (i .ends)
 
-  abbrev shielded : ℕ → ℕ
-  shielded k = stencilByte (cornered i (k % i .width) (k / i .width)) (protects i (k % i .width) (k / i .width)) false
+  -- the same as the engine is given it
+  abbrev cleared : Window → Input
+  cleared g = cutOut g (i .samples) (i .mode) (i .settings) (i .colours) (i .coords) (i .ends)
 
-  -- EdgeOnly
-  pub protects-all : (n : ℕ) → i .mode ≡ 3 → tab {A = ℕ} n (λ k. 2) ≡ tab n shielded
-  unfolding cornered protects
-  protects-all n e = tab-same n _ _ (λ k l. simp (eq-eqb (i .mode) 3 e, ap (λ (m : ℕ). eqb m 2) e) byte-only-protected)
+  -- an input with other samples and another stencil
+  abbrev with : List Float → List ℕ → Input
+  with xs st = input (i .width) (i .height) (i .channels) xs st (i .mode) (i .settings) (i .colours) (i .coords) (i .ends)
 
-  -- neither EdgeOnly nor EdgePriority
-  pub protects-none : (n : ℕ) → (i .mode ≡ 3 → ⊥) → (i .mode ≡ 2 → ⊥) → tab {A = ℕ} n (λ k. 0) ≡ tab n shielded
-  unfolding cornered protects
-  protects-none n e f = tab-same n _ _ (λ k l. simp (ne-eqb _ 3 e, ne-eqb _ 2 f) byte-clear)
+  module _ {g : Window} (e : g ≡ whole (i .width) (i .height) (i .channels)) (s : Sized (i .width) (i .height) (i .channels) (i .samples)) where
+    pub held : Sampled g (i .samples)
+    held = subst (λ (v : Window). Sampled v (i .samples)) (sym e) (whole-sampled (i .width) (i .height) (i .channels) (i .samples) s)
 
-  -- EdgePriority: zeros, then corners, then edges
-  pub protects-some : (n : ℕ) (st₀ st₁ st₂ : List ℕ) → i .mode ≡ 2
-      → st₀ ≡ tab n (λ k. 0)
-      → st₁ ≡ painted atCorner (λ k. cornersProtect (contours (i .colours) (i .coords) (i .ends)) (k % i .width) (k / i .width)) st₀
-      → st₂ ≡ painted setProtected (λ k. edgesProtect (texel (i .samples) (i .width) (i .channels)) (i .width) (i .height) (i .settings) (k % i .width) (k / i .width)) st₁
-      → st₂ ≡ tab n shielded
-  unfolding cornered protects edgePriorityProtects texels
-  protects-some n st₀ st₁ st₂ e p q r =
-      let c : ℕ → Bool = λ k. cornersProtect (contours (i .colours) (i .coords) (i .ends)) (k % i .width) (k / i .width) in
-      let d : ℕ → Bool = λ k. edgesProtect (texel (i .samples) (i .width) (i .channels)) (i .width) (i .height) (i .settings) (k % i .width) (k / i .width) in
-      r ∙ ap (painted setProtected d) (q ∙ ap (painted atCorner c) p) ∙ painted-twice n atCorner setProtected c d
-      ∙ tab-same n _ _ (λ k l. simp (eq-eqb (i .mode) 2 e, ap (λ (m : ℕ). eqb m 3) e) (both (c k) (d k)))
+    cut : cutSamples all (i .samples) ≡ i .samples
+    cut = picked-all nan (i .height * i .width * i .channels) (sampleShown all) (i .samples) (s .long) (λ k l. whole-samples (i .width) (i .height) (i .channels) k)
 
-  module _ (s : Sized (i .width) (i .height) (i .channels) (i .samples)) (m : length (i .stencil) ≡ i .height * i .width) where
-    area : length (i .stencil) ≡ i .width * i .height
-    area = m ∙ mul-comm (i .height) (i .width)
+    pub windowed : {k o : ℕ} → (k ≡ contentRefusal (alone g)) × (o ≡ placeOf (alone g) k) → (k ≡ contentRefusal i) × (o ≡ placeOf i k)
+    unfolding contentRefusal placeOf
+    windowed {k} {o} p =
+        let q = subst (λ (v : Window). (k ≡ contentRefusal (alone v)) × (o ≡ placeOf (alone v) k)) e p in
+        (q .0 ∙ ap (λ (z : List Float). contentRefusal (with z [])) cut, q .1 ∙ ap (λ (z : List Float). placeOf (with z []) k) cut)
 
-    -- Disabled
-    pub switched-off : (st : List ℕ) → i .mode ≡ 0 → st ≡ tab (length (i .stencil)) (λ k. 0) → (0 ≡ passTests i) × ((st ≡ passStencil i) × (i .samples ≡ passSamples i))
-    unfolding passTests testsAt passStencil passSamples flags
-    switched-off st e p = (
-      sym (total-zero (i .width * i .height) _ (λ k. simp (eq-eqb (i .mode) 0 e))),
-      (
-        p ∙ ap (λ (n : ℕ). tab n (λ k. 0)) area ∙ tab-same (i .width * i .height) _ _ (λ k l. sym (byte-at-disabled i e k)),
-        sym (collapsed-none (i .samples) (i .channels)) ∙ simp (eq-eqb (i .mode) 0 e) refl,
-      ),
-    )
+    module _ (m : length (i .stencil) ≡ i .height * i .width) (st : List ℕ) (f : st ≡ tab (length (i .stencil)) (λ k. 0)) where
+      zeros : st ≡ tab (i .height * i .width) (λ k. 0)
+      zeros = f ∙ ap (λ (n : ℕ). tab n (λ k. 0)) m
 
-    module _ (st₁ : List ℕ) (p : st₁ ≡ tab (length (i .stencil)) shielded) where
-      module _ (st₂ : List ℕ) (q : st₂ ≡ found (i .samples) (i .width) (i .height) (i .channels) (i .settings) st₁) where
-        found-as : st₂ ≡ tab (length (i .stencil)) (λ k. stencilByte (corners k) (covers k) (hasArtifact (texel (i .samples) (i .width) (i .channels)) (i .width) (i .height) (i .settings) (covers k) (k % i .width) (k / i .width)))
-        unfolding corners covers
-        found-as = q ∙ found-staged (i .samples) (i .width) (i .height) (i .channels) (i .settings) (length (i .stencil)) corners covers st₁ p
+      long : length st ≡ i .height * i .width
+      long = ap length zeros ∙ tab-length (i .height * i .width) (λ k. 0)
 
-        module _ (e : i .mode ≡ 0 → ⊥) where
-          staged : st₂ ≡ tab (length (i .stencil)) (byteAt i)
-          unfolding corners covers byteAt flags texels
-          staged = found-as ∙ tab-same (length (i .stencil)) _ _ (λ k l. simp (ne-eqb (i .mode) 0 e))
+      pub started : Stencilled g st × Cleared g st
+      started =
+          let c : Celled (i .width) (i .height) st = record { any = s .any; wide = s .wide; high = s .high; long = long } in
+          subst (λ (v : Window). Stencilled v st × Cleared v st) (sym e)
+          (whole-stencilled (i .width) (i .height) (i .channels) st c, picked-all 0 (i .height * i .width) (cellShown all) st long (λ k l. whole-cells (i .width) (i .height) (i .channels) k) ∙ zeros)
 
-          error-at : (k : ℕ) → k < length (i .stencil) → isError (getD st₂ k 0) ≡ flags i (k % i .width) (k / i .width)
-          error-at k l = ap (λ (z : List ℕ). isError (getD z k 0)) staged ∙ ap isError (tab-at (length (i .stencil)) (byteAt i) k 0 l) ∙ byte-at-says i k .2
-
-          made-as : (t : ℕ) → t ≡ madeIn (i .samples) (i .width) (i .height) (i .channels) (i .settings) st₁ → t ≡ passTests i
-          unfolding corners covers passTests testsAt texels
-          made-as t r =
-              r ∙ made-staged (i .samples) (i .width) (i .height) (i .channels) (i .settings) (length (i .stencil)) corners covers st₁ p
-              ∙ total-same (length (i .stencil)) _ (λ k. testsAt i (k % i .width) (k / i .width)) (λ k l. simp (ne-eqb (i .mode) 0 e)) ∙ ap (λ (n : ℕ). total n (λ k. testsAt i (k % i .width) (k / i .width))) area
-
-          pub done : (t : ℕ) → t ≡ madeIn (i .samples) (i .width) (i .height) (i .channels) (i .settings) st₁ →
-              (xs : List Float) → xs ≡ collapsed (i .samples) (i .channels) (λ k. isError (getD st₂ k 0)) → (t ≡ passTests i) × ((st₂ ≡ passStencil i) × (xs ≡ passSamples i))
-          unfolding passStencil passSamples
-          done t u xs r = (
-            made-as t u,
+      pub finished : {t : ℕ} {st' : List ℕ} {xs' : List Float} → (t ≡ passTests (cleared g)) × (CellsPasted g st st' (passStencil (cleared g)) × SamplesPasted g (i .samples) xs' (passSamples (cleared g))) → (t ≡ passTests i) × ((st' ≡ passStencil i) × (xs' ≡ passSamples i))
+      unfolding passTests passStencil passSamples testsAt byteAt flags cornered protects edgePriorityProtects texels
+      finished {t} {st'} {xs'} p =
+          let z : List ℕ = tab (i .height * i .width) (λ k. 0) in
+          let q = subst (λ (v : Window). (t ≡ passTests (cleared v)) × (CellsPasted v st st' (passStencil (cleared v)) × SamplesPasted v (i .samples) xs' (passSamples (cleared v)))) e p in (
+            q .0 ∙ ap (λ (x : List Float). passTests (with x z)) cut,
             (
-              staged ∙ ap (λ (n : ℕ). tab n (byteAt i)) area,
-              r ∙ collapsed-same (i .samples) (i .channels) (length (i .stencil)) _ _ (s .long ∙ ap (λ (n : ℕ). n * i .channels) (sym m)) error-at,
+              pasted-all 0 (i .height * i .width) (cellShown all) (q .1 .0) long (λ k l. whole-cells (i .width) (i .height) (i .channels) k) ∙ ap (λ (x : List Float). passStencil (with x z)) cut,
+              pasted-all nan (i .height * i .width * i .channels) (sampleShown all) (q .1 .1) (s .long) (λ k l. whole-samples (i .width) (i .height) (i .channels) k) ∙ ap (λ (x : List Float). passSamples (with x z)) cut,
             ),
           )
 

@@ -3,10 +3,12 @@
 --     one-more       after a turn that adds a bit
 --     count-small    so many at most
 --     count-falls    a test that holds only where another does counts no more
+--     count-same     two tests that agree below n
+--     count-on       so many more numbers, of which another test says the same
 use mathlib.Core.Path.{_≡_, refl, sym, ap}
 use mathlib.Core.Bool.{Bool, true, false, cond}
 use Prim.Native.Nat.{ℕ, zero, suc, _+_, _<_, _≤_}
-use native.Mathlib.Nat.{le-refl, le-of-eq, add-le-add}
+use native.Mathlib.Nat.{le-refl, le-of-eq, add-le-add, add-zero, add-suc, add-assoc}
 use native.Mathlib.Omega.{arith}
 use native.Mathlib.Numerals.{add-one}
 use lib.Dec.{eqb}
@@ -43,3 +45,16 @@ pub count-falls : (n : ℕ) (f g : ℕ → Bool) → ((k : ℕ) → f k ≡ true
 unfolding count
 count-falls zero f g h = le-refl 0
 count-falls (suc n) f g h = add-le-add (count-falls n f g h) (bit-falls (f n) (g n) (h n))
+
+pub count-same : (n : ℕ) (f g : ℕ → Bool) → ((k : ℕ) → k < n → f k ≡ g k) → count n f ≡ count n g
+unfolding count
+count-same zero f g h = refl
+count-same (suc n) f g h = rw (count-same n f g (λ k l. h k (omega arith)), h n (le-refl (suc n)))
+
+count-add : (m n : ℕ) (f : ℕ → Bool) → count (m + n) f ≡ count m f + count n (λ k. f (m + k))
+unfolding count
+count-add m zero f = rw (add-zero m) (sym (add-zero (count m f)))
+count-add m (suc n) f = rw (add-suc m n, count-add m n f) (add-assoc (count m f) (count n (λ k. f (m + k))) (cond (f (m + n)) 1 0))
+
+pub count-on : (m n : ℕ) {p q : ℕ} (f g : ℕ → Bool) → p ≡ count m f → q ≡ count n g → ((k : ℕ) → k < n → g k ≡ f (m + k)) → p + q ≡ count (m + n) f
+count-on m n f g a b h = rw (a, b, count-same n g (λ k. f (m + k)) h) (sym (count-add m n f))

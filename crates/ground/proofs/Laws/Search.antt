@@ -7,15 +7,20 @@
 --     any-same       two tests that agree below n
 --     any-implies    where a test holds of some number another does
 --     some-implies   the same over a list
+--     none-any       where each number below n fails, none passes
 --     none-below     where no number below n passes, each fails
+--     first-is       the number that is the first
 --     first-is-end   where each number fails the first is n
 --     first-le       the first is at most n
 --     first-past     where the first is not below n, each fails
+--     first-holds    where the first is below n, the test holds of it
 --     Searched       a search that has come to i: none before it passes
 --     search-none    before the first turn
 --     search-more    a turn whose answer r fails
 --     search-found   a turn whose answer r passes: i is the first
 --     search-end     the loop is left at the end: so is i there
+--     search-part    a turn that searches m numbers at once, of which another test says the same, and finds none
+--     search-in      such a turn that finds one: it is the first
 --     Kept           a search from the end to the front that has come to j and keeps the place found last: the first from j on, and n where there is none
 --     kept-none      before the first turn
 --     kept-more      a turn, whose answer r says whether its number is kept
@@ -25,7 +30,7 @@ use mathlib.Core.Bool.{Bool, true, false, cond, _||_, true≢false}
 use mathlib.Core.List.{List, [], _∷_}
 use mathlib.Core.Logic.{⊎-elim, dite}
 use Prim.Native.Nat.{ℕ, zero, suc, _+_, _<_, _≤_}
-use native.Mathlib.Nat.{not-suc-le-zero, le-of-suc-le-suc, eq-or-lt-of-le, le-refl, le-antisymm}
+use native.Mathlib.Nat.{not-suc-le-zero, le-of-suc-le-suc, eq-or-lt-of-le, le-refl, le-antisymm, add-zero, add-suc}
 use native.Mathlib.Numerals.{add-one}
 use native.Mathlib.Decide.{decLt}
 use native.Mathlib.Omega.{arith}
@@ -81,6 +86,11 @@ unfolding some
 some-implies f g h [] p = p
 some-implies f g h (x ∷ xs) p = or-implies (f x) (some f xs) (g x) (some g xs) (h x) (some-implies f g h xs) p
 
+pub none-any : (f : ℕ → Bool) (n : ℕ) → ((k : ℕ) → k < n → f k ≡ false) → any n f ≡ false
+unfolding any
+none-any f zero h = refl
+none-any f (suc n) h = rw (none-any f n (λ k l. h k (omega arith)), h n (le-refl (suc n)))
+
 fails : (f : ℕ → Bool) (n k : ℕ) (b : Bool) → f k ≡ b → any n f ≡ false → k < n → b ≡ false
 fails f n k true e p l = absurd (true≢false (sym (any-at f n k l e) ∙ p))
 fails f n k false e p l = refl
@@ -88,12 +98,12 @@ fails f n k false e p l = refl
 pub none-below : (f : ℕ → Bool) (n : ℕ) → any n f ≡ false → (k : ℕ) → k < n → f k ≡ false
 none-below f n p k l = fails f n k (f k) refl p l
 
-found : (f : ℕ → Bool) (n i : ℕ) → ((k : ℕ) → k < i → f k ≡ false) → i < n → f i ≡ true → first n f ≡ i
+pub first-is : (f : ℕ → Bool) (n i : ℕ) → ((k : ℕ) → k < i → f k ≡ false) → i < n → f i ≡ true → first n f ≡ i
 unfolding first
-found f zero i h l p = absurd (not-suc-le-zero l)
-found f (suc n) zero h l p = rw p
-found f (suc n) (suc i) h l p =
-    rw (h 0 (omega arith), found (λ k. f (suc k)) n i (λ k b. h (suc k) (omega arith)) (le-of-suc-le-suc l) p)
+first-is f zero i h l p = absurd (not-suc-le-zero l)
+first-is f (suc n) zero h l p = rw p
+first-is f (suc n) (suc i) h l p =
+    rw (h 0 (omega arith), first-is (λ k. f (suc k)) n i (λ k b. h (suc k) (omega arith)) (le-of-suc-le-suc l) p)
 
 pub first-is-end : (f : ℕ → Bool) (n : ℕ) → ((k : ℕ) → k < n → f k ≡ false) → first n f ≡ n
 unfolding first
@@ -114,7 +124,7 @@ module _ {f : ℕ → Bool} {n i : ℕ} (s : Searched f n i) where
   search-more l e p = record { high = omega arith; none = none-more f i (s .none) (sym e ∙ p) }
 
   pub search-found : {r : Bool} → i < n → r ≡ f i → r ≡ true → i ≡ first n f
-  search-found l e p = sym (found f n i (none-below f i (s .none)) l (sym e ∙ p))
+  search-found l e p = sym (first-is f n i (none-below f i (s .none)) l (sym e ∙ p))
 
   pub search-end : n ≤ i → i ≡ first n f
   search-end l =
@@ -149,7 +159,7 @@ module _ {f : ℕ → Bool} {n j place : ℕ} (s : Kept f n j place) where
   pub kept-all : j ≤ 0 → place ≡ first n f
   kept-all z =
       dite (decLt place n)
-      (λ l. sym (found f n place (λ k b. s .none k (omega arith) b) l (s .hit l)))
+      (λ l. sym (first-is f n place (λ k b. s .none k (omega arith) b) l (s .hit l)))
       (λ h.
       let e : place ≡ n = omega (arith, s .high) in
       e ∙ sym (first-is-end f n (λ k b. s .none k (omega arith) (subst (λ (x : ℕ). k < x) (sym e) b))))
@@ -173,3 +183,40 @@ first-past f zero l k b = absurd (not-suc-le-zero b)
 first-past f (suc n) l zero b = cond-past (f 0) (first n (λ k. f (suc k))) n l .0
 first-past f (suc n) l (suc k) b =
     first-past (λ k. f (suc k)) n (cond-past (f 0) (first n (λ k. f (suc k))) n l .1) k (le-of-suc-le-suc b)
+
+cond-holds : (f : ℕ → Bool) (b : Bool) (m n : ℕ) → f 0 ≡ b → (m < n → f (suc m) ≡ true) → cond b 0 (suc m) < suc n → f (cond b 0 (suc m)) ≡ true
+cond-holds f true m n e h l = e
+cond-holds f false m n e h l = h (le-of-suc-le-suc l)
+
+pub first-holds : (f : ℕ → Bool) (n : ℕ) → first n f < n → f (first n f) ≡ true
+unfolding first
+first-holds f zero l = absurd (not-suc-le-zero l)
+first-holds f (suc n) l = cond-holds f (f 0) (first n (λ k. f (suc k))) n refl (first-holds (λ k. f (suc k)) n) l
+
+-- ---- a loop that searches a part at a time
+
+before : (f : ℕ → Bool) (m : ℕ) (b : Bool) → f 0 ≡ b → ((k : ℕ) → k < m → f (suc k) ≡ false) → (k : ℕ) → k < cond b 0 (suc m) → f k ≡ false
+before f m true e h k l = absurd (not-suc-le-zero l)
+before f m false e h zero l = e
+before f m false e h (suc k) l = h k (le-of-suc-le-suc l)
+
+first-before : (f : ℕ → Bool) (n k : ℕ) → k < first n f → f k ≡ false
+unfolding first
+first-before f zero k l = absurd (not-suc-le-zero l)
+first-before f (suc n) k l = before f (first n (λ j. f (suc j))) (f 0) refl (λ j b. first-before (λ i. f (suc i)) n j b) k l
+
+none-on : (f : ℕ → Bool) (i m : ℕ) → any i f ≡ false → ((k : ℕ) → k < m → f (i + k) ≡ false) → any (i + m) f ≡ false
+unfolding any
+none-on f i zero p h = rw (add-zero i) p
+none-on f i (suc m) p h = rw (add-suc i m, none-on f i m p (λ k l. h k (omega arith)), h m (le-refl (suc m)))
+
+module _ {f : ℕ → Bool} {n i : ℕ} (s : Searched f n i) (g : ℕ → Bool) {m p : ℕ} (e : p ≡ first m g) (b : i + m ≤ n) (h : (k : ℕ) → k < m → g k ≡ f (i + k)) where
+  pub search-part : m ≤ p → Searched f n (i + m)
+  search-part l =
+      record { high = b; none = none-on f i m (s .none) (λ k c. sym (h k c) ∙ first-past g m (subst (λ (x : ℕ). m ≤ x) e l) k c) }
+
+  pub search-in : p < m → i + p ≡ first n f
+  search-in l =
+      let none : any (i + p) f ≡ false = none-on f i p (s .none) (λ k c. sym (h k (omega arith)) ∙ first-before g m k (subst (λ (x : ℕ). k < x) e c)) in
+      let hit : f (i + p) ≡ true = sym (h p l) ∙ subst (λ (x : ℕ). g x ≡ true) (sym e) (first-holds g m (subst (λ (x : ℕ). x < m) e l)) in
+      sym (first-is f n (i + p) (none-below f (i + p) none) (omega arith) hit)

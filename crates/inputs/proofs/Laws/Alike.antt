@@ -1,6 +1,6 @@
 -- Each public function's promise determines its answer, and the stencil where it writes one: any two that it permits for the same arguments are the same. Assumes nothing.
 -- `Post` is a function's promise as the checker makes it of the `ensures` in the source. No public function has a `requires`.
-use mathlib.Core.Path.{_≡_}
+use mathlib.Core.Path.{_≡_, _∙_}
 use denote.Ref.{now}
 use Rattle.ground.proofs.Laws.Alike.{Alike, alike}
 use Rattle.inputs.proofs.stencil.is_error.Kinds as is-error-kinds
@@ -22,8 +22,12 @@ use Rattle.inputs.proofs.stencil.count_cells.Kinds as count-cells-kinds
 use Rattle.inputs.proofs.stencil.count_cells.Reads as count-cells
 use Rattle.inputs.proofs.checks.size_refusal.Kinds as size-refusal-kinds
 use Rattle.inputs.proofs.checks.size_refusal.Reads as size-refusal
-use Rattle.inputs.proofs.checks.check.Kinds as check-kinds
-use Rattle.inputs.proofs.checks.check.Reads as check
+use Rattle.inputs.proofs.checks.settings_place.Kinds as settings-place-kinds
+use Rattle.inputs.proofs.checks.settings_place.Reads as settings-place
+use Rattle.inputs.proofs.checks.samples_place.Kinds as samples-place-kinds
+use Rattle.inputs.proofs.checks.samples_place.Reads as samples-place
+use Rattle.inputs.proofs.checks.outline_refusal.Kinds as outline-refusal-kinds
+use Rattle.inputs.proofs.checks.outline_refusal.Reads as outline-refusal
 
 -- The bits of a byte.
 pub is-error-alike : Alike 0 is-error-kinds.ps is-error-kinds.r is-error.Post
@@ -60,6 +64,13 @@ count-cells-alike κs a r s e f = alike
 pub size-refusal-alike : Alike 0 size-refusal-kinds.ps size-refusal-kinds.r size-refusal.Post
 size-refusal-alike κs a r s e f = alike
 
--- The first of all, with its place.
-pub check-alike : Alike 5 check-kinds.ps check-kinds.r check.Post
-check-alike κs a r s e f p q = let n : r .number ≡ s .number = alike (p .0) (q .0) in let o : r .place ≡ s .place = alike (p .1) (q .1) in rw (n, o)
+-- The places of checks 5 and 6.
+pub settings-place-alike : Alike 0 settings-place-kinds.ps settings-place-kinds.r settings-place.Post
+settings-place-alike κs a r s e f = alike
+
+pub samples-place-alike : Alike 1 samples-place-kinds.ps samples-place-kinds.r samples-place.Post
+samples-place-alike κs a r s e f = alike
+
+-- The first of checks 7 to 9 that fails, with its place.
+pub outline-refusal-alike : Alike 3 outline-refusal-kinds.ps outline-refusal-kinds.r outline-refusal.Post
+outline-refusal-alike κs a r s e f p q = let n : r .number ≡ s .number = alike (p .0) (q .0) in let o : r .place ≡ s .place = p .1 ∙ rw (n, q .1) in rw (n, o)

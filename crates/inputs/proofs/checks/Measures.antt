@@ -1,6 +1,7 @@
 -- What passing each of checks 1 to 4 says, and all of them. Assumes nothing.
 --     channel-bound, side-bound, size-bound, sample-count, cell-count   each by itself
 --     sizes          the sides and the channels are within their bounds, and both lengths are as they should be
+--     sizes-pass     and the other way round
 --     sized, cells   the same as the functions behind the checks ask for it
 use mathlib.Core.Path.{_≡_, refl, sym, _∙_, ap}
 use mathlib.Core.Bool.{Bool, true, false, _||_, true≢false}
@@ -11,11 +12,11 @@ use mathlib.Core.List.{List}
 use lib.Dec.{eqb, leb}
 use lib.ListN.{length}
 use lib.Ieee.{Float}
-use borrow.Author.Tests.{eqb-true, leb-true, not-false}
+use borrow.Author.Tests.{eqb-true, leb-true, not-false, le-leb, eq-eqb}
 use Rattle.inputs.specs.Checks.{badChannels, badSide, badSize, badSampleCount, badCellCount, sizeChecks, sizeRefusal}
 use Rattle.inputs.specs.Inner.{Sized}
 use Rattle.ground.proofs.Laws.Bools.{both-hold, both-fail}
-use Rattle.ground.proofs.Laws.Refuse.{all-pass}
+use Rattle.ground.proofs.Laws.Refuse.{all-pass, none-fails}
 
 pub side-bound : (n : ℕ) → badSide n ≡ false → (1 ≤ n) × (n ≤ 4096)
 unfolding badSide
@@ -78,3 +79,10 @@ sized w h ch xs m s =
 
 pub cells : (w h ch n m : ℕ) → Sizes w h ch n m → m ≡ h * w
 cells w h ch n m s = s .cells ∙ mul-comm w h
+
+-- the other way round: sizes that are within their bounds pass
+pub sizes-pass : (w h ch n m : ℕ) → badChannels ch ≡ false → (1 ≤ w) × (w ≤ 4096) → (1 ≤ h) × (h ≤ 4096) → n ≡ w * h * ch → m ≡ w * h → sizeRefusal w h ch n m ≡ 0
+unfolding sizeRefusal badSize badSide badSampleCount badCellCount
+sizes-pass w h ch n m c a b p q =
+    none-fails (sizeChecks w h ch n m)
+    (c, (rw (le-leb 1 w (a .0), le-leb w 4096 (a .1), le-leb 1 h (b .0), le-leb h 4096 (b .1)), (rw (eq-eqb n (w * h * ch) p), (rw (eq-eqb m (w * h) q), tt))))

@@ -6,6 +6,7 @@
 --     stages, staged   an answer 0 is one of each stage of the checks
 --     passed         so of each check
 --     ready          what the functions behind the checks ask for
+--     content-outlined   the same of the outlines, where checks 5 to 9 by themselves pass
 use mathlib.Core.Path.{_≡_, refl, subst, _∙_}
 use mathlib.Core.Bool.{true, false, not, _||_}
 use mathlib.Core.List.{List}
@@ -18,7 +19,7 @@ use borrow.Author.Tests.{eqb-true, ltb-false, not-false}
 use Rattle.numbers.specs.Constants.{zeroOf}
 use Rattle.ranges.specs.Constants.{limitOf}
 use Rattle.ranges.specs.declared.config.Settings.{Settings}
-use Rattle.inputs.specs.Checks.{Input, badLength, settingsPlace, badSettings, oversize, samplesPlace, badSamples, badOutlines, endBefore, badEnd, endsPlace, badEnds, badSegment, segmentsPlace, badSegments, outlineChecks, bitmapChecks, contentChecks, sizeRefusal, refusalNumber}
+use Rattle.inputs.specs.Checks.{Input, badLength, settingsPlace, badSettings, oversize, samplesPlace, badSamples, badOutlines, endBefore, badEnd, endsPlace, badEnds, badSegment, segmentsPlace, badSegments, outlineChecks, bitmapChecks, contentChecks, sizeRefusal, contentRefusal, refusalNumber}
 use Rattle.inputs.specs.Inner.{Sized, Outlined}
 use Rattle.inputs.proofs.checks.Ends.{before-next}
 use Rattle.inputs.proofs.checks.Measures.{sizes, sized, cells}
@@ -155,3 +156,9 @@ ready i z =
     let o = passed i z in
     let s = sizes _ _ _ _ _ (o .sizes) in
     (sized _ _ _ _ _ s, (cells _ _ _ _ _ s, o .outlined))
+
+pub content-outlined : (i : Input) → contentRefusal i ≡ 0 → Outlined (i .colours) (i .coords) (i .ends)
+unfolding contentRefusal
+content-outlined i z =
+    let f = all-pass (contentChecks i) refl z in
+    made (i .colours) (i .coords) (i .ends) (f .1 .1 .0) (good-ends (i .ends) (length (i .colours)) (f .1 .1 .1 .0) .0)

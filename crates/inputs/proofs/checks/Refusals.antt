@@ -1,6 +1,8 @@
 -- Which check answers, and with what place, by what the code has found: n is the answer of checks 1 to 4, p and q are the places of checks 5 and 6. Assumes nothing.
 --     below, not-below   a test of a place, by what the code compares
+--     content-settings, content-samples, content-outlines   of checks 5 to 9 by themselves, the one that answers
 --     by-sizes           one of checks 1 to 4 fails
+--     by-content         those pass, so checks 5 to 9 answer
 --     by-settings        those pass, and check 5 fails
 --     by-samples         those pass, and check 6 fails
 --     by-outlines        those pass, so checks 7 to 9 answer, with r and its place o
@@ -11,7 +13,7 @@ use lib.Dec.{ltb}
 use lib.ListN.{length}
 use borrow.Author.Tests.{lt-ltb, le-ltb}
 use Rattle.ground.specs.Refuse.{firstFailing}
-use Rattle.inputs.specs.Checks.{Input, settingsPlace, badSettings, samplesPlace, badSamples, outlineChecks, bitmapChecks, contentChecks, sizeRefusal, outlineRefusal, refusalNumber, outlinePlace, placeOf, refusalPlace}
+use Rattle.inputs.specs.Checks.{Input, settingsPlace, badSettings, samplesPlace, badSamples, outlineChecks, bitmapChecks, contentChecks, sizeRefusal, outlineRefusal, contentRefusal, refusalNumber, outlinePlace, placeOf, refusalPlace}
 use Rattle.ground.proofs.Laws.Refuse.{all-pass, fails-in, passes-to, answer-is}
 
 pub below : {p q : ℕ} (n : ℕ) → p ≡ q → p < n → ltb q n ≡ true
@@ -26,6 +28,27 @@ module _ (i : Input) where
   unfolding refusalPlace
   answers e p = (e, p ∙ ap (placeOf i) e)
 
+  -- ---- checks 5 to 9 by themselves
+
+  module _ {p : ℕ} (f : p ≡ settingsPlace (i .mode) (i .settings)) where
+    pub content-settings : p < 5 → (5 ≡ contentRefusal i) × (p ≡ placeOf i 5)
+    unfolding contentRefusal firstFailing badSettings placeOf
+    content-settings l = (simp (below 5 f l), f)
+
+    module _ (t : 5 ≤ p) {q : ℕ} (g : q ≡ samplesPlace (i .samples)) where
+      pub content-samples : q < length (i .samples) → (6 ≡ contentRefusal i) × (q ≡ placeOf i 6)
+      unfolding contentRefusal firstFailing badSettings badSamples placeOf
+      content-samples l = (simp (not-below 5 f t, below (length (i .samples)) g l), g)
+
+      pub content-outlines : length (i .samples) ≤ q → {r o : ℕ} → r ≡ outlineRefusal (i .colours) (i .coords) (i .ends) → o ≡ outlinePlace (i .colours) (i .coords) (i .ends) r → (r ≡ contentRefusal i) × (o ≡ placeOf i r)
+      unfolding contentRefusal firstFailing badSettings badSamples outlineRefusal placeOf outlinePlace
+      content-outlines l {r} a b = (
+        a ∙ simp (not-below 5 f t, not-below (length (i .samples)) g l),
+        b ∙ subst (λ (k : ℕ). outlinePlace (i .colours) (i .coords) (i .ends) k ≡ placeOf i k) (sym a) (answer-is (λ k. outlinePlace (i .colours) (i .coords) (i .ends) k ≡ placeOf i k) (outlineChecks (i .colours) (i .coords) (i .ends)) refl (refl, (refl, (refl, tt)))),
+      )
+
+  -- ---- all checks
+
   module _ {n : ℕ} (e : n ≡ sizeRefusal (i .width) (i .height) (i .channels) (length (i .samples)) (length (i .stencil))) where
     pub by-sizes : (n ≡ 0 → ⊥) → (n ≡ refusalNumber i) × (0 ≡ refusalPlace i)
     unfolding sizeRefusal refusalNumber placeOf outlinePlace
@@ -33,22 +56,18 @@ module _ (i : Input) where
         answers (e ∙ sym (fails-in (bitmapChecks i) (contentChecks i) (λ z. h (e ∙ z))))
         (answer-is (λ k. 0 ≡ placeOf i k) (bitmapChecks i) refl (refl, (refl, (refl, (refl, tt)))) ∙ ap (placeOf i) (sym e))
 
-    module _ (z : n ≡ 0) {p : ℕ} (f : p ≡ settingsPlace (i .mode) (i .settings)) where
-      from-rest : firstFailing (contentChecks i) ≡ refusalNumber i
-      unfolding sizeRefusal refusalNumber
-      from-rest = sym (passes-to (bitmapChecks i) (contentChecks i) (all-pass (bitmapChecks i) refl (sym e ∙ z)))
+    module _ (z : n ≡ 0) where
+      pub by-content : {k o : ℕ} → (k ≡ contentRefusal i) × (o ≡ placeOf i k) → (k ≡ refusalNumber i) × (o ≡ refusalPlace i)
+      unfolding sizeRefusal refusalNumber contentRefusal
+      by-content a = answers (a .0 ∙ sym (passes-to (bitmapChecks i) (contentChecks i) (all-pass (bitmapChecks i) refl (sym e ∙ z)))) (a .1)
 
-      pub by-settings : p < 5 → (5 ≡ refusalNumber i) × (p ≡ refusalPlace i)
-      unfolding firstFailing badSettings placeOf
-      by-settings l = answers (simp (below 5 f l) at from-rest) f
+      module _ {p : ℕ} (f : p ≡ settingsPlace (i .mode) (i .settings)) where
+        pub by-settings : p < 5 → (5 ≡ refusalNumber i) × (p ≡ refusalPlace i)
+        by-settings l = by-content (content-settings f l)
 
-      module _ (t : 5 ≤ p) {q : ℕ} (g : q ≡ samplesPlace (i .samples)) where
-        pub by-samples : q < length (i .samples) → (6 ≡ refusalNumber i) × (q ≡ refusalPlace i)
-        unfolding firstFailing badSettings badSamples placeOf
-        by-samples l = answers (simp (not-below 5 f t, below (length (i .samples)) g l) at from-rest) g
+        module _ (t : 5 ≤ p) {q : ℕ} (g : q ≡ samplesPlace (i .samples)) where
+          pub by-samples : q < length (i .samples) → (6 ≡ refusalNumber i) × (q ≡ refusalPlace i)
+          by-samples l = by-content (content-samples f t g l)
 
-        pub by-outlines : length (i .samples) ≤ q → {r o : ℕ} → r ≡ outlineRefusal (i .colours) (i .coords) (i .ends) → o ≡ outlinePlace (i .colours) (i .coords) (i .ends) r → (r ≡ refusalNumber i) × (o ≡ refusalPlace i)
-        unfolding firstFailing badSettings badSamples outlineRefusal placeOf outlinePlace
-        by-outlines l {r} a b =
-            answers (a ∙ (simp (not-below 5 f t, not-below (length (i .samples)) g l) at from-rest))
-            (b ∙ subst (λ (k : ℕ). outlinePlace (i .colours) (i .coords) (i .ends) k ≡ placeOf i k) (sym a) (answer-is (λ k. outlinePlace (i .colours) (i .coords) (i .ends) k ≡ placeOf i k) (outlineChecks (i .colours) (i .coords) (i .ends)) refl (refl, (refl, (refl, tt)))))
+          pub by-outlines : length (i .samples) ≤ q → {r o : ℕ} → r ≡ outlineRefusal (i .colours) (i .coords) (i .ends) → o ≡ outlinePlace (i .colours) (i .coords) (i .ends) r → (r ≡ refusalNumber i) × (o ≡ refusalPlace i)
+          by-outlines l a b = by-content (content-outlines f t g l a b)

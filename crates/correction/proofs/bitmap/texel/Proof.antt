@@ -1,31 +1,36 @@
 -- `correction::bitmap::texel` meets its contract: the last of the three places is in the list. Assumes nothing.
+use mathlib.Core.Path.{sym}
 use Prim.Native.Nat.{_+_, _<_}
 use native.Mathlib.Nat.{add-zero}
 use native.Mathlib.Omega.{arith}
 use lib.ListN.{length}
 use denote.Ref.{now}
-use borrow.Author.Needs.{needs}
-use Rattle.correction.specs.Bitmap.{texel}
-use Rattle.inputs.proofs.Laws.Places.{Place, placed}
+use Rattle.correction.proofs.bitmap.Centres.{texel-cut}
 use Rattle.correction.proofs.bitmap.texel.Statement.{statement}
 use Rattle.correction.proofs.bitmap.texel.Tie as tie
 
-at : (c : tie.Start) → Place (c .args .b .width) (c .args .b .channels) (c .args .x) (c .args .y) (length (now (c .args .xs)))
-at c = placed _ (c .args .b .height) _ _ _ _ (c .pre .1 .0) (c .pre .1 .1) (c .pre .0 .some) (c .pre .0 .long)
-
 -- the three samples are there
 held : (c : tie.After-place) → c .place .result + 2 < length (now (c .before .before .args .xs))
-held c = omega (arith, at (c .before .before), c .place .ensures)
+held c =
+    let s = c .before .before in
+    omega (arith, s .pre .0 .held _ _ (s .pre .1 .0) (s .pre .1 .1), s .pre .0 .some, c .place .ensures)
+
+place-requires : tie.Need-place-requires
+place-requires c κs =
+    let s = c .before in
+    (s .pre .0 .fits, (s .pre .1 .0, s .pre .1 .1, s .pre .0 .few))
 
 returns : tie.Need-returns
-unfolding texel
-returns c = rw (c .before .before .before .place .ensures, add-zero)
+returns c =
+    let d = c .before .before .before in
+    let s = d .before .before in
+    rw (d .place .ensures) (rw add-zero at (sym (texel-cut _ _ _ (s .pre .1 .0) (s .pre .1 .1) _ (s .pre .0))))
 
 pub texel-spec : {M : Type 1} → statement M
 texel-spec =
     tie.close
     (tie.spec
-    (λ c κs. search needs)
+    place-requires
     (λ c. omega (arith, held c, c .before .before .good))
     (λ c. omega (arith, held (c .before)))
     (λ c. omega (arith, held (c .before), c .before .before .before .good))

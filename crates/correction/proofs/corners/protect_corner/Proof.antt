@@ -8,7 +8,7 @@ returns : tie.Need-returns
 returns c =
     let m = c .before .before in
     let t = m .before .before .before .before in
-    hit _ _ _ _ _ _ _ _ (t .before .before .before .before .previous .ensures .0) (t .before .is-corner .ensures) (t .if1 .taken) _ _ (m .mark-around .ensures)
+    hit _ _ _ _ _ _ _ _ (t .before .before .before .before .previous .ensures .0) (t .before .is-corner .ensures) (t .if1 .taken) (m .mark-around .ensures)
 
 returns-2 : tie.Need-returns-2
 returns-2 c = miss _ _ _ _ _ _ _ _ (c .before .before .before .before .previous .ensures .0) (c .before .is-corner .ensures) (c .if1 .left) _

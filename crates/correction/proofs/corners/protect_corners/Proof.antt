@@ -1,5 +1,5 @@
 -- `correction::corners::protect_corners` meets its contract: after each turn the stencil is painted by the contours before c. Assumes nothing.
-use mathlib.Core.Path.{_≡_, refl, _∙_}
+use mathlib.Core.Path.{_≡_, refl}
 use mathlib.Core.Bool.{Bool}
 use mathlib.Core.List.{List}
 use Prim.Native.Nat.{ℕ, _-_, _/_, _%_, _≤_}
@@ -7,13 +7,13 @@ use native.Mathlib.Omega.{arith}
 use lib.ListN.{length, getD}
 use lib.Ieee.{Float}
 use denote.Ref.{now}
-use Rattle.ground.specs.Lists.{any, painted}
+use Rattle.ground.specs.Lists.{any}
+use Rattle.inputs.specs.declared.sizes.Window.{Window}
 use Rattle.correction.specs.Inner.{atCorner}
 use Rattle.correction.specs.Numbered.{startAt, contourHits}
-use Rattle.ground.proofs.Laws.Painted.{painted-zero, painted-same, painted-long, painted-turn}
-use Rattle.inputs.proofs.Laws.Places.{still-celled}
 use Rattle.inputs.proofs.Laws.Stencil.{both-again}
 use Rattle.correction.proofs.Laws.Contours.{start-next, start-le, corners-at}
+use Rattle.correction.proofs.corners.Strokes.{Painted, stroke-same, stroke-still, stroke-zero, stroke-turn}
 use Rattle.correction.proofs.corners.protect_corners.Statement.{statement}
 use Rattle.correction.proofs.corners.protect_corners.Tie as tie
 
@@ -21,13 +21,13 @@ use Rattle.correction.proofs.corners.protect_corners.Tie as tie
 abbrev nth : ℕ → List ℕ → List Float → List ℕ → ℕ → ℕ → Bool
 nth w colours coords ends j k = contourHits colours coords (startAt ends j) (getD ends j 0) (k % w) (k / w)
 
-record Inv (st₀ : List ℕ) (w : ℕ) (colours : List ℕ) (coords : List Float) (ends st : List ℕ) (from c : ℕ) : Type 0 where
+record Inv (st₀ : List ℕ) (g : Window) (colours : List ℕ) (coords : List Float) (ends st : List ℕ) (from c : ℕ) : Type 0 where
   high : c ≤ length ends
   start : from ≡ startAt ends c
-  done : st ≡ painted atCorner (λ k. any c (λ j. nth w colours coords ends j k)) st₀
+  done : Painted atCorner g (λ k. any c (λ j. nth (g .width) colours coords ends j k)) st₀ st
 
 abbrev Inv-loop : tie.InvT-loop
-Inv-loop stencil₀ b colours coords ends from₀ c₀ stencil from c = Inv stencil₀ (b .width) colours coords ends stencil from c
+Inv-loop stencil₀ b colours coords ends from₀ c₀ stencil from c = Inv stencil₀ b colours coords ends stencil from c
 
 abbrev μ-loop : tie.MeasureT-loop
 μ-loop stencil₀ b colours coords ends from₀ c₀ stencil from c = length ends - c
@@ -35,7 +35,7 @@ abbrev μ-loop : tie.MeasureT-loop
 loop-holds : tie.Need-loop-holds Inv-loop μ-loop
 loop-holds c =
     let a = c .before .before .before .before .args in
-    record { high = omega arith; start = refl; done = painted-zero atCorner (nth (a .b .width) (now (a .colours)) (now (a .coords)) (now (a .ends))) (now (a .stencil)) }
+    record { high = omega arith; start = refl; done = stroke-zero atCorner (a .b) (nth (a .b .width) (now (a .colours)) (now (a .coords)) (now (a .ends))) (now (a .stencil)) }
 
 protect-contour-requires : tie.Need-protect-contour-requires Inv-loop μ-loop
 protect-contour-requires c κs =
@@ -44,7 +44,7 @@ protect-contour-requires c κs =
     let r = t .before .before .before .before .before .before .pre in
     let o = r .1 in
     let s = start-le o (l .c) (t .loop-test .taken) in
-    (still-celled (r .0) (painted-long atCorner both-again _ _ _ _ (l .inv .done)), ((o .twice, o .few), (omega (arith, l .inv .start, s), o .within (l .c) (t .loop-test .taken))))
+    (stroke-still atCorner _ _ (r .0) (l .inv .done), ((o .twice, o .few), (omega (arith, l .inv .start, s), o .within (l .c) (t .loop-test .taken))))
 
 add-c : tie.Need-add-c Inv-loop μ-loop
 add-c c = let t = c .before .before .before .before .before in omega (arith, t .before .before .before .before .before .before .good, t .loop-test .taken)
@@ -56,7 +56,7 @@ loop-again c =
     record {
       high = omega (arith, t .loop-test .taken);
       start = start-next (now (t .before .before .before .before .before .before .args .ends)) (l .c);
-      done = painted-turn atCorner both-again _ _ _ _ (l .inv .done) _ _ (λ k. rw (l .inv .start)) (c .before .before .protect-contour .ensures);
+      done = stroke-turn atCorner _ both-again _ _ _ (l .inv .done) (λ k. rw (l .inv .start)) (c .before .before .protect-contour .ensures);
     }
 
 returns : tie.Need-returns Inv-loop μ-loop
@@ -64,8 +64,7 @@ returns c =
     let s = c .before .before .before .before .before .before in
     let v = c .before .loop .inv in
     let e : c .before .loop .c ≡ length (now (s .args .ends)) = omega (arith, v .high) in
-    rw e at (v .done)
-    ∙ painted-same atCorner _ _ _ (λ k. corners-at _ _ _ (s .pre .1) _ _)
+    stroke-same atCorner _ _ _ (λ k l. corners-at _ _ _ (s .pre .1) _ _) (rw e at (v .done))
 
 pub protect-corners-spec : {M : Type 1} → statement M
 protect-corners-spec =
@@ -80,5 +79,5 @@ protect-corners-spec =
     add-c
     (λ c. omega (arith, c .before .before .before .before .before .loop-test .taken))
     loop-again
-    (λ c. painted-long atCorner both-again _ _ _ _ (c .before .loop .inv .done))
+    (λ c. c .before .loop .inv .done .long)
     returns)

@@ -7,6 +7,7 @@ use Rattle.numbers.specs.declared.scalar.Middle.{Middle}
 use Rattle.detectors.specs.Texel.{texelMedian}
 use Rattle.detectors.proofs.Laws.Verdict.{guarded-off, guarded-on}
 use Rattle.detectors.proofs.Laws.Guard.{untested, tested}
+use Rattle.inputs.specs.Window.{cutSamples}
 use Rattle.correction.specs.Bitmap.{texel}
 use Rattle.correction.specs.Errors.{diagonalArtifact, acrossTests}
 use Rattle.correction.proofs.bitmap.Places.{Inside, inside}
@@ -19,7 +20,7 @@ at c = inside _ _ _ _ (sym (c .before .in-bounds .ensures) ∙ c .if1 .taken)
 
 -- its median
 far : (c : tie.After-median) → let a = c .before .before .before .before .before .args in
-    c .median .result .value ≡ texelMedian (texel (now (a .xs)) (a .b .width) (a .b .channels) (a .nx - 1) (a .ny - 1))
+    c .median .result .value ≡ texelMedian (texel (cutSamples (a .b) (now (a .xs))) (a .b .width) (a .b .channels) (a .nx - 1) (a .ny - 1))
 far c = rw (c .before .neighbour .ensures) at (ap (λ (m : Middle). m .value) (c .median .ensures))
 
 neighbour-requires : tie.Need-neighbour-requires

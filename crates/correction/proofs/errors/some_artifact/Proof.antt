@@ -1,8 +1,8 @@
 -- `correction::errors::some_artifact` meets its contract: after each neighbour the verdict is that of all up to it. Assumes nothing.
-use mathlib.Core.Path.{_≡_, refl, sym, _∙_, ap}
-use mathlib.Core.Bool.{Bool, true, false, _||_}
+use mathlib.Core.Path.{_≡_, refl, _∙_, ap}
+use mathlib.Core.Bool.{Bool, true, false}
 use mathlib.Core.List.{List}
-use Prim.Native.Nat.{ℕ, zero, suc, _+_, _<_, _≤_}
+use Prim.Native.Nat.{ℕ, zero, suc, _+_, _≤_}
 use native.Mathlib.Omega.{arith}
 use lib.Dec.{eqb}
 use lib.Ieee.{Float}
@@ -12,6 +12,7 @@ use borrow.Author.Tests.{eq-eqb, ne-eqb}
 use Rattle.ranges.specs.declared.config.Settings.{Settings}
 use Rattle.ranges.specs.Config.{sideSpan, diagonalSpan}
 use Rattle.detectors.specs.Verdict.{verdict}
+use Rattle.inputs.specs.Window.{cutSamples}
 use Rattle.correction.specs.Bitmap.{texel}
 use Rattle.correction.specs.Errors.{sideArtifact, someSide, diagonalArtifact, someDiagonal, someArtifact, sideTests, acrossTests, linearMade, diagonalMade, someMade}
 use Rattle.correction.proofs.Laws.Tests.{side-tests-le, side-few, across-tests-le, across-few, linear-made-le}
@@ -73,7 +74,7 @@ span-last s x = ap (sideSpan s) (ne-eqb (x + 2) (x + 1) (omega arith))
 
 -- the neighbours of the texel that is given
 abbrev of : tie.Start → ℕ → ℕ
-of c = let a = c .args in towards (texel (now (a .xs)) (a .b .width) (a .b .channels)) (a .b .width) (a .b .height) (a .s) (a .protected) (a .t .median) (a .t .texel) (a .t .x) (a .t .y)
+of c = let a = c .args in towards (texel (cutSamples (a .b) (now (a .xs))) (a .b .width) (a .b .channels)) (a .b .width) (a .b .height) (a .s) (a .protected) (a .t .median) (a .t .texel) (a .t .x) (a .t .y)
 
 -- the verdict after each of them
 after1 : (c : tie.After-side-artifact) → c .side-artifact .result ≡ upTo 1 (of (c .before .before))

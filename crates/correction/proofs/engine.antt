@@ -1,0 +1,3 @@
+-- What the stages of the pass leave for each other.
+pub mod Staged
+pub mod Whole

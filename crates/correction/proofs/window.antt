@@ -1,0 +1,2 @@
+-- The rows of a window.
+pub mod Rows
