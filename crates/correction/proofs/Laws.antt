@@ -2,6 +2,7 @@
 pub mod Contours
 pub mod Collapse
 pub mod Answer
+pub mod Failure
 pub mod Leaves
 pub mod Neighbourhood
 pub mod Finite
@@ -17,3 +18,7 @@ pub mod Corners
 pub mod Tests
 pub mod Channel
 pub mod Figures
+pub mod Sheets
+pub mod Cells
+pub mod Order
+pub mod SheetRuns

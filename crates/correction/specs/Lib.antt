@@ -6,8 +6,11 @@ pub mod Errors
 pub mod Collapse
 pub mod Rewired
 pub mod Pass
+pub mod Sheet
+pub mod Reordered
 pub mod Neighbourhood
 pub mod Stricter
 pub mod View
 pub mod Figures
 pub mod Inner
+pub mod Cells

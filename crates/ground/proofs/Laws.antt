@@ -3,6 +3,7 @@ pub mod Bools
 pub mod Search
 pub mod Count
 pub mod Spent
+pub mod Sums
 pub mod Fill
 pub mod Painted
 pub mod Picked
