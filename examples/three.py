@@ -62,4 +62,5 @@ def main():
             print("  " + " ".join(f"{round(v, 4) + 0.0:g}" for v in (FAULTY[2] if faulty else texel(edges, x, y))) + ("  # the faulty texel" if faulty else ""))
 
 
-main()
+if __name__ == "__main__":
+    main()

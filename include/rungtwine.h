@@ -1,5 +1,5 @@
-/* The error-correction pass of a multi-channel distance field by two engines, a view of its texels and the channel of a texel's median, proved against their
- * definitions. */
+/* The error-correction pass of a multi-channel distance field by two engines, the pass on the cells of a sheet, a view of texels and the channel of a texel's
+ * median, proved against their definitions. */
 #ifndef RUNGTWINE_H
 #define RUNGTWINE_H
 
@@ -78,6 +78,115 @@ uint8_t rungtwine_plain_error_correction(
     const double *coords, size_t coords_len,
     const size_t *ends, size_t ends_len,
     size_t *place, size_t *protected_cells, size_t *error_cells, size_t *corner_cells);
+
+/* Where a cell of a sheet lies: the column and the row of its lower left texel, its width and its height; and its run of each outline list: where the run starts
+ * in the list and how many it takes. */
+typedef struct {
+    size_t x, y, width, height;
+    size_t colours_from, colours_count;
+    size_t coords_from, coords_count;
+    size_t ends_from, ends_count;
+} rungtwine_cell;
+
+/* The settings of a cell: the least deviation ratio and the three lengths. */
+typedef struct {
+    double ratio, horizontal, vertical, diagonal;
+} rungtwine_settings;
+
+/* An array of cells is ten numbers a cell and nothing else, one of settings four. */
+typedef char rungtwine_cell_is_ten_numbers[sizeof(rungtwine_cell) == 10 * sizeof(size_t) ? 1 : -1];
+typedef char rungtwine_settings_are_four_numbers[sizeof(rungtwine_settings) == 4 * sizeof(double) ? 1 : -1];
+
+/*
+ * Whole sheets: corrects each cell of a sheet in place, as if the cell were a bitmap alone. What it is given:
+ *
+ *   width, height, channels, samples, stencil   the sheet, laid out as the bitmap above
+ *   cells      ten numbers a cell, those of rungtwine_cell in its order: x, y, width, height, then for colours, coords and ends where its run starts and
+ *              how many it takes
+ *   modes      a mode a cell: there are modes_len cells
+ *   settings   four numbers a cell, those of rungtwine_settings in its order
+ *   colours, coords, ends   the outlines of all cells. A cell has the segments and contours of its own runs, counted from the run's start: an end of 3 is
+ *              the cell's first three segments, and a segment's start is in pixel units from the cell's own lower left corner. A run of coords counts
+ *              numbers, two a segment. Runs may overlap: two cells with the same glyph can share one.
+ *
+ * rungtwine_cells_error_correction below takes arrays of structs and is otherwise the same.
+ *
+ * Nothing is written until all checks of all cells pass. Then it answers 0, and for each cell the samples and stencil bytes are those that
+ * rungtwine_error_correction leaves of the cell cut out. Samples outside every cell stay, stencil bytes there become 0. It writes cell 0, place 0 and
+ * the four counts, each the sum over the cells; no cell at all is accepted. Cells in another order give the same sheet. Otherwise it answers the number of
+ * the first check that fails, writes the number of its cell, from 0, its place and four zero counts, and leaves samples and stencil as they were. In this
+ * order:
+ *
+ *   1  channels not 3 or 4
+ *   50 width or height outside 1 to 4096, samples_len not width * height * channels, stencil_len not width * height, more than 4096 cells,
+ *      cells_len not 10 * modes_len, or settings_len not 4 * modes_len
+ *   51 a cell empty or not inside the sheet (the first such cell)
+ *   52 two cells overlap (the first that overlaps an earlier one)
+ *   53 a run not inside its list (the first cell with one)
+ *   then checks 5 to 9 above of each cell by itself, first cell first: the number, the cell, and a place that counts within the cell, its samples row by row
+ *   as if it were cut out, its segments and ends from its runs' starts
+ *
+ * Checks 1 and 50 name cell 0, and checks 1 and 50 to 53 place 0. There is no further demand on the numbers. Each pointer has to be good for the length beside it
+ * (`cell`, `place` and the four counts for one), not null and aligned for its type, also where the length is 0; what is written must overlap nothing else.
+ */
+uint8_t rungtwine_sheet_error_correction(
+    size_t width, size_t height, size_t channels,
+    float *samples, size_t samples_len,
+    uint8_t *stencil, size_t stencil_len,
+    const size_t *cells, size_t cells_len,
+    const uint8_t *modes, size_t modes_len,
+    const double *settings, size_t settings_len,
+    const uint8_t *colours, size_t colours_len,
+    const double *coords, size_t coords_len,
+    const size_t *ends, size_t ends_len,
+    size_t *cell, size_t *place, size_t *protected_cells, size_t *error_cells, size_t *corner_cells, size_t *tests);
+
+/*
+ * All checks of rungtwine_sheet_error_correction, and nothing else: the same number, cell and place for the same arguments, 0 where it would be accepted.
+ * For a caller who corrects a sheet part by part and wants to know beforehand. What is said above of the pointers holds here too.
+ */
+uint8_t rungtwine_sheet_check(
+    size_t width, size_t height, size_t channels,
+    const float *samples, size_t samples_len,
+    const uint8_t *stencil, size_t stencil_len,
+    const size_t *cells, size_t cells_len,
+    const uint8_t *modes, size_t modes_len,
+    const double *settings, size_t settings_len,
+    const uint8_t *colours, size_t colours_len,
+    const double *coords, size_t coords_len,
+    const size_t *ends, size_t ends_len,
+    size_t *cell, size_t *place);
+
+/* rungtwine_sheet_error_correction with `count` cells as arrays of structs. */
+static inline uint8_t rungtwine_cells_error_correction(
+    size_t width, size_t height, size_t channels,
+    float *samples, size_t samples_len,
+    uint8_t *stencil, size_t stencil_len,
+    const rungtwine_cell *cells, const uint8_t *modes, const rungtwine_settings *settings, size_t count,
+    const uint8_t *colours, size_t colours_len,
+    const double *coords, size_t coords_len,
+    const size_t *ends, size_t ends_len,
+    size_t *cell, size_t *place, size_t *protected_cells, size_t *error_cells, size_t *corner_cells, size_t *tests)
+{
+    return rungtwine_sheet_error_correction(width, height, channels, samples, samples_len, stencil, stencil_len, (const size_t *)cells, 10 * count, modes, count,
+                                            (const double *)settings, 4 * count, colours, colours_len, coords, coords_len, ends, ends_len, cell, place,
+                                            protected_cells, error_cells, corner_cells, tests);
+}
+
+/* rungtwine_sheet_check with `count` cells as arrays of structs. */
+static inline uint8_t rungtwine_cells_check(
+    size_t width, size_t height, size_t channels,
+    const float *samples, size_t samples_len,
+    const uint8_t *stencil, size_t stencil_len,
+    const rungtwine_cell *cells, const uint8_t *modes, const rungtwine_settings *settings, size_t count,
+    const uint8_t *colours, size_t colours_len,
+    const double *coords, size_t coords_len,
+    const size_t *ends, size_t ends_len,
+    size_t *cell, size_t *place)
+{
+    return rungtwine_sheet_check(width, height, channels, samples, samples_len, stencil, stencil_len, (const size_t *)cells, 10 * count, modes, count,
+                                 (const double *)settings, 4 * count, colours, colours_len, coords, coords_len, ends, ends_len, cell, place);
+}
 
 /* A part of a bitmap: `length` samples from `samples` on. */
 typedef struct {

@@ -1,5 +1,5 @@
 //! The library `correction_c` for Rust. `raw` declares its functions, which rungtwine.h describes; what follows is a safe way to call them: slices carry
-//! their lengths, and a refusal is an error with its number and place.
+//! their lengths, and a refusal is an error with its number and place, of a sheet with its cell too.
 #![allow(dead_code)] // a program may use a part of it
 
 pub mod raw {
@@ -62,6 +62,58 @@ pub mod raw {
             corner: *mut usize,
         ) -> u8;
 
+        pub fn rungtwine_sheet_error_correction(
+            width: usize,
+            height: usize,
+            channels: usize,
+            samples: *mut f32,
+            samples_len: usize,
+            stencil: *mut u8,
+            stencil_len: usize,
+            cells: *const usize,
+            cells_len: usize,
+            modes: *const u8,
+            modes_len: usize,
+            settings: *const f64,
+            settings_len: usize,
+            colours: *const u8,
+            colours_len: usize,
+            coords: *const f64,
+            coords_len: usize,
+            ends: *const usize,
+            ends_len: usize,
+            cell: *mut usize,
+            place: *mut usize,
+            protected: *mut usize,
+            error: *mut usize,
+            corner: *mut usize,
+            tests: *mut usize,
+        ) -> u8;
+
+        pub fn rungtwine_sheet_check(
+            width: usize,
+            height: usize,
+            channels: usize,
+            samples: *const f32,
+            samples_len: usize,
+            stencil: *const u8,
+            stencil_len: usize,
+            cells: *const usize,
+            cells_len: usize,
+            modes: *const u8,
+            modes_len: usize,
+            settings: *const f64,
+            settings_len: usize,
+            colours: *const u8,
+            colours_len: usize,
+            coords: *const f64,
+            coords_len: usize,
+            ends: *const usize,
+            ends_len: usize,
+            cell: *mut usize,
+            place: *mut usize,
+        ) -> u8;
+
         pub fn rungtwine_texel_view(
             width: usize,
             height: usize,
@@ -98,6 +150,7 @@ pub enum Mode {
 
 /// The least deviation ratio and the lengths of a pixel's step.
 #[derive(Clone, Copy, Debug)]
+#[repr(C)]
 pub struct Settings {
     pub ratio: f64,
     pub horizontal: f64,
@@ -113,6 +166,35 @@ pub struct Outlines<'a> {
     pub ends: &'a [usize],
 }
 
+/// A cell of a sheet: the column and the row of its lower left texel, its width and its height; and its run of each outline list: where the run starts and how
+/// many it takes, of `coords` two numbers a segment. Ends count the cell's own segments, and coordinates are in pixel units from the cell's lower left corner.
+/// Runs may overlap.
+#[derive(Clone, Copy, PartialEq, Eq, Default, Debug)]
+#[repr(C)]
+pub struct SheetCell {
+    pub x: usize,
+    pub y: usize,
+    pub width: usize,
+    pub height: usize,
+    pub colours_from: usize,
+    pub colours_count: usize,
+    pub coords_from: usize,
+    pub coords_count: usize,
+    pub ends_from: usize,
+    pub ends_count: usize,
+}
+
+/// The cells of a sheet, each with its mode and its settings: of each slice the same number, or the sheet is refused (50).
+#[derive(Clone, Copy, Debug)]
+pub struct SheetCells<'a> {
+    pub cells: &'a [SheetCell],
+    pub modes: &'a [Mode],
+    pub settings: &'a [Settings],
+}
+
+// The library takes the cells as ten numbers each and the settings as four.
+const _: () = assert!(std::mem::size_of::<SheetCell>() == 10 * std::mem::size_of::<usize>() && std::mem::size_of::<Settings>() == 4 * std::mem::size_of::<f64>());
+
 /// What is counted: cells of the stencil, and range tests.
 #[derive(Clone, Copy, PartialEq, Eq, Debug)]
 pub struct Counts {
@@ -122,8 +204,8 @@ pub struct Counts {
     pub error: usize,
     /// Cells with CORNER.
     pub corner: usize,
-    /// Range tests that were made over the whole bitmap, whatever they found, as rungtwine.h says: at most 84 for a texel and at least one for a flagged one,
-    /// so from `error` to 84 * width * height, and 0 in Disabled.
+    /// Range tests that were made over the whole bitmap, or over the cells of a sheet, whatever they found, as rungtwine.h says: at most 84 for a texel and at
+    /// least one for a flagged one, so from `error` to 84 * width * height, and 0 in Disabled.
     pub tests: usize,
 }
 
@@ -153,6 +235,14 @@ pub enum Bitmap {
 #[derive(Clone, Copy, PartialEq, Eq, Debug)]
 pub struct Refusal {
     pub number: u8,
+    pub place: usize,
+}
+
+/// The first check of a sheet that fails, its cell and its place, which counts within the cell; nothing was written.
+#[derive(Clone, Copy, PartialEq, Eq, Debug)]
+pub struct SheetRefusal {
+    pub number: u8,
+    pub cell: usize,
     pub place: usize,
 }
 
@@ -235,6 +325,88 @@ pub fn plain_error_correction(
         )
     };
     if number == 0 { Ok(Cells { protected, error, corner }) } else { Err(Refusal { number, place }) }
+}
+
+/// Corrects each cell of a sheet in place, as if it were a bitmap alone, once every check of every cell has passed. Samples outside every cell stay, `stencil` is
+/// zero there, and each count is the sum over the cells. `outlines` has the lists that the cells' runs are of.
+pub fn sheet_error_correction(
+    (width, height, channels): (usize, usize, usize),
+    samples: &mut [f32],
+    stencil: &mut [u8],
+    cells: SheetCells,
+    outlines: Outlines,
+) -> Result<Counts, SheetRefusal> {
+    let (mut cell, mut place, mut protected, mut error, mut corner, mut tests) = (0, 0, 0, 0, 0, 0);
+    // Every pointer comes from a slice with its own length or from a local, the mutable ones overlap nothing, and the function demands nothing else. A cell is
+    // ten numbers, a mode one byte and the settings four numbers.
+    let number = unsafe {
+        raw::rungtwine_sheet_error_correction(
+            width,
+            height,
+            channels,
+            samples.as_mut_ptr(),
+            samples.len(),
+            stencil.as_mut_ptr(),
+            stencil.len(),
+            cells.cells.as_ptr().cast(),
+            10 * cells.cells.len(),
+            cells.modes.as_ptr().cast(),
+            cells.modes.len(),
+            cells.settings.as_ptr().cast(),
+            4 * cells.settings.len(),
+            outlines.colours.as_ptr(),
+            outlines.colours.len(),
+            outlines.coords.as_ptr(),
+            outlines.coords.len(),
+            outlines.ends.as_ptr(),
+            outlines.ends.len(),
+            &mut cell,
+            &mut place,
+            &mut protected,
+            &mut error,
+            &mut corner,
+            &mut tests,
+        )
+    };
+    if number == 0 { Ok(Counts { protected, error, corner, tests }) } else { Err(SheetRefusal { number, cell, place }) }
+}
+
+/// All checks of `sheet_error_correction` and nothing else, for a caller who corrects a sheet part by part and wants to know beforehand.
+pub fn sheet_check(
+    (width, height, channels): (usize, usize, usize),
+    samples: &[f32],
+    stencil: &[u8],
+    cells: SheetCells,
+    outlines: Outlines,
+) -> Result<(), SheetRefusal> {
+    let (mut cell, mut place) = (0, 0);
+    // As above, and only the two locals are written.
+    let number = unsafe {
+        raw::rungtwine_sheet_check(
+            width,
+            height,
+            channels,
+            samples.as_ptr(),
+            samples.len(),
+            stencil.as_ptr(),
+            stencil.len(),
+            cells.cells.as_ptr().cast(),
+            10 * cells.cells.len(),
+            cells.modes.as_ptr().cast(),
+            cells.modes.len(),
+            cells.settings.as_ptr().cast(),
+            4 * cells.settings.len(),
+            outlines.colours.as_ptr(),
+            outlines.colours.len(),
+            outlines.coords.as_ptr(),
+            outlines.coords.len(),
+            outlines.ends.as_ptr(),
+            outlines.ends.len(),
+            &mut cell,
+            &mut place,
+        )
+    };
+    if number == 0 { Ok(()) } else { Err(SheetRefusal { number, cell, place }) }
 }
 
 /// All channels of texel x, y, lent from `corrected` where its cell of `stencil` has the bit ERROR, whatever else is set, and from `original` otherwise.

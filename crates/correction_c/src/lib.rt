@@ -1,16 +1,22 @@
-// The pass by each of its two engines, the texel view and the channel of a texel's median for C and Rust to call.
+// The pass by each of its two engines, on a bitmap and on the cells of a sheet, the checks of a sheet, the texel view and the channel of a texel's median for C and
+// Rust to call.
 ghost use mathlib.Core.Path.{_≡_};
 ghost use mathlib.Core.List.{[], _∷_};
 ghost use denote.Ref.{ptr};
 ghost use Rattle.detectors.specs.Texel.{texelMiddle};
 ghost use Rattle.inputs.specs.Checks as Checks;
 ghost use Rattle.correction.specs.Pass as Pass;
+ghost use Rattle.correction.specs.Sheet as Sheet;
+ghost use Rattle.correction.specs.Sheet.{sheet};
 ghost use Rattle.correction.specs.View as View;
+ghost use Rattle.correction_c.specs.Call as Call;
 ghost use Rattle.correction_c.specs.Call.{called};
 use correction::pass;
 use correction::pass::Answer;
+use correction::sheet;
 use correction::view;
 use detectors::texel;
+use inputs::sizes::Bitmap;
 use ranges::config::Settings;
 
 // Answers the number of the first check that fails, 0 where all pass, and writes its place, the three counts and the number of range tests.
@@ -143,6 +149,114 @@ pub extern "C" fn rungtwine_plain_error_correction(
             n
         }
     }
+}
+
+// The pass on each cell of a sheet, in place. Answers the number of the first check that fails, 0 where all pass, and writes its cell and its place, and the three
+// counts and the number of range tests, summed over the cells.
+#[no_mangle]
+pub extern "C" fn rungtwine_sheet_error_correction(
+    width: usize,
+    height: usize,
+    channels: usize,
+    samples: &mut [f32],
+    stencil: &mut [u8],
+    cells: &[usize],
+    modes: &[u8],
+    settings: &[f64],
+    colours: &[u8],
+    coords: &[f64],
+    ends: &[usize],
+    cell: &mut usize,
+    place: &mut usize,
+    protected: &mut usize,
+    error: &mut usize,
+    corner: &mut usize,
+    tests: &mut usize,
+) -> u8
+    ensures numbers { λ r. ⌜ r ≡ Sheet.failure (sheet width height channels (now (samples .entry)) (now (stencil .entry)) (now (cells .entry)) (now (modes .entry)) (now (settings .entry)) (now (colours .entry)) (now (coords .entry)) (now (ends .entry))) .number ⌝ }
+    ensures names { λ _. ⌜ now (cell .exit) ≡ Sheet.failure (sheet width height channels (now (samples .entry)) (now (stencil .entry)) (now (cells .entry)) (now (modes .entry)) (now (settings .entry)) (now (colours .entry)) (now (coords .entry)) (now (ends .entry))) .cell ⌝ }
+    ensures places { λ _. ⌜ now (place .exit) ≡ Sheet.failure (sheet width height channels (now (samples .entry)) (now (stencil .entry)) (now (cells .entry)) (now (modes .entry)) (now (settings .entry)) (now (colours .entry)) (now (coords .entry)) (now (ends .entry))) .place ⌝ }
+    ensures protects { λ _. ⌜ now (protected .exit) ≡ Call.sheetProtected (sheet width height channels (now (samples .entry)) (now (stencil .entry)) (now (cells .entry)) (now (modes .entry)) (now (settings .entry)) (now (colours .entry)) (now (coords .entry)) (now (ends .entry))) ⌝ }
+    ensures flags { λ _. ⌜ now (error .exit) ≡ Call.sheetErrors (sheet width height channels (now (samples .entry)) (now (stencil .entry)) (now (cells .entry)) (now (modes .entry)) (now (settings .entry)) (now (colours .entry)) (now (coords .entry)) (now (ends .entry))) ⌝ }
+    ensures corners { λ _. ⌜ now (corner .exit) ≡ Call.sheetCorners (sheet width height channels (now (samples .entry)) (now (stencil .entry)) (now (cells .entry)) (now (modes .entry)) (now (settings .entry)) (now (colours .entry)) (now (coords .entry)) (now (ends .entry))) ⌝ }
+    ensures tests { λ _. ⌜ now (tests .exit) ≡ Call.sheetTestCount (sheet width height channels (now (samples .entry)) (now (stencil .entry)) (now (cells .entry)) (now (modes .entry)) (now (settings .entry)) (now (colours .entry)) (now (coords .entry)) (now (ends .entry))) ⌝ }
+    ensures leaves { λ _. ⌜ now (stencil .exit) ≡ Sheet.sheetStencilAfter (sheet width height channels (now (samples .entry)) (now (stencil .entry)) (now (cells .entry)) (now (modes .entry)) (now (settings .entry)) (now (colours .entry)) (now (coords .entry)) (now (ends .entry))) ⌝ }
+    ensures writes { λ _. ⌜ now (samples .exit) ≡ Sheet.sheetSamplesAfter (sheet width height channels (now (samples .entry)) (now (stencil .entry)) (now (cells .entry)) (now (modes .entry)) (now (settings .entry)) (now (colours .entry)) (now (coords .entry)) (now (ends .entry))) ⌝ }
+{
+    match sheet::msdf_sheet_error_correction(
+        width,
+        height,
+        channels,
+        samples,
+        stencil,
+        cells,
+        modes,
+        settings,
+        colours,
+        coords,
+        ends,
+    ) {
+        sheet::Answer::Accepted(c, t) => {
+            *cell = 0;
+            *place = 0;
+            *protected = c.protected;
+            *error = c.error;
+            *corner = c.corner;
+            *tests = t;
+            0
+        }
+        sheet::Answer::Refused(n, c, p) => {
+            *cell = c;
+            *place = p;
+            *protected = 0;
+            *error = 0;
+            *corner = 0;
+            *tests = 0;
+            n
+        }
+    }
+}
+
+// All checks of a sheet, and nothing else: the number of the first that fails, 0 where all pass; its cell and its place are written.
+#[no_mangle]
+pub extern "C" fn rungtwine_sheet_check(
+    width: usize,
+    height: usize,
+    channels: usize,
+    samples: &[f32],
+    stencil: &[u8],
+    cells: &[usize],
+    modes: &[u8],
+    settings: &[f64],
+    colours: &[u8],
+    coords: &[f64],
+    ends: &[usize],
+    cell: &mut usize,
+    place: &mut usize,
+) -> u8
+    ensures numbers { λ r. ⌜ r ≡ Sheet.failure (sheet width height channels (now (samples .entry)) (now (stencil .entry)) (now (cells .entry)) (now (modes .entry)) (now (settings .entry)) (now (colours .entry)) (now (coords .entry)) (now (ends .entry))) .number ⌝ }
+    ensures names { λ _. ⌜ now (cell .exit) ≡ Sheet.failure (sheet width height channels (now (samples .entry)) (now (stencil .entry)) (now (cells .entry)) (now (modes .entry)) (now (settings .entry)) (now (colours .entry)) (now (coords .entry)) (now (ends .entry))) .cell ⌝ }
+    ensures places { λ _. ⌜ now (place .exit) ≡ Sheet.failure (sheet width height channels (now (samples .entry)) (now (stencil .entry)) (now (cells .entry)) (now (modes .entry)) (now (settings .entry)) (now (colours .entry)) (now (coords .entry)) (now (ends .entry))) .place ⌝ }
+{
+    let b = Bitmap {
+        width: width,
+        height: height,
+        channels: channels,
+    };
+    let f = sheet::check(
+        b,
+        samples,
+        stencil,
+        cells,
+        modes,
+        settings,
+        colours,
+        coords,
+        ends,
+    );
+    *cell = f.cell;
+    *place = f.place;
+    f.number
 }
 
 // Leaves in texel what the view lends: an exported function returns no reference.

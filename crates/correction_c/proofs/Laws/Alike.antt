@@ -5,6 +5,8 @@ use denote.Ref.{now, ptr}
 use Rattle.ground.proofs.Laws.Alike.{alike}
 use Rattle.correction_c.proofs.rungtwine_error_correction.Reads as pass
 use Rattle.correction_c.proofs.rungtwine_plain_error_correction.Reads as plain
+use Rattle.correction_c.proofs.rungtwine_sheet_error_correction.Reads as sheet
+use Rattle.correction_c.proofs.rungtwine_sheet_check.Reads as check
 use Rattle.correction_c.proofs.rungtwine_texel_view.Reads as view
 use Rattle.correction_c.proofs.rungtwine_texel_channel.Reads as channel
 
@@ -67,6 +69,54 @@ plain-stencils-alike κs a z z' e e' p q = alike (p .1 .1 .1 .1 .1 .0) (q .1 .1 
 -- and two lists of samples, the fourth.
 pub plain-samples-alike : (κs : _) (a : _) (z z' : _) (e e' : _) → plain.Post κs a z e → plain.Post κs a z' e' → now (e .1 .1 .1 .0) ≡ now (e' .1 .1 .1 .0)
 plain-samples-alike κs a z z' e e' p q = alike (p .1 .1 .1 .1 .1 .1) (q .1 .1 .1 .1 .1 .1)
+
+-- Two answers of the pass on a sheet are the same,
+pub sheet-answers-alike : (κs : _) (a : _) (z z' : _) (e e' : _) → sheet.Post κs a z e → sheet.Post κs a z' e' → z ≡ z'
+sheet-answers-alike κs a z z' e e' p q = alike (p .0) (q .0)
+
+-- so are two cells that they name, the twelfth argument,
+pub sheet-cells-alike : (κs : _) (a : _) (z z' : _) (e e' : _) → sheet.Post κs a z e → sheet.Post κs a z' e' → now (e .1 .1 .1 .1 .1 .1 .1 .1 .1 .1 .1 .0) ≡ now (e' .1 .1 .1 .1 .1 .1 .1 .1 .1 .1 .1 .0)
+sheet-cells-alike κs a z z' e e' p q = alike (p .1 .0) (q .1 .0)
+
+-- two places, the thirteenth,
+pub sheet-places-alike : (κs : _) (a : _) (z z' : _) (e e' : _) → sheet.Post κs a z e → sheet.Post κs a z' e' → now (e .1 .1 .1 .1 .1 .1 .1 .1 .1 .1 .1 .1 .0) ≡ now (e' .1 .1 .1 .1 .1 .1 .1 .1 .1 .1 .1 .1 .0)
+sheet-places-alike κs a z z' e e' p q = alike (p .1 .1 .0) (q .1 .1 .0)
+
+-- two counts of protected cells, the fourteenth,
+pub sheet-protected-alike : (κs : _) (a : _) (z z' : _) (e e' : _) → sheet.Post κs a z e → sheet.Post κs a z' e' → now (e .1 .1 .1 .1 .1 .1 .1 .1 .1 .1 .1 .1 .1 .0) ≡ now (e' .1 .1 .1 .1 .1 .1 .1 .1 .1 .1 .1 .1 .1 .0)
+sheet-protected-alike κs a z z' e e' p q = alike (p .1 .1 .1 .0) (q .1 .1 .1 .0)
+
+-- two counts of errors, the fifteenth,
+pub sheet-errors-alike : (κs : _) (a : _) (z z' : _) (e e' : _) → sheet.Post κs a z e → sheet.Post κs a z' e' → now (e .1 .1 .1 .1 .1 .1 .1 .1 .1 .1 .1 .1 .1 .1 .0) ≡ now (e' .1 .1 .1 .1 .1 .1 .1 .1 .1 .1 .1 .1 .1 .1 .0)
+sheet-errors-alike κs a z z' e e' p q = alike (p .1 .1 .1 .1 .0) (q .1 .1 .1 .1 .0)
+
+-- two counts of corner cells, the sixteenth,
+pub sheet-corners-alike : (κs : _) (a : _) (z z' : _) (e e' : _) → sheet.Post κs a z e → sheet.Post κs a z' e' → now (e .1 .1 .1 .1 .1 .1 .1 .1 .1 .1 .1 .1 .1 .1 .1 .0) ≡ now (e' .1 .1 .1 .1 .1 .1 .1 .1 .1 .1 .1 .1 .1 .1 .1 .0)
+sheet-corners-alike κs a z z' e e' p q = alike (p .1 .1 .1 .1 .1 .0) (q .1 .1 .1 .1 .1 .0)
+
+-- two numbers of range tests, the seventeenth,
+pub sheet-tests-alike : (κs : _) (a : _) (z z' : _) (e e' : _) → sheet.Post κs a z e → sheet.Post κs a z' e' → now (e .1 .1 .1 .1 .1 .1 .1 .1 .1 .1 .1 .1 .1 .1 .1 .1 .0) ≡ now (e' .1 .1 .1 .1 .1 .1 .1 .1 .1 .1 .1 .1 .1 .1 .1 .1 .0)
+sheet-tests-alike κs a z z' e e' p q = alike (p .1 .1 .1 .1 .1 .1 .0) (q .1 .1 .1 .1 .1 .1 .0)
+
+-- two stencils, the fifth,
+pub sheet-stencils-alike : (κs : _) (a : _) (z z' : _) (e e' : _) → sheet.Post κs a z e → sheet.Post κs a z' e' → now (e .1 .1 .1 .1 .0) ≡ now (e' .1 .1 .1 .1 .0)
+sheet-stencils-alike κs a z z' e e' p q = alike (p .1 .1 .1 .1 .1 .1 .1 .0) (q .1 .1 .1 .1 .1 .1 .1 .0)
+
+-- and two lists of samples, the fourth.
+pub sheet-samples-alike : (κs : _) (a : _) (z z' : _) (e e' : _) → sheet.Post κs a z e → sheet.Post κs a z' e' → now (e .1 .1 .1 .0) ≡ now (e' .1 .1 .1 .0)
+sheet-samples-alike κs a z z' e e' p q = alike (p .1 .1 .1 .1 .1 .1 .1 .1) (q .1 .1 .1 .1 .1 .1 .1 .1)
+
+-- Two answers of the checks of a sheet are the same,
+pub check-answers-alike : (κs : _) (a : _) (z z' : _) (e e' : _) → check.Post κs a z e → check.Post κs a z' e' → z ≡ z'
+check-answers-alike κs a z z' e e' p q = alike (p .0) (q .0)
+
+-- so are two cells that they name, the twelfth argument,
+pub check-cells-alike : (κs : _) (a : _) (z z' : _) (e e' : _) → check.Post κs a z e → check.Post κs a z' e' → now (e .1 .1 .1 .1 .1 .1 .1 .1 .1 .1 .1 .0) ≡ now (e' .1 .1 .1 .1 .1 .1 .1 .1 .1 .1 .1 .0)
+check-cells-alike κs a z z' e e' p q = alike (p .1 .0) (q .1 .0)
+
+-- and two places, the thirteenth.
+pub check-places-alike : (κs : _) (a : _) (z z' : _) (e e' : _) → check.Post κs a z e → check.Post κs a z' e' → now (e .1 .1 .1 .1 .1 .1 .1 .1 .1 .1 .1 .1 .0) ≡ now (e' .1 .1 .1 .1 .1 .1 .1 .1 .1 .1 .1 .1 .0)
+check-places-alike κs a z z' e e' p q = alike (p .1 .1) (q .1 .1)
 
 -- Two texels that the view leaves in its ninth argument hold the same samples,
 pub views-alike : (κs : _) (a : _) (z z' : _) (e e' : _) → view.Post κs a z e → view.Post κs a z' e' → now (now (e .1 .1 .1 .1 .1 .1 .1 .1 .0)) ≡ now (now (e' .1 .1 .1 .1 .1 .1 .1 .1 .0))
