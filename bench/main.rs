@@ -3,9 +3,14 @@
 //! Times are the thread's own processor time (Linux), so that a busy machine disturbs them little.
 //!
 //! `bench [SIZE...]`: for squares of each SIZE, glyph-like, noise and checkered, Indiscriminate and EdgePriority, range tests a texel, nanoseconds a texel and
-//! the proved pass's ratio to the original, then the plain engine's nanoseconds a texel and its ratio to the proved pass.
-//! Exit status 1 if the pass and the original differ in a sample, a zero's sign aside, or in the number of range tests, or the two engines in anything.
+//! the proved pass's ratio to the original, then the plain engine's nanoseconds a texel and its ratio to the proved pass. Then sheets of cells of
+//! 32 and 48 texels, as large as each SIZE but at most 2,048: the proved pass on each cell cut out, on the sheet in place, and their ratio.
+//! `bench --sheets [SIZE...]`: sheets alone.
+//! Exit status 1 if the pass and the original differ in a sample, a zero's sign aside, or in the number of range tests, the two engines in anything, or a sheet
+//! and its cells cut out in anything.
 
+#[path = "../tests/sheet/call.rs"]
+mod call;
 mod fields;
 #[path = "../tests/differential/glyphs.rs"]
 #[allow(dead_code)]
@@ -15,6 +20,7 @@ mod glyphs;
 mod rng;
 #[path = "../include/rungtwine.rs"]
 mod rungtwine;
+mod sheets;
 
 use fields::{fields, Field, RATIO};
 use rungtwine::{error_correction, plain_error_correction, Counts, Mode, Outlines, Settings};
@@ -116,18 +122,29 @@ fn row(field: &Field, mode: Mode) -> bool {
     same
 }
 
-fn main() {
-    let sizes: Vec<usize> = std::env::args().skip(1).map(|a| a.parse().expect("a size")).collect();
+/// Prints the table of squares and answers whether the sides agree.
+fn squares(sizes: &[usize]) -> bool {
     println!("| size | field | mode | runs | flagged | range tests/texel | original, ns/texel | proved, ns/texel | ratio | plain, ns/texel | to the proved |");
     println!("|---|---|---|---|---|---|---|---|---|---|---|");
     let mut same = true;
-    for size in sizes {
+    for &size in sizes {
         for field in fields(size) {
             for mode in [Mode::Indiscriminate, Mode::EdgePriority] {
                 same &= row(&field, mode);
             }
         }
     }
+    same
+}
+
+fn main() {
+    let (words, sizes): (Vec<String>, Vec<String>) = std::env::args().skip(1).partition(|a| a == "--sheets");
+    let sizes: Vec<usize> = sizes.iter().map(|a| a.parse().expect("a size")).collect();
+    let mut same = true;
+    if words.is_empty() {
+        same &= squares(&sizes);
+    }
+    same &= sheets::tables(&sizes);
     if !same {
         println!("the sides differ");
     }

@@ -46,7 +46,7 @@ fn value(rng: &mut Rng, class: usize) -> f32 {
 
 const CLASSES: usize = 9;
 
-fn ratio(rng: &mut Rng) -> f64 {
+pub fn ratio(rng: &mut Rng) -> f64 {
     match rng.below(12) {
         0 => 0.0,
         1 => -0.0,
@@ -73,7 +73,7 @@ fn length(rng: &mut Rng) -> f64 {
     }
 }
 
-fn lengths(rng: &mut Rng) -> [f64; 3] {
+pub fn lengths(rng: &mut Rng) -> [f64; 3] {
     let all = length(rng);
     if rng.one_in(3) { [all; 3] } else { [length(rng), length(rng), length(rng)] }
 }
@@ -201,7 +201,7 @@ fn quadratic(rng: &mut Rng) -> (f32, f32, f32) {
     }
 }
 
-fn fill_field(rng: &mut Rng, kind: usize, w: usize, h: usize, n: usize) -> Vec<f32> {
+pub fn fill_field(rng: &mut Rng, kind: usize, w: usize, h: usize, n: usize) -> Vec<f32> {
     let class = rng.below(CLASSES);
     let mut texels: Vec<[f32; 3]> = vec![[0.0; 3]; w * h];
     match kind {
@@ -407,7 +407,7 @@ fn bad_coordinate(rng: &mut Rng) -> f64 {
     ])
 }
 
-fn bad_sample(rng: &mut Rng) -> f32 {
+pub fn bad_sample(rng: &mut Rng) -> f32 {
     rng.pick(&[
         f32::NAN,
         f32::from_bits(0xFF80_0001),
