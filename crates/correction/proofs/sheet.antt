@@ -1,8 +1,8 @@
 -- What the checks of a sheet leave for the passes on its cells, which of them answers, where the cells lie, and what correcting them one after the other leaves.
+pub mod Places
 pub mod Laid
 pub mod Contents
 pub mod Failures
-pub mod Places
 pub mod Corrected
 pub mod Handed
 pub mod Summed

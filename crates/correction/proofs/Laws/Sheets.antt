@@ -3,13 +3,14 @@
 --     cell-accepted                     each of its cells is accepted as a bitmap alone
 --     cell-stencil, cell-samples        and what is left of it is what the pass leaves of it alone: demand 2, cell by cell
 --     outside-stencil, outside-samples  outside every cell the stencil is zero and the samples stay
+--     whole-alone, whole-left           a cell that is the whole sheet is the sheet, which is left as the pass leaves it
 --     sheet-refused                     a refusal writes nothing, and is the first failure
 use mathlib.Core.Path.{_≡_, refl, sym, _∙_, ap, subst}
-use mathlib.Core.Bool.{Bool, true, false, cond, not, _&&_, true≢false}
+use mathlib.Core.Bool.{Bool, true, false, not, _&&_, true≢false}
 use mathlib.Core.List.{List}
 use mathlib.Core.Logic.{dite}
 use Prim.Native.Nat.{ℕ, _+_, _*_, _/_, _%_, _<_}
-use native.Mathlib.Nat.{mul-comm, le-refl, div-add-mod'}
+use native.Mathlib.Nat.{mul-comm, le-refl, div-add-mod', zero-mul, add-zero}
 use native.Mathlib.Decide.{decLt}
 use native.Mathlib.Omega.{arith}
 use lib.Dec.{eqb, ltb}
@@ -19,21 +20,23 @@ use lib.Ieee.{Float, nan}
 use borrow.Author.Tests.{eq-eqb, eqb-true, lt-ltb, le-ltb, ltb-false}
 use Rattle.ground.specs.Lists.{tab, any, first}
 use Rattle.ground.proofs.Laws.Fill.{tab-length, tab-at}
-use Rattle.ground.proofs.Laws.Picked.{picked-length, is-picked}
-use Rattle.ground.proofs.Laws.Search.{first-is, first-is-end, first-past, none-below, none-any}
-use Rattle.inputs.specs.Window.{cellShown, sampleShown, cutCells, cutSamples}
+use Rattle.ground.proofs.Laws.Picked.{picked-length, picked-all, is-picked}
+use Rattle.ground.proofs.Laws.Search.{first-is, first-is-end, first-past, none-any}
+use Rattle.inputs.specs.declared.sizes.Window.{Window}
+use Rattle.inputs.specs.Window.{cellShown, sampleShown, cutCells, cutSamples, whole}
 use Rattle.inputs.specs.Checks.{badChannels, contentRefusal, placeOf, refusalNumber, accepted}
 use Rattle.inputs.proofs.Laws.Checks.{sizes-pass, by-content}
 use Rattle.inputs.proofs.Laws.Places.{cell-inside}
-use Rattle.inputs.proofs.Laws.Windows.{cell-held, sample-held}
+use Rattle.inputs.proofs.Laws.Windows.{cell-held, sample-held, whole-cells, whole-samples}
 use Rattle.correction.specs.declared.cells.Area.{Area}
 use Rattle.correction.specs.Pass.{byteAt, passStencil, passSamples, stencilAfter, samplesAfter}
 use Rattle.correction.specs.Collapse.{collapsed}
-use Rattle.correction.specs.Sheet.{Sheet, cellsOf, areaAt, windowAt, alone, badSheet, badArea, firstOutside, overlap, overlapsEarlier, firstOverlap, badRuns, firstBadRun, firstBad, ofSheet, ofCell, contentFailure, failure, sheetAccepted, covers, Outside, holder, within, sheetByte, sheetStencil, sheetSample, sheetSamples, sheetStencilAfter, sheetSamplesAfter, sheetAnswer}
+use Rattle.correction.specs.Sheet.{Sheet, cellsOf, areaAt, windowOf, windowAt, alone, badSheet, badArea, firstOutside, overlap, overlapsEarlier, firstOverlap, badRuns, firstBadRun, firstBad, contentFailure, failure, sheetAccepted, covers, Outside, holder, within, sheetByte, sheetStencil, sheetSample, sheetSamples, sheetStencilAfter, sheetSamplesAfter, sheetAnswer}
 use Rattle.correction.specs.declared.sheet.Answer.the-variants.{Refused}
 use Rattle.correction.specs.Cells.{Ready}
 use Rattle.correction.proofs.Laws.Leaves.{accepted-leaves}
-use Rattle.correction.proofs.sheet.Laid.{passes, content-zero, ready, sampled, stencilled}
+use Rattle.correction.proofs.cells.Areas.{apart}
+use Rattle.correction.proofs.sheet.Laid.{stages, ready, sampled, stencilled}
 use Rattle.correction.proofs.sheet.Places.{shown-covered, shown-within, both-covered}
 use Rattle.correction.proofs.sheet.Corrected.{alone-byte}
 
@@ -66,28 +69,19 @@ unfolding sheetAccepted
 number-zero s e = eqb-true (failure s .number) 0 e
 
 pub all-pass : (s : Sheet) → sheetAccepted s ≡ true → AllPass s
-unfolding failure firstOutside firstOverlap overlapsEarlier firstBadRun
-all-pass s q =
-    let e = number-zero s q in
+unfolding firstOutside firstOverlap overlapsEarlier firstBadRun
+all-pass s e =
+    let t = stages s (number-zero s e) in
     let n = cellsOf s in
-    let a = passes (badChannels (s .channels)) (ofSheet 1) _ (λ z. absurd (omega arith)) e in
-    let b = passes (badSheet (s .width) (s .height) (s .channels) (length (s .samples)) (length (s .stencil)) (length (s .cells)) (cellsOf s) (length (s .settings))) (ofSheet 50) _ (λ z. absurd (omega arith)) (a .1) in
-    let o = passes (ltb (firstOutside (s .width) (s .height) (s .cells) (cellsOf s)) (cellsOf s)) (ofCell 51 _) _ (λ z. absurd (omega arith)) (b .1) in
-    let v = passes (ltb (firstOverlap (s .cells) (cellsOf s)) (cellsOf s)) (ofCell 52 _) _ (λ z. absurd (omega arith)) (o .1) in
-    let r = passes (ltb (firstBadRun (s .cells) (cellsOf s) (length (s .colours)) (length (s .coords)) (length (s .ends))) (cellsOf s)) (ofCell 53 _) (contentFailure s) (λ z. absurd (omega arith)) (v .1) in
-    let f : (c d : ℕ) → c < d → d < n → overlap (areaAt (s .cells) c) (areaAt (s .cells) d) ≡ false = λ c d l m. none-below (λ c. overlap (areaAt (s .cells) c) (areaAt (s .cells) d)) d (first-past (overlapsEarlier (s .cells)) n (ltb-false _ n (v .0)) d m) c l in
+    let f : (c d : ℕ) → c < d → d < n → overlap (areaAt (s .cells) c) (areaAt (s .cells) d) ≡ false = apart (s .cells) n (t .overlaps) in
     record {
-      channels = a .0;
-      lengths = b .0;
-      areas = first-past (λ c. badArea (s .width) (s .height) (areaAt (s .cells) c)) n (ltb-false _ n (o .0));
+      channels = t .channels;
+      lengths = t .lengths;
+      areas = first-past (λ c. badArea (s .width) (s .height) (areaAt (s .cells) c)) n (ltb-false _ n (t .areas));
       apart = λ c d l m h. dite (decLt c d) (λ b. f c d b m) (λ b. overlap-turned (areaAt (s .cells) c) (areaAt (s .cells) d) ∙ f d c (omega (arith, h)) l);
-      runs = first-past (badRuns (s .cells) (length (s .colours)) (length (s .coords)) (length (s .ends))) n (ltb-false _ n (r .0));
-      contents = content-zero s (r .1);
+      runs = first-past (badRuns (s .cells) (length (s .colours)) (length (s .coords)) (length (s .ends))) n (ltb-false _ n (t .runs));
+      contents = t .contents;
     }
-
--- a test that fails
-cleared : {A : Type 0} (b : Bool) (x y : A) → b ≡ false → cond b x y ≡ y
-cleared b x y e = simp e
 
 at-end : (f : ℕ → Bool) (n : ℕ) → ((c : ℕ) → c < n → f c ≡ false) → ltb (first n f) n ≡ false
 at-end f n h = rw (first-is-end f n h) (le-ltb n n (le-refl n))
@@ -211,3 +205,32 @@ module _ (s : Sheet) (e : sheetAccepted s ≡ true) where
 pub sheet-refused : (s : Sheet) → sheetAccepted s ≡ false → (sheetAnswer s ≡ Refused (failure s .number) (failure s .cell) (failure s .place)) × (sheetStencilAfter s ≡ s .stencil) × (sheetSamplesAfter s ≡ s .samples)
 unfolding sheetAnswer sheetStencilAfter sheetSamplesAfter
 sheet-refused s e = (simp e, simp e, simp e)
+
+-- ---- a cell that is the whole sheet
+
+module _ (s : Sheet) (c : ℕ) (l : c < cellsOf s) (e : sheetAccepted s ≡ true) (i : areaAt (s .cells) c ≡ record { x = 0; y = 0; width = s .width; height = s .height }) where
+  -- its window is the whole
+  window : windowAt s c ≡ whole (s .width) (s .height) (s .channels)
+  window = ap (windowOf (s .width) (s .channels)) i ∙ ap (λ (o : ℕ). record { width = s .width; height = s .height; channels = s .channels; origin = o; stride = s .width }) (rw zero-mul (add-zero 0))
+
+  pub whole-alone : (alone s c .samples ≡ s .samples) × (alone s c .stencil ≡ s .stencil)
+  unfolding alone
+  whole-alone =
+      let r = ready s (number-zero s e) in (
+        ap (λ (g : Window). cutSamples g (s .samples)) window ∙ picked-all nan (s .height * s .width * s .channels) (sampleShown (whole (s .width) (s .height) (s .channels))) (s .samples) (r .laid .samples) (λ j b. whole-samples (s .width) (s .height) (s .channels) j),
+        ap (λ (g : Window). cutCells g (s .stencil)) window ∙ picked-all 0 (s .height * s .width) (cellShown (whole (s .width) (s .height) (s .channels))) (s .stencil) (r .long) (λ k b. whole-cells (s .width) (s .height) (s .channels) k),
+      )
+
+  -- so the sheet is left as the pass leaves the bitmap
+  pub whole-left : (sheetStencilAfter s ≡ stencilAfter (alone s c)) × (sheetSamplesAfter s ≡ samplesAfter (alone s c))
+  unfolding sheetStencilAfter sheetStencil sheetSamplesAfter sheetSamples
+  whole-left =
+      let r = ready s (number-zero s e) in
+      let w = s .width in
+      let h = s .height in
+      let ch = s .channels in
+      let st : length (sheetStencilAfter s) ≡ h * w = simp e (tab-length (w * h) (sheetByte s) ∙ mul-comm w h) in
+      let xs : length (sheetSamplesAfter s) ≡ h * w * ch = simp e (tab-length (length (s .samples)) (sheetSample s) ∙ r .laid .samples) in (
+        sym (ap (λ (g : Window). cutCells g (sheetStencilAfter s)) window ∙ picked-all 0 (h * w) (cellShown (whole w h ch)) (sheetStencilAfter s) st (λ k b. whole-cells w h ch k)) ∙ cell-stencil s e c l,
+        sym (ap (λ (g : Window). cutSamples g (sheetSamplesAfter s)) window ∙ picked-all nan (h * w * ch) (sampleShown (whole w h ch)) (sheetSamplesAfter s) xs (λ j b. whole-samples w h ch j)) ∙ cell-samples s e c l,
+      )

@@ -3,15 +3,14 @@
 --     laid-with    that says nothing of the stencil, and of the samples only how many they are
 --     sampled      a cell's window has its samples
 --     stencilled   and its stencil cells
---     passes       a check that does not answer passes
---     content-zero each cell passes its own checks
---     ready        all checks pass
+--     stages       all checks pass, each stage by itself
+--     ready        so what the passes on the cells ask for
 use mathlib.Core.Path.{_≡_, refl, sym, _∙_, ap, subst}
 use mathlib.Core.Bool.{Bool, true, false, cond, not}
 use mathlib.Core.List.{List}
 use mathlib.Core.Logic.{dite}
 use Prim.Native.Nat.{ℕ, _+_, _*_, _<_, _≤_}
-use native.Mathlib.Nat.{mul-comm, add-mul, mul-le-mul-right}
+use native.Mathlib.Nat.{mul-comm, mul-le-mul-right}
 use native.Mathlib.Decide.{decLt}
 use native.Mathlib.Omega.{arith}
 use lib.Dec.{eqb, ltb}
@@ -29,6 +28,7 @@ use Rattle.correction.specs.declared.cells.Area.{Area}
 use Rattle.correction.specs.declared.sheet.Failure.{Failure}
 use Rattle.correction.specs.Sheet.{Sheet, with, cellsOf, areaAt, windowOf, windowAt, alone, badSheet, firstOutside, firstOverlap, firstBadRun, firstBad, ofSheet, ofCell, contentFailure, failure}
 use Rattle.correction.specs.Cells.{AreaInside, Laid, Ready}
+use Rattle.correction.proofs.sheet.Places.{in-sheet}
 use Rattle.correction.proofs.cells.Areas.{measured, areas-inside, apart, runs-inside}
 
 pub laid : (s : Sheet) → badChannels (s .channels) ≡ false → badSheet (s .width) (s .height) (s .channels) (length (s .samples)) (length (s .stencil)) (length (s .cells)) (cellsOf s) (length (s .settings)) ≡ false → ltb (firstOutside (s .width) (s .height) (s .cells) (cellsOf s)) (cellsOf s) ≡ false → ltb (firstBadRun (s .cells) (cellsOf s) (length (s .colours)) (length (s .coords)) (length (s .ends))) (cellsOf s) ≡ false → Laid s
@@ -74,12 +74,8 @@ laid-with s xs st e t =
 -- ---- where an area's window lies
 
 module _ (w h ch : ℕ) (a : Area) (i : AreaInside w h a) (p : w ≤ 4096) (q : h ≤ 4096) where
-  -- texel x, y of the area, as the sheet counts
-  place : (x y : ℕ) → cellIn (windowOf w ch a) x y ≡ (a .y + y) * w + (a .x + x)
-  place x y = omega (arith, add-mul (a .y) y w)
-
   texel : (x y : ℕ) → x < a .width → y < a .height → cellIn (windowOf w ch a) x y < h * w
-  texel x y l m = rw (place x y) (cell-lt w h (a .x + x) (a .y + y) (omega (arith, i .wide)) (omega (arith, i .high)))
+  texel x y l m = rw (in-sheet w ch a x y) (cell-lt w h (a .x + x) (a .y + y) (omega (arith, i .wide)) (omega (arith, i .high)))
 
   fits : Fits (windowOf w ch a)
   fits =
@@ -119,12 +115,12 @@ stencilled s c t e l =
 -- ---- all checks
 
 -- an answer of which a test that holds would answer another number
-pub passes : (b : Bool) (f g : Failure) → (f .number ≡ 0 → ⊥) → cond b f g .number ≡ 0 → (b ≡ false) × (g .number ≡ 0)
+passes : (b : Bool) (f g : Failure) → (f .number ≡ 0 → ⊥) → cond b f g .number ≡ 0 → (b ≡ false) × (g .number ≡ 0)
 passes true f g h e = absurd (h e)
 passes false f g h e = (refl, e)
 
 -- each cell passes its own checks
-pub content-zero : (s : Sheet) → contentFailure s .number ≡ 0 → (c : ℕ) → c < cellsOf s → contentRefusal (alone s c) ≡ 0
+content-zero : (s : Sheet) → contentFailure s .number ≡ 0 → (c : ℕ) → c < cellsOf s → contentRefusal (alone s c) ≡ 0
 unfolding contentFailure firstBad
 content-zero s e c l =
     let f : ℕ → Bool = λ c. not (eqb (contentRefusal (alone s c)) 0) in
@@ -132,17 +128,32 @@ content-zero s e c l =
     let past : cellsOf s ≤ d = dite (decLt d (cellsOf s)) (λ b. absurd (eqb-false _ 0 (not-true _ (first-holds f (cellsOf s) b)) (rw (lt-ltb _ _ b) at e))) (λ b. omega arith) in
     eqb-true (contentRefusal (alone s c)) 0 (not-false _ (first-past f (cellsOf s) past c l))
 
-pub ready : (s : Sheet) → failure s .number ≡ 0 → Ready s
-unfolding failure alone
-ready s e =
+-- each stage of the checks by itself
+pub record Stages (s : Sheet) : Type 0 where
+  pub channels : badChannels (s .channels) ≡ false
+  pub lengths : badSheet (s .width) (s .height) (s .channels) (length (s .samples)) (length (s .stencil)) (length (s .cells)) (cellsOf s) (length (s .settings)) ≡ false
+  pub areas : ltb (firstOutside (s .width) (s .height) (s .cells) (cellsOf s)) (cellsOf s) ≡ false
+  pub overlaps : ltb (firstOverlap (s .cells) (cellsOf s)) (cellsOf s) ≡ false
+  pub runs : ltb (firstBadRun (s .cells) (cellsOf s) (length (s .colours)) (length (s .coords)) (length (s .ends))) (cellsOf s) ≡ false
+  pub contents : (c : ℕ) → c < cellsOf s → contentRefusal (alone s c) ≡ 0
+
+pub stages : (s : Sheet) → failure s .number ≡ 0 → Stages s
+unfolding failure
+stages s e =
     let a = passes (badChannels (s .channels)) (ofSheet 1) _ (λ z. absurd (omega arith)) e in
     let b = passes (badSheet (s .width) (s .height) (s .channels) (length (s .samples)) (length (s .stencil)) (length (s .cells)) (cellsOf s) (length (s .settings))) (ofSheet 50) _ (λ z. absurd (omega arith)) (a .1) in
     let o = passes (ltb (firstOutside (s .width) (s .height) (s .cells) (cellsOf s)) (cellsOf s)) (ofCell 51 _) _ (λ z. absurd (omega arith)) (b .1) in
     let v = passes (ltb (firstOverlap (s .cells) (cellsOf s)) (cellsOf s)) (ofCell 52 _) _ (λ z. absurd (omega arith)) (o .1) in
     let r = passes (ltb (firstBadRun (s .cells) (cellsOf s) (length (s .colours)) (length (s .coords)) (length (s .ends))) (cellsOf s)) (ofCell 53 _) (contentFailure s) (λ z. absurd (omega arith)) (v .1) in
+    record { channels = a .0; lengths = b .0; areas = o .0; overlaps = v .0; runs = r .0; contents = content-zero s (r .1) }
+
+pub ready : (s : Sheet) → failure s .number ≡ 0 → Ready s
+unfolding alone
+ready s e =
+    let t = stages s e in
     record {
-      laid = laid s (a .0) (b .0) (o .0) (r .0);
-      long = measured _ _ _ _ _ _ _ _ (b .0) .stencil ∙ mul-comm (s .width) (s .height);
-      apart = apart (s .cells) (cellsOf s) (v .0);
-      outlined = λ c l. content-outlined (alone s c) (content-zero s (r .1) c l);
+      laid = laid s (t .channels) (t .lengths) (t .areas) (t .runs);
+      long = measured _ _ _ _ _ _ _ _ (t .lengths) .stencil ∙ mul-comm (s .width) (s .height);
+      apart = apart (s .cells) (cellsOf s) (t .overlaps);
+      outlined = λ c l. content-outlined (alone s c) (t .contents c l);
     }

@@ -1,5 +1,6 @@
 -- Where the texels of an area lie in its sheet: which of the sheet's texels it covers, and their numbers in it. Assumes nothing.
 --     covered, covering    the test, by four comparisons
+--     in-sheet             a texel of the area, as the sheet counts
 --     shown-covered        each texel of the area's window is covered
 --     shown-within         and has its own number in the area
 --     covered-below        a covered texel has a number in the area
@@ -51,21 +52,21 @@ both-covered a b x y e f =
     let o : b .y < a .y + a .height = omega (arith, q .low, p .high) in
     rw (lt-ltb _ _ l, lt-ltb _ _ m, lt-ltb _ _ n, lt-ltb _ _ o)
 
-module _ (w h ch : ℕ) (a : Area) (i : AreaInside w h a) where
-  in-sheet : (x y : ℕ) → cellIn (windowOf w ch a) x y ≡ (a .y + y) * w + (a .x + x)
-  in-sheet x y = omega (arith, add-mul (a .y) y w)
+pub in-sheet : (w ch : ℕ) (a : Area) (x y : ℕ) → cellIn (windowOf w ch a) x y ≡ (a .y + y) * w + (a .x + x)
+in-sheet w ch a x y = omega (arith, add-mul (a .y) y w)
 
+module _ (w h ch : ℕ) (a : Area) (i : AreaInside w h a) where
   column : (k : ℕ) → cellShown (windowOf w ch a) k % w ≡ a .x + k % a .width
   unfolding cellShown
   column k =
       let l : a .x + k % a .width < w = omega (arith, i .wide, mod-lt k (i .any)) in
-      rw in-sheet (digits-mod (a .y + k / a .width) l)
+      rw (in-sheet w ch a) (digits-mod (a .y + k / a .width) l)
 
   row : (k : ℕ) → cellShown (windowOf w ch a) k / w ≡ a .y + k / a .width
   unfolding cellShown
   row k =
       let l : a .x + k % a .width < w = omega (arith, i .wide, mod-lt k (i .any)) in
-      rw in-sheet (digits-div (a .y + k / a .width) l)
+      rw (in-sheet w ch a) (digits-div (a .y + k / a .width) l)
 
   pub shown-covered : (k : ℕ) → k < a .height * a .width → covers a (cellShown (windowOf w ch a) k % w) (cellShown (windowOf w ch a) k / w) ≡ true
   shown-covered k l =
@@ -87,4 +88,4 @@ module _ (w h ch : ℕ) (a : Area) (i : AreaInside w h a) where
         let l : p % w - a .x < a .width = omega (arith, c .left, c .right) in
         let x : a .x + (p % w - a .x) ≡ p % w = omega (arith, c .left) in
         let y : a .y + (p / w - a .y) ≡ p / w = omega (arith, c .low) in
-        cell-shown (windowOf w ch a) (p % w - a .x) (p / w - a .y) l ∙ in-sheet (p % w - a .x) (p / w - a .y) ∙ ap (λ (n : ℕ). n * w + (a .x + (p % w - a .x))) y ∙ ap (λ (n : ℕ). p / w * w + n) x ∙ div-add-mod' p w
+        cell-shown (windowOf w ch a) (p % w - a .x) (p / w - a .y) l ∙ in-sheet w ch a (p % w - a .x) (p / w - a .y) ∙ ap (λ (n : ℕ). n * w + (a .x + (p % w - a .x))) y ∙ ap (λ (n : ℕ). p / w * w + n) x ∙ div-add-mod' p w
