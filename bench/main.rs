@@ -47,11 +47,11 @@ fn given(field: &Field) -> (Settings, Outlines<'_>) {
 }
 
 /// One run of the proved pass: seconds, and what it counted.
-fn ours(field: &Field, mode: Mode, samples: &mut [f32], stencil: &mut [u8]) -> (f64, Counts) {
+fn ours(field: &Field, mode: Mode, samples: &mut [f32], stencil: &mut [u8], room: &mut [f32]) -> (f64, Counts) {
     samples.copy_from_slice(&field.samples);
     let (settings, outlines) = given(field);
     let start = now();
-    let answer = error_correction((field.size, field.size, 3), samples, stencil, mode, settings, outlines);
+    let answer = error_correction((field.size, field.size, 3), samples, stencil, room, mode, settings, outlines);
     let seconds = now() - start;
     (seconds, answer.expect("refused"))
 }
@@ -59,12 +59,12 @@ fn ours(field: &Field, mode: Mode, samples: &mut [f32], stencil: &mut [u8]) -> (
 /// Seconds of the plain engine, the median of some runs after one that warms it up, and whether it leaves what the pass left and counted.
 fn plain(field: &Field, mode: Mode, samples: &[f32], stencil: &[u8], counts: Counts) -> (f64, bool) {
     let (settings, outlines) = given(field);
-    let (mut own, mut cells) = (field.samples.clone(), vec![0u8; stencil.len()]);
+    let (mut own, mut cells, mut room) = (field.samples.clone(), vec![0u8; stencil.len()], vec![0.0; 2 * field.size]);
     let (mut times, mut same) = (Vec::new(), true);
     for round in 0..=3 {
         own.copy_from_slice(&field.samples);
         let start = now();
-        let answer = plain_error_correction((field.size, field.size, 3), &mut own, &mut cells, mode, settings, outlines);
+        let answer = plain_error_correction((field.size, field.size, 3), &mut own, &mut cells, &mut room, mode, settings, outlines);
         let seconds = now() - start;
         same &= answer == Ok(counts.cells()) && cells == stencil && own.iter().map(|v| v.to_bits()).eq(samples.iter().map(|v| v.to_bits()));
         if round > 0 {
@@ -83,7 +83,7 @@ fn median(times: &mut [f64]) -> f64 {
 fn row(field: &Field, mode: Mode) -> bool {
     let texels = field.size * field.size;
     let task = oracle::Task::new(mode as u8, RATIO, field.lengths, &field.colours, &field.coords, &field.ends);
-    let (mut samples, mut stencil) = (field.samples.clone(), vec![0u8; texels]);
+    let (mut samples, mut stencil, mut room) = (field.samples.clone(), vec![0u8; texels], vec![0.0; 2 * field.size]);
     let mut bitmap = oracle::bitmap_of::<3>(field.size, field.size, &field.samples);
     let runs = (7_000_000 / texels).clamp(3, 15);
     let (mut original, mut proved) = (Vec::new(), Vec::new());
@@ -96,7 +96,7 @@ fn row(field: &Field, mode: Mode) -> bool {
         let start = now();
         oracle::correct(&mut bitmap, &task);
         let seconds = now() - start;
-        let (own, counts) = ours(field, mode, &mut samples, &mut stencil);
+        let (own, counts) = ours(field, mode, &mut samples, &mut stencil, &mut room);
         counted = Some(counts);
         same &= counts.tests == tests;
         if round > 0 {

@@ -98,11 +98,11 @@ impl Sheet {
     }
 
     /// The pass on cell k alone, whose counts are added.
-    fn alone(&self, k: usize, mode: Mode, samples: &mut [f32], stencil: &mut [u8], sum: &mut Answer) {
+    fn alone(&self, k: usize, mode: Mode, samples: &mut [f32], stencil: &mut [u8], room: &mut [f32], sum: &mut Answer) {
         let (runs, s) = (&self.cells[10 * k + 4..10 * k + 10], &self.settings[4 * k..4 * k + 4]);
         let settings = Settings { ratio: s[0], horizontal: s[1], vertical: s[2], diagonal: s[3] };
         let outlines = Outlines { colours: &self.colours[runs[0]..][..runs[1]], coords: &self.coords[runs[2]..][..runs[3]], ends: &self.ends[runs[4]..][..runs[5]] };
-        let counts = error_correction((self.cell, self.cell, 3), samples, stencil, mode, settings, outlines).expect("refused");
+        let counts = error_correction((self.cell, self.cell, 3), samples, stencil, room, mode, settings, outlines).expect("refused");
         sum.protected += counts.protected;
         sum.error += counts.error;
         sum.corner += counts.corner;
@@ -122,13 +122,14 @@ struct Left {
 struct Lent {
     samples: Vec<f32>,
     stencil: Vec<u8>,
+    room: Vec<f32>,
 }
 
 /// In place: seconds and the answer.
 fn in_place(sheet: &Sheet, modes: &[u8], lent: &mut Lent) -> (f64, Answer) {
     lent.samples.copy_from_slice(&sheet.samples);
     let start = now();
-    let answer = correct((sheet.width(), sheet.width(), 3), &mut lent.samples, &mut lent.stencil, sheet.given(modes));
+    let answer = correct((sheet.width(), sheet.width(), 3), &mut lent.samples, &mut lent.stencil, &mut lent.room, sheet.given(modes));
     (now() - start, answer)
 }
 
@@ -139,7 +140,7 @@ fn cut_out(sheet: &Sheet, mode: Mode, cut: &[f32], lent: &mut Lent) -> (f64, Ans
     let mut sum = Answer::default();
     let start = now();
     for (k, (samples, stencil)) in lent.samples.chunks_mut(texels * 3).zip(lent.stencil.chunks_mut(texels)).enumerate() {
-        sheet.alone(k, mode, samples, stencil, &mut sum);
+        sheet.alone(k, mode, samples, stencil, &mut lent.room, &mut sum);
     }
     (now() - start, sum)
 }
@@ -155,7 +156,7 @@ fn there_and_back(sheet: &Sheet, mode: Mode, lent: &mut Lent) -> (f64, Answer) {
         for row in sheet.rows(k) {
             samples.extend_from_slice(&lent.samples[row..row + sheet.cell * 3]);
         }
-        sheet.alone(k, mode, &mut samples, &mut stencil, &mut sum);
+        sheet.alone(k, mode, &mut samples, &mut stencil, &mut lent.room, &mut sum);
         for (line, row) in sheet.rows(k).enumerate() {
             lent.samples[row..row + sheet.cell * 3].copy_from_slice(&samples[line * sheet.cell * 3..][..sheet.cell * 3]);
             lent.stencil[row / 3..row / 3 + sheet.cell].copy_from_slice(&stencil[line * sheet.cell..][..sheet.cell]);
@@ -173,7 +174,7 @@ fn row(sheet: &Sheet, mode: Mode) -> bool {
     let texels = sheet.width() * sheet.width();
     let modes = vec![mode as u8; sheet.count()];
     let cut: Vec<f32> = (0..sheet.count()).flat_map(|k| sheet.rows(k)).flat_map(|row| &sheet.samples[row..row + sheet.cell * 3]).copied().collect();
-    let lent = || Lent { samples: sheet.samples.clone(), stencil: vec![0xA5; texels] };
+    let lent = || Lent { samples: sheet.samples.clone(), stencil: vec![0xA5; texels], room: vec![0.0; 2 * sheet.width()] };
     let mut of = [lent(), lent(), lent()];
     let runs = (7_000_000 / texels).clamp(3, 15);
     let mut times = [vec![], vec![], vec![]];
@@ -216,12 +217,12 @@ fn checks(cell: usize) -> bool {
     let samples = vec![0.5; size * size * 3];
     let field = Field { name: "grey", size, samples, lengths: [0.25; 3], colours: vec![], coords: vec![], ends: vec![] };
     let sheet = Sheet::of_field(&field, cell);
-    let (modes, stencil) = (vec![1; sheet.count()], vec![0; size * size]);
+    let (modes, stencil, room) = (vec![1; sheet.count()], vec![0; size * size], vec![0.0; 2 * size]);
     let mut times = Vec::new();
     let mut accepted = true;
     for _ in 0..9 {
         let start = now();
-        let answer = check((size, size, 3), &sheet.samples, &stencil, sheet.given(&modes));
+        let answer = check((size, size, 3), &sheet.samples, &stencil, &room, sheet.given(&modes));
         times.push(now() - start);
         accepted &= answer == Answer::default();
     }

@@ -14,7 +14,7 @@ static void need(int good, const char *what)
     }
 }
 
-static void *room(size_t count, size_t size)
+static void *space(size_t count, size_t size)
 {
     void *p = malloc(count > 0 ? count * size : size);
     need(p != NULL, "no memory");
@@ -70,27 +70,30 @@ int main(void)
     double ratio, horizontal, vertical, diagonal;
     need(scanf("%zu %zu %zu %u %lf %lf %lf %lf", &width, &height, &channels, &mode, &ratio, &horizontal, &vertical, &diagonal) == 8, "no size and settings");
     need(scanf("%zu %zu", &segments, &contours) == 2 && width <= 4096 && height <= 4096 && channels <= 4 && segments <= 65536, "too large");
-    uint8_t *colours = room(segments, sizeof *colours);
-    double *coords = room(2 * segments, sizeof *coords);
+    uint8_t *colours = space(segments, sizeof *colours);
+    double *coords = space(2 * segments, sizeof *coords);
     for (i = 0; i < segments; i++) {
         need(scanf("%u %lf %lf", &colour, &coords[2 * i], &coords[2 * i + 1]) == 3, "a segment is missing");
         colours[i] = (uint8_t)colour;
     }
-    size_t *ends = room(contours, sizeof *ends);
+    size_t *ends = space(contours, sizeof *ends);
     for (i = 0; i < contours; i++)
         need(scanf("%zu", &ends[i]) == 1, "an end is missing");
     size_t cells = width * height, count = cells * channels;
-    float *samples = room(count, sizeof *samples);
+    float *samples = space(count, sizeof *samples);
     for (i = 0; i < count; i++)
         need(scanf("%f", &samples[i]) == 1, "a sample is missing");
-    float *original = room(count, sizeof *original);
+    float *original = space(count, sizeof *original);
     memcpy(original, samples, count * sizeof *samples);
-    uint8_t *stencil = room(cells, sizeof *stencil);
+    uint8_t *stencil = space(cells, sizeof *stencil);
+    /* Lent for two rows of medians; what is in it does not matter. */
+    size_t room_count = 2 * width;
+    float *room = space(room_count, sizeof *room);
 
     size_t place, protected_cells, error_cells, corner_cells, tests;
-    unsigned refusal = rungtwine_error_correction(width, height, channels, samples, count, stencil, cells, (uint8_t)mode, ratio, horizontal, vertical,
-                                                  diagonal, colours, segments, coords, 2 * segments, ends, contours, &place, &protected_cells, &error_cells,
-                                                  &corner_cells, &tests);
+    unsigned refusal = rungtwine_error_correction(width, height, channels, samples, count, stencil, cells, room, room_count, (uint8_t)mode, ratio, horizontal,
+                                                  vertical, diagonal, colours, segments, coords, 2 * segments, ends, contours, &place, &protected_cells,
+                                                  &error_cells, &corner_cells, &tests);
     if (refusal != 0) {
         printf("refused %u %zu\n", refusal, place);
         return 1;
@@ -101,17 +104,19 @@ int main(void)
     show(width, height, channels, original, samples, stencil, RUNGTWINE_ERROR);
     show(width, height, channels, original, samples, stencil, 0);
 
-    float *plain = room(count, sizeof *plain);
+    float *plain = space(count, sizeof *plain);
     memcpy(plain, original, count * sizeof *plain);
-    uint8_t *plain_stencil = room(cells, sizeof *plain_stencil);
+    uint8_t *plain_stencil = space(cells, sizeof *plain_stencil);
     size_t plain_protected, plain_error, plain_corner;
-    refusal = rungtwine_plain_error_correction(width, height, channels, plain, count, plain_stencil, cells, (uint8_t)mode, ratio, horizontal, vertical, diagonal,
-                                               colours, segments, coords, 2 * segments, ends, contours, &place, &plain_protected, &plain_error, &plain_corner);
+    refusal = rungtwine_plain_error_correction(width, height, channels, plain, count, plain_stencil, cells, room, room_count, (uint8_t)mode, ratio, horizontal,
+                                               vertical, diagonal, colours, segments, coords, 2 * segments, ends, contours, &place, &plain_protected,
+                                               &plain_error, &plain_corner);
     need(refusal == 0 && plain_protected == protected_cells && plain_error == error_cells && plain_corner == corner_cells, "the plain engine counts otherwise");
     need(memcmp(plain, samples, count * sizeof *plain) == 0 && memcmp(plain_stencil, stencil, cells) == 0, "the plain engine leaves something else");
     printf("the plain engine agrees\n");
     free(plain_stencil);
     free(plain);
+    free(room);
     free(stencil);
     free(original);
     free(samples);

@@ -61,8 +61,10 @@ fn main() {
     let original: Vec<f32> = list(words, width * height * channels);
     let mut samples = original.clone();
     let mut stencil = vec![0u8; width * height];
+    // Lent for two rows of medians; what is in it does not matter.
+    let mut room = vec![0f32; 2 * width];
     let outlines = Outlines { colours: &colours, coords: &coords, ends: &ends };
-    match error_correction((width, height, channels), &mut samples, &mut stencil, mode, settings, outlines) {
+    match error_correction((width, height, channels), &mut samples, &mut stencil, &mut room, mode, settings, outlines) {
         Ok(counts) => {
             println!("protected {} error {} corner {} tests {}", counts.protected, counts.error, counts.corner, counts.tests);
             for row in stencil.chunks(width) {
@@ -72,7 +74,7 @@ fn main() {
             show((width, height, channels), &original, &samples, &stencil, true);
             show((width, height, channels), &original, &samples, &stencil, false);
             let (mut plain, mut plain_stencil) = (original.clone(), vec![0u8; width * height]);
-            let plain_counts = plain_error_correction((width, height, channels), &mut plain, &mut plain_stencil, mode, settings, outlines);
+            let plain_counts = plain_error_correction((width, height, channels), &mut plain, &mut plain_stencil, &mut room, mode, settings, outlines);
             assert_eq!(plain_counts, Ok(counts.cells()), "the plain engine counts otherwise");
             let same = plain.iter().map(|v| v.to_bits()).eq(samples.iter().map(|v| v.to_bits())) && plain_stencil == stencil;
             assert!(same, "the plain engine leaves something else");

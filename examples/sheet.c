@@ -5,7 +5,7 @@
 
 #include "../include/rungtwine.h"
 
-enum { WIDTH = 6, HEIGHT = 3, CHANNELS = 3, TEXELS = WIDTH * HEIGHT, SAMPLES = TEXELS * CHANNELS, CELLS = 3, SEGMENTS = 2, CONTOURS = 1 };
+enum { WIDTH = 6, HEIGHT = 3, CHANNELS = 3, TEXELS = WIDTH * HEIGHT, SAMPLES = TEXELS * CHANNELS, ROOM = 2 * WIDTH, CELLS = 3, SEGMENTS = 2, CONTOURS = 1 };
 
 /* A glyph of two texels with the median 0.75. Halfway between them red and green are 0.5, and so is the median: a dip that neither texel has. */
 static const float glyph[2 * CHANNELS] = {1, 0, 0.75f, 0, 1, 0.75f};
@@ -43,13 +43,14 @@ int main(void)
     const rungtwine_settings settings[CELLS] = {{1, 0.25, 0.25, 0.25}, {1, 0.25, 0.25, 0.25}, {1, 1, 1, 1}};
     float samples[SAMPLES] = {0};
     uint8_t stencil[TEXELS];
+    float room[ROOM] = {0}; /* lent for two rows of medians */
     size_t cell, place, protected_cells, error_cells, corner_cells, tests;
     for (size_t c = 0; c < CELLS; c++)
         memcpy(samples + (cells[c].y * WIDTH + cells[c].x) * CHANNELS, glyph, sizeof glyph);
 
-    unsigned refusal = rungtwine_cells_error_correction(WIDTH, HEIGHT, CHANNELS, samples, SAMPLES, stencil, TEXELS, cells, modes, settings, CELLS, colours,
-                                                        SEGMENTS, coords, 2 * SEGMENTS, ends, CONTOURS, &cell, &place, &protected_cells, &error_cells,
-                                                        &corner_cells, &tests);
+    unsigned refusal = rungtwine_cells_error_correction(WIDTH, HEIGHT, CHANNELS, samples, SAMPLES, stencil, TEXELS, room, ROOM, cells, modes, settings, CELLS,
+                                                        colours, SEGMENTS, coords, 2 * SEGMENTS, ends, CONTOURS, &cell, &place, &protected_cells,
+                                                        &error_cells, &corner_cells, &tests);
     if (refusal != 0) {
         printf("refused %u, cell %zu, place %zu\n", refusal, cell, place);
         return 1;
@@ -65,8 +66,8 @@ int main(void)
     }
 
     cells[1].x = 1;
-    refusal = rungtwine_cells_check(WIDTH, HEIGHT, CHANNELS, samples, SAMPLES, stencil, TEXELS, cells, modes, settings, CELLS, colours, SEGMENTS, coords,
-                                    2 * SEGMENTS, ends, CONTOURS, &cell, &place);
+    refusal = rungtwine_cells_check(WIDTH, HEIGHT, CHANNELS, samples, SAMPLES, stencil, TEXELS, room, ROOM, cells, modes, settings, CELLS, colours, SEGMENTS,
+                                    coords, 2 * SEGMENTS, ends, CONTOURS, &cell, &place);
     printf("cell 1 one to the left: refused %u, cell %zu, place %zu\n", refusal, cell, place);
     return 0;
 }

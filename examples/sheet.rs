@@ -34,11 +34,13 @@ fn main() {
     let settings = [0.25, 0.25, 1.0].map(|length| Settings { ratio: 1.0, horizontal: length, vertical: length, diagonal: length });
     let mut samples = vec![0f32; SIZE.0 * SIZE.1 * SIZE.2];
     let mut stencil = vec![0u8; SIZE.0 * SIZE.1];
+    // Lent for two rows of medians; what is in it does not matter.
+    let mut room = vec![0f32; 2 * SIZE.0];
     for cell in &cells {
         let start = (cell.y * SIZE.0 + cell.x) * SIZE.2;
         samples[start..start + GLYPH.len()].copy_from_slice(&GLYPH);
     }
-    match sheet_error_correction(SIZE, &mut samples, &mut stencil, SheetCells { cells: &cells, modes: &modes, settings: &settings }, OUTLINES) {
+    match sheet_error_correction(SIZE, &mut samples, &mut stencil, &mut room, SheetCells { cells: &cells, modes: &modes, settings: &settings }, OUTLINES) {
         Ok(all) => {
             for (c, cell) in cells.iter().enumerate() {
                 let [protected, error, corner] = [PROTECTED, ERROR, CORNER].map(|bit| count(&stencil, cell, bit));
@@ -55,6 +57,6 @@ fn main() {
         println!("{}", row.iter().map(|&byte| mark(byte)).collect::<String>());
     }
     cells[1].x = 1;
-    let refusal = sheet_check(SIZE, &samples, &stencil, SheetCells { cells: &cells, modes: &modes, settings: &settings }, OUTLINES).unwrap_err();
+    let refusal = sheet_check(SIZE, &samples, &stencil, &room, SheetCells { cells: &cells, modes: &modes, settings: &settings }, OUTLINES).unwrap_err();
     println!("cell 1 one to the left: refused {}, cell {}, place {}", refusal.number, refusal.cell, refusal.place);
 }

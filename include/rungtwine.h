@@ -24,23 +24,24 @@ extern "C" {
 
 /*
  * Corrects `samples` in place: width x height texels, row 0 at the bottom, `channels` (3 or 4) interleaved. The old contents of `stencil`, one byte
- * a texel, do not matter. `ratio` is the least deviation ratio; the three lengths are those of a pixel's step to the side, up and diagonally,
- * in units of the samples. `colours` has a byte for each segment, bits 0 to 2 its channels; `coords` the x and y of each segment's start in pixel
- * units; `ends` for each contour the number of segments up to its end.
+ * a texel, do not matter, nor do those of `room`, which is lent for two rows of medians: 2 * width elements or more. `ratio` is the least deviation ratio;
+ * the three lengths are those of a pixel's step to the side, up and diagonally, in units of the samples. `colours` has a byte for each segment, bits 0 to 2
+ * its channels; `coords` the x and y of each segment's start in pixel units; `ends` for each contour the number of segments up to its end.
  *
- * Answers 0 and writes the stencil, the samples of flagged texels, place 0, and four counts: `protected_cells`, `error_cells` and `corner_cells` of the
- * cells that have one bit, and `tests` of the range tests that were made. Otherwise it answers the number of the first check that fails, writes its place
- * and four zero counts, and leaves samples and stencil as they were:
+ * Answers 0 and writes the stencil, the samples of flagged texels, +0.0 to every element of the room, place 0, and four counts: `protected_cells`,
+ * `error_cells` and `corner_cells` of the cells that have one bit, and `tests` of the range tests that were made. Otherwise it answers the number of the
+ * first check that fails, writes its place and four zero counts, and leaves samples, stencil and room as they were. In this order:
  *
- *   1 channels not 3 or 4
- *   2 width or height outside 1 to 4096
- *   3 samples_len not width * height * channels
- *   4 stencil_len not width * height
- *   5 mode above 3 (place 0), or the ratio (1) or a length (2, 3, 4) NaN, below 0 or above 1048576
- *   6 a sample NaN, infinite or of size above 1048576 (its index)
- *   7 coords_len not twice colours_len, or over 65536 segments
- *   8 an end below the one before or above the number of segments (its index), or the last end not that number (ends_len)
- *   9 a colour above 7, or a coordinate NaN, infinite or of size above 1048576 (the segment)
+ *   1  channels not 3 or 4
+ *   2  width or height outside 1 to 4096
+ *   3  samples_len not width * height * channels
+ *   4  stencil_len not width * height
+ *   60 room_len below 2 * width
+ *   5  mode above 3 (place 0), or the ratio (1) or a length (2, 3, 4) NaN, below 0 or above 1048576
+ *   6  a sample NaN, infinite or of size above 1048576 (its index)
+ *   7  coords_len not twice colours_len, or over 65536 segments
+ *   8  an end below the one before or above the number of segments (its index), or the last end not that number (ends_len)
+ *   9  a colour above 7, or a coordinate NaN, infinite or of size above 1048576 (the segment)
  *
  * A range test decides about one point on the way from a texel to a neighbour; `tests` counts each one that is made over the whole bitmap, whatever it
  * finds. A texel asks the neighbours that there are in this order, up to the first with an artifact: left, below, right, above, lower left, lower right,
@@ -57,6 +58,7 @@ uint8_t rungtwine_error_correction(
     size_t width, size_t height, size_t channels,
     float *samples, size_t samples_len,
     uint8_t *stencil, size_t stencil_len,
+    float *room, size_t room_len,
     uint8_t mode, double ratio, double horizontal, double vertical, double diagonal,
     const uint8_t *colours, size_t colours_len,
     const double *coords, size_t coords_len,
@@ -66,13 +68,14 @@ uint8_t rungtwine_error_correction(
 /*
  * The same by a second engine, which is slow and written to be read, to hold the first against: for every texel it works out all neighbours, pairs of
  * channels, roots and range tests, with no early stop. It takes the same arguments less `tests`. For the same arguments it leaves the same flags, stencil,
- * samples and counts of cells, and answers the same refusals at the same places: both are proved against the same definitions. It counts no range tests.
- * What is said above of the pointers holds here too, with three counts.
+ * samples, room and counts of cells, and answers the same refusals at the same places: both are proved against the same definitions. It counts no range
+ * tests, and keeps nothing in the room. What is said above of the pointers holds here too, with three counts.
  */
 uint8_t rungtwine_plain_error_correction(
     size_t width, size_t height, size_t channels,
     float *samples, size_t samples_len,
     uint8_t *stencil, size_t stencil_len,
+    float *room, size_t room_len,
     uint8_t mode, double ratio, double horizontal, double vertical, double diagonal,
     const uint8_t *colours, size_t colours_len,
     const double *coords, size_t coords_len,
@@ -101,6 +104,7 @@ typedef char rungtwine_settings_are_four_numbers[sizeof(rungtwine_settings) == 4
  * Whole sheets: corrects each cell of a sheet in place, as if the cell were a bitmap alone. What it is given:
  *
  *   width, height, channels, samples, stencil   the sheet, laid out as the bitmap above
+ *   room       as above, by the sheet's width: 2 * width elements or more
  *   cells      ten numbers a cell, those of rungtwine_cell in its order: x, y, width, height, then for colours, coords and ends where its run starts and
  *              how many it takes
  *   modes      a mode a cell: there are modes_len cells
@@ -112,27 +116,30 @@ typedef char rungtwine_settings_are_four_numbers[sizeof(rungtwine_settings) == 4
  * rungtwine_cells_error_correction below takes arrays of structs and is otherwise the same.
  *
  * Nothing is written until all checks of all cells pass. Then it answers 0, and for each cell the samples and stencil bytes are those that
- * rungtwine_error_correction leaves of the cell cut out. Samples outside every cell stay, stencil bytes there become 0. It writes cell 0, place 0 and
- * the four counts, each the sum over the cells; no cell at all is accepted. Cells in another order give the same sheet. Otherwise it answers the number of
- * the first check that fails, writes the number of its cell, from 0, its place and four zero counts, and leaves samples and stencil as they were. In this
- * order:
+ * rungtwine_error_correction leaves of the cell cut out. Samples outside every cell stay, stencil bytes there become 0, and every element of the room is
+ * +0.0. It writes cell 0, place 0 and the four counts, each the sum over the cells; no cell at all is accepted. Cells in another order give the same sheet.
+ * Otherwise it answers the number of the first check that fails, writes the number of its cell, from 0, its place and four zero counts, and leaves samples,
+ * stencil and room as they were. In this order:
  *
  *   1  channels not 3 or 4
  *   50 width or height outside 1 to 4096, samples_len not width * height * channels, stencil_len not width * height, more than 4096 cells,
  *      cells_len not 10 * modes_len, or settings_len not 4 * modes_len
+ *   60 room_len below 2 * width
  *   51 a cell empty or not inside the sheet (the first such cell)
  *   52 two cells overlap (the first that overlaps an earlier one)
  *   53 a run not inside its list (the first cell with one)
  *   then checks 5 to 9 above of each cell by itself, first cell first: the number, the cell, and a place that counts within the cell, its samples row by row
  *   as if it were cut out, its segments and ends from its runs' starts
  *
- * Checks 1 and 50 name cell 0, and checks 1 and 50 to 53 place 0. There is no further demand on the numbers. Each pointer has to be good for the length beside it
- * (`cell`, `place` and the four counts for one), not null and aligned for its type, also where the length is 0; what is written must overlap nothing else.
+ * Checks 1, 50 and 60 name cell 0, and checks 1, 50 to 53 and 60 place 0. There is no further demand on the numbers. Each pointer has to be good for the length
+ * beside it (`cell`, `place` and the four counts for one), not null and aligned for its type, also where the length is 0; what is written must overlap nothing
+ * else.
  */
 uint8_t rungtwine_sheet_error_correction(
     size_t width, size_t height, size_t channels,
     float *samples, size_t samples_len,
     uint8_t *stencil, size_t stencil_len,
+    float *room, size_t room_len,
     const size_t *cells, size_t cells_len,
     const uint8_t *modes, size_t modes_len,
     const double *settings, size_t settings_len,
@@ -143,12 +150,13 @@ uint8_t rungtwine_sheet_error_correction(
 
 /*
  * All checks of rungtwine_sheet_error_correction, and nothing else: the same number, cell and place for the same arguments, 0 where it would be accepted.
- * For a caller who corrects a sheet part by part and wants to know beforehand. What is said above of the pointers holds here too.
+ * For a caller who corrects a sheet part by part and wants to know beforehand. The room is not written. What is said above of the pointers holds here too.
  */
 uint8_t rungtwine_sheet_check(
     size_t width, size_t height, size_t channels,
     const float *samples, size_t samples_len,
     const uint8_t *stencil, size_t stencil_len,
+    const float *room, size_t room_len,
     const size_t *cells, size_t cells_len,
     const uint8_t *modes, size_t modes_len,
     const double *settings, size_t settings_len,
@@ -162,15 +170,16 @@ static inline uint8_t rungtwine_cells_error_correction(
     size_t width, size_t height, size_t channels,
     float *samples, size_t samples_len,
     uint8_t *stencil, size_t stencil_len,
+    float *room, size_t room_len,
     const rungtwine_cell *cells, const uint8_t *modes, const rungtwine_settings *settings, size_t count,
     const uint8_t *colours, size_t colours_len,
     const double *coords, size_t coords_len,
     const size_t *ends, size_t ends_len,
     size_t *cell, size_t *place, size_t *protected_cells, size_t *error_cells, size_t *corner_cells, size_t *tests)
 {
-    return rungtwine_sheet_error_correction(width, height, channels, samples, samples_len, stencil, stencil_len, (const size_t *)cells, 10 * count, modes, count,
-                                            (const double *)settings, 4 * count, colours, colours_len, coords, coords_len, ends, ends_len, cell, place,
-                                            protected_cells, error_cells, corner_cells, tests);
+    return rungtwine_sheet_error_correction(width, height, channels, samples, samples_len, stencil, stencil_len, room, room_len, (const size_t *)cells, 10 * count,
+                                            modes, count, (const double *)settings, 4 * count, colours, colours_len, coords, coords_len, ends, ends_len, cell,
+                                            place, protected_cells, error_cells, corner_cells, tests);
 }
 
 /* rungtwine_sheet_check with `count` cells as arrays of structs. */
@@ -178,14 +187,15 @@ static inline uint8_t rungtwine_cells_check(
     size_t width, size_t height, size_t channels,
     const float *samples, size_t samples_len,
     const uint8_t *stencil, size_t stencil_len,
+    const float *room, size_t room_len,
     const rungtwine_cell *cells, const uint8_t *modes, const rungtwine_settings *settings, size_t count,
     const uint8_t *colours, size_t colours_len,
     const double *coords, size_t coords_len,
     const size_t *ends, size_t ends_len,
     size_t *cell, size_t *place)
 {
-    return rungtwine_sheet_check(width, height, channels, samples, samples_len, stencil, stencil_len, (const size_t *)cells, 10 * count, modes, count,
-                                 (const double *)settings, 4 * count, colours, colours_len, coords, coords_len, ends, ends_len, cell, place);
+    return rungtwine_sheet_check(width, height, channels, samples, samples_len, stencil, stencil_len, room, room_len, (const size_t *)cells, 10 * count, modes,
+                                 count, (const double *)settings, 4 * count, colours, colours_len, coords, coords_len, ends, ends_len, cell, place);
 }
 
 /* A part of a bitmap: `length` samples from `samples` on. */

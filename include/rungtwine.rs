@@ -19,6 +19,8 @@ pub mod raw {
             samples_len: usize,
             stencil: *mut u8,
             stencil_len: usize,
+            room: *mut f32,
+            room_len: usize,
             mode: u8,
             ratio: f64,
             horizontal: f64,
@@ -45,6 +47,8 @@ pub mod raw {
             samples_len: usize,
             stencil: *mut u8,
             stencil_len: usize,
+            room: *mut f32,
+            room_len: usize,
             mode: u8,
             ratio: f64,
             horizontal: f64,
@@ -70,6 +74,8 @@ pub mod raw {
             samples_len: usize,
             stencil: *mut u8,
             stencil_len: usize,
+            room: *mut f32,
+            room_len: usize,
             cells: *const usize,
             cells_len: usize,
             modes: *const u8,
@@ -98,6 +104,8 @@ pub mod raw {
             samples_len: usize,
             stencil: *const u8,
             stencil_len: usize,
+            room: *const f32,
+            room_len: usize,
             cells: *const usize,
             cells_len: usize,
             modes: *const u8,
@@ -246,11 +254,13 @@ pub struct SheetRefusal {
     pub place: usize,
 }
 
-/// Corrects `samples` in place and fills `stencil`.
+/// Corrects `samples` in place and fills `stencil`. `room` is lent for two rows of medians: 2 * width elements or more, or it is refused (60). What it held does
+/// not matter, and every element is +0.0 afterwards; a refusal leaves it as it was.
 pub fn error_correction(
     (width, height, channels): (usize, usize, usize),
     samples: &mut [f32],
     stencil: &mut [u8],
+    room: &mut [f32],
     mode: Mode,
     settings: Settings,
     outlines: Outlines,
@@ -266,6 +276,8 @@ pub fn error_correction(
             samples.len(),
             stencil.as_mut_ptr(),
             stencil.len(),
+            room.as_mut_ptr(),
+            room.len(),
             mode as u8,
             settings.ratio,
             settings.horizontal,
@@ -287,11 +299,12 @@ pub fn error_correction(
     if number == 0 { Ok(Counts { protected, error, corner, tests }) } else { Err(Refusal { number, place }) }
 }
 
-/// The same by a second engine, slow and written to be read: the same flags, stencil, samples, counts of cells and refusals, and no count of range tests.
+/// The same by a second engine, slow and written to be read: the same flags, stencil, samples, room, counts of cells and refusals, and no count of range tests.
 pub fn plain_error_correction(
     (width, height, channels): (usize, usize, usize),
     samples: &mut [f32],
     stencil: &mut [u8],
+    room: &mut [f32],
     mode: Mode,
     settings: Settings,
     outlines: Outlines,
@@ -307,6 +320,8 @@ pub fn plain_error_correction(
             samples.len(),
             stencil.as_mut_ptr(),
             stencil.len(),
+            room.as_mut_ptr(),
+            room.len(),
             mode as u8,
             settings.ratio,
             settings.horizontal,
@@ -328,11 +343,12 @@ pub fn plain_error_correction(
 }
 
 /// Corrects each cell of a sheet in place, as if it were a bitmap alone, once every check of every cell has passed. Samples outside every cell stay, `stencil` is
-/// zero there, and each count is the sum over the cells. `outlines` has the lists that the cells' runs are of.
+/// zero there, and each count is the sum over the cells. `room` is lent as above, by the sheet's width. `outlines` has the lists that the cells' runs are of.
 pub fn sheet_error_correction(
     (width, height, channels): (usize, usize, usize),
     samples: &mut [f32],
     stencil: &mut [u8],
+    room: &mut [f32],
     cells: SheetCells,
     outlines: Outlines,
 ) -> Result<Counts, SheetRefusal> {
@@ -348,6 +364,8 @@ pub fn sheet_error_correction(
             samples.len(),
             stencil.as_mut_ptr(),
             stencil.len(),
+            room.as_mut_ptr(),
+            room.len(),
             cells.cells.as_ptr().cast(),
             10 * cells.cells.len(),
             cells.modes.as_ptr().cast(),
@@ -371,11 +389,12 @@ pub fn sheet_error_correction(
     if number == 0 { Ok(Counts { protected, error, corner, tests }) } else { Err(SheetRefusal { number, cell, place }) }
 }
 
-/// All checks of `sheet_error_correction` and nothing else, for a caller who corrects a sheet part by part and wants to know beforehand.
+/// All checks of `sheet_error_correction` and nothing else, for a caller who corrects a sheet part by part and wants to know beforehand. The room is not written.
 pub fn sheet_check(
     (width, height, channels): (usize, usize, usize),
     samples: &[f32],
     stencil: &[u8],
+    room: &[f32],
     cells: SheetCells,
     outlines: Outlines,
 ) -> Result<(), SheetRefusal> {
@@ -390,6 +409,8 @@ pub fn sheet_check(
             samples.len(),
             stencil.as_ptr(),
             stencil.len(),
+            room.as_ptr(),
+            room.len(),
             cells.cells.as_ptr().cast(),
             10 * cells.cells.len(),
             cells.modes.as_ptr().cast(),

@@ -53,8 +53,8 @@ static size_t times(size_t a, size_t b)
     return a * b;
 }
 
-/* Zeroed room for so many, and for one where there are none: the library wants no null. */
-static void *room(size_t count, size_t size)
+/* Zeroed space for so many, and for one where there are none: the library wants no null. */
+static void *space(size_t count, size_t size)
 {
     void *p = calloc(count > 0 ? count : 1, size);
     if (p == NULL)
@@ -62,7 +62,7 @@ static void *room(size_t count, size_t size)
     return p;
 }
 
-/* The list with room for one more than its count; it doubles where it is full. */
+/* The list with space for one more than its count; it doubles where it is full. */
 static void *one_more(void *list, size_t count, size_t size)
 {
     if ((count & (count - 1)) != 0)
@@ -360,8 +360,8 @@ static void read_cell(reader *r, sheet *s, const choice *common)
 
 static sheet read_sheet(reader *r)
 {
-    sheet s = {.cells = room(1, sizeof *s.cells), .modes = room(1, sizeof *s.modes), .settings = room(1, sizeof *s.settings), .places = room(1, sizeof *s.places),
-               .colours = room(1, sizeof *s.colours), .coords = room(2, sizeof *s.coords), .ends = room(1, sizeof *s.ends)};
+    sheet s = {.cells = space(1, sizeof *s.cells), .modes = space(1, sizeof *s.modes), .settings = space(1, sizeof *s.settings), .places = space(1, sizeof *s.places),
+               .colours = space(1, sizeof *s.colours), .coords = space(2, sizeof *s.coords), .ends = space(1, sizeof *s.ends)};
     choice common = {0};
     s.size = keyword(r, "sheet");
     s.width = whole(r, "the width", SIDE_LIMIT, NULL, 0);
@@ -420,7 +420,7 @@ static reader read_text(const char *name)
     FILE *f = opened(name, &length);
     if (length > SIZE_MAX / 2)
         fail(BAD, "%s: has %llu bytes, which is too much", name, (unsigned long long)length);
-    char *text = room((size_t)length + 1, 1);
+    char *text = space((size_t)length + 1, 1);
     read_bytes(f, name, text, (size_t)length);
     fclose(f);
     reader r = {.name = name, .text = text, .length = (size_t)length, .line = 1, .column = 1};
@@ -447,7 +447,7 @@ static char *beside(const char *description, word file)
 {
     const char *slash = strrchr(description, '/');
     size_t folder = slash == NULL || file.text[0] == '/' ? 0 : (size_t)(slash - description) + 1;
-    char *name = room(folder + file.length + 1, 1);
+    char *name = space(folder + file.length + 1, 1);
     memcpy(name, description, folder);
     memcpy(name + folder, file.text, file.length);
     return name;
@@ -517,7 +517,7 @@ static float *read_samples(const reader *r, const sheet *s, form *file, size_t c
     if (have != wanted)
         fail(BAD, "%s: has %llu bytes of samples, and the sheet's %zu x %zu x %zu take %llu: it is %llu too %s", file->name, (unsigned long long)have, s->width,
              s->height, s->channels, (unsigned long long)wanted, (unsigned long long)(have < wanted ? wanted - have : have - wanted), have < wanted ? "short" : "long");
-    float *samples = room(count, sizeof *samples);
+    float *samples = space(count, sizeof *samples);
     read_bytes(f, file->name, samples, (size_t)wanted);
     fclose(f);
     turn(samples, count, file->big_endian);
@@ -543,10 +543,10 @@ static char *check_out(const char *out, const char *description, const form *fil
             fail(USAGE, "'%s' is the description itself", out);
     }
     char *real = realpath(out, NULL); /* so that a link stays one */
-    char *name = room(strlen(real != NULL ? real : out) + 1, 1);
+    char *name = space(strlen(real != NULL ? real : out) + 1, 1);
     strcpy(name, real != NULL ? real : out);
     free(real);
-    char *folder = room(strlen(name) + 2, 1);
+    char *folder = space(strlen(name) + 2, 1);
     strcpy(folder, name);
     char *slash = strrchr(folder, '/');
     strcpy(slash != NULL ? slash + 1 : folder, ".");
@@ -560,7 +560,7 @@ static char *check_out(const char *out, const char *description, const form *fil
 static void write_samples(const char *out, const form *file, float *samples, size_t count)
 {
     size_t length = strlen(out) + 32;
-    char *part = room(length, 1);
+    char *part = space(length, 1);
     snprintf(part, length, "%s.%ld.part", out, (long)getpid());
     int to = open(part, O_WRONLY | O_CREAT | O_EXCL, 0666);
     if (to < 0)
@@ -629,6 +629,8 @@ static _Noreturn void refuse(const reader *r, const sheet *s, const float *sampl
         bad(r, s->size, "refused 50, cell %zu, place %zu: the sheet is %zu x %zu, and a side is from 1 to 4096", c, place, s->width, s->height);
     if (refusal == 50)
         bad(r, s->size, "refused 50, cell %zu, place %zu: the sheet has %zu cells, and %d are the most", c, place, s->count, CELL_LIMIT);
+    if (refusal == 60) /* what is lent here never is */
+        bad(r, s->size, "refused 60, cell %zu, place %zu: the room is less than two rows of %zu", c, place, s->width);
     const rungtwine_cell *cell = &s->cells[c];
     if (refusal == 51 && (cell->width == 0 || cell->height == 0)) {
         snprintf(why, sizeof why, "it is empty");
@@ -696,12 +698,12 @@ static int by_number(const void *a, const void *b)
     return (p->cell > q->cell) - (p->cell < q->cell);
 }
 
-/* Corrects the cells of a band, which has the rows from `low` to below `high`. */
-static counts correct_band(const sheet *s, float *samples, uint8_t *stencil, const entry *band, size_t count, size_t low, size_t high)
+/* Corrects the cells of a band, which has the rows from `low` to below `high`. The room is that of all bands: each is as wide as the sheet. */
+static counts correct_band(const sheet *s, float *samples, uint8_t *stencil, float *room, const entry *band, size_t count, size_t low, size_t high)
 {
-    rungtwine_cell *cells = room(count, sizeof *cells);
-    uint8_t *modes = room(count, sizeof *modes);
-    rungtwine_settings *settings = room(count, sizeof *settings);
+    rungtwine_cell *cells = space(count, sizeof *cells);
+    uint8_t *modes = space(count, sizeof *modes);
+    rungtwine_settings *settings = space(count, sizeof *settings);
     for (size_t i = 0; i < count; i++) {
         cells[i] = s->cells[band[i].cell];
         cells[i].y -= low;
@@ -711,8 +713,9 @@ static counts correct_band(const sheet *s, float *samples, uint8_t *stencil, con
     counts n;
     size_t cell, place, texels = (high - low) * s->width;
     unsigned refusal = rungtwine_cells_error_correction(
-        s->width, high - low, s->channels, samples + low * s->width * s->channels, texels * s->channels, stencil + low * s->width, texels, cells, modes, settings,
-        count, s->colours, s->segments, s->coords, 2 * s->segments, s->ends, s->contours, &cell, &place, &n.protected_cells, &n.error_cells, &n.corner_cells, &n.tests);
+        s->width, high - low, s->channels, samples + low * s->width * s->channels, texels * s->channels, stencil + low * s->width, texels, room, 2 * s->width, cells,
+        modes, settings, count, s->colours, s->segments, s->coords, 2 * s->segments, s->ends, s->contours, &cell, &place, &n.protected_cells, &n.error_cells,
+        &n.corner_cells, &n.tests);
     if (refusal != 0)
         fail(BAD, "the library refuses a part of a sheet that it has accepted: %u, cell %zu, place %zu", refusal, band[cell].cell, place);
     free(settings);
@@ -729,9 +732,9 @@ static double seconds(void)
 }
 
 /* Corrects the sheet band by band, from the bottom, and prints the cells of each as soon as it is done. Adds the time that the library took. */
-static counts correct(const sheet *s, float *samples, uint8_t *stencil, double *taken)
+static counts correct(const sheet *s, float *samples, uint8_t *stencil, float *room, double *taken)
 {
-    entry *order = room(s->count, sizeof *order);
+    entry *order = space(s->count, sizeof *order);
     for (size_t c = 0; c < s->count; c++)
         order[c] = (entry){s->cells[c].y, c};
     qsort(order, s->count, sizeof *order, by_row);
@@ -744,7 +747,7 @@ static counts correct(const sheet *s, float *samples, uint8_t *stencil, double *
         }
         qsort(order + from, to - from, sizeof *order, by_number);
         double start = seconds();
-        counts band = correct_band(s, samples, stencil, order + from, to - from, low, high);
+        counts band = correct_band(s, samples, stencil, room, order + from, to - from, low, high);
         *taken += seconds() - start;
         add(&sum, &band);
         for (size_t i = from; i < to; i++) {
@@ -771,17 +774,18 @@ int main(int argc, char **argv)
     form file;
     size_t texels = times(s.width, s.height), count = times(texels, s.channels), corrected = 0;
     float *samples = read_samples(&r, &s, &file, count);
-    uint8_t *stencil = room(texels, sizeof *stencil);
+    uint8_t *stencil = space(texels, sizeof *stencil);
+    float *room = space(2 * s.width, sizeof *room); /* lent for two rows of medians */
     char *out = argc == 3 ? check_out(argv[2], argv[1], &file) : NULL;
 
     size_t cell, place;
     double start = seconds();
-    unsigned refusal = rungtwine_cells_check(s.width, s.height, s.channels, samples, count, stencil, texels, s.cells, s.modes, s.settings, s.count, s.colours,
-                                             s.segments, s.coords, 2 * s.segments, s.ends, s.contours, &cell, &place);
+    unsigned refusal = rungtwine_cells_check(s.width, s.height, s.channels, samples, count, stencil, texels, room, 2 * s.width, s.cells, s.modes, s.settings, s.count,
+                                             s.colours, s.segments, s.coords, 2 * s.segments, s.ends, s.contours, &cell, &place);
     double taken = seconds() - start;
     if (refusal != 0)
         refuse(&r, &s, samples, refusal, cell, place);
-    counts sum = correct(&s, samples, stencil, &taken);
+    counts sum = correct(&s, samples, stencil, room, &taken);
     for (size_t c = 0; c < s.count; c++)
         corrected += s.cells[c].width * s.cells[c].height;
     printf("%zu cell%s, %zu texels: ", s.count, s.count == 1 ? "" : "s", corrected);
@@ -792,6 +796,7 @@ int main(int argc, char **argv)
     if (fflush(stdout) != 0 || ferror(stdout))
         fail(BAD, "what is printed cannot be written: %s", strerror(errno));
     free(out);
+    free(room);
     free(stencil);
     free(samples);
     free(file.name);

@@ -6,13 +6,12 @@ use crate::cases::{accepted, Case};
 use crate::judge::{Seen, CORNER};
 use crate::rng::Rng;
 use crate::shrink;
-use crate::sides::{compare, Totals};
+use crate::sides::{compare, Outcome, Totals};
 
 /// The case with what the pass left of it, in a mode and with settings of another's.
-fn fed_back(case: &Case, samples: Vec<f32>, stencil: Vec<u8>, other: Option<&Case>) -> Case {
+fn fed_back(case: &Case, left: Outcome, other: Option<&Case>) -> Case {
     let mut next = case.clone();
-    next.samples = samples;
-    next.stencil = stencil;
+    (next.samples, next.stencil, next.room) = (left.samples, left.stencil, left.room);
     if let Some(other) = other {
         next.input.mode = other.input.mode;
         next.input.ratio = other.input.ratio;
@@ -41,7 +40,7 @@ fn rounds(rng: &mut Rng, first: Case, totals: &mut Totals) -> Result<u64, String
             later += left.answer.error as u64;
         }
         let other = accepted(rng);
-        case = fed_back(&case, left.samples, left.stencil, if turn == 0 { None } else { Some(&other) });
+        case = fed_back(&case, left, if turn == 0 { None } else { Some(&other) });
     }
     Ok(later)
 }

@@ -11,6 +11,8 @@ pub struct Case {
     pub samples: Vec<f32>,
     /// The stencil's old contents.
     pub stencil: Vec<u8>,
+    /// The room's old contents.
+    pub room: Vec<f32>,
 }
 
 // Values.
@@ -287,10 +289,16 @@ pub fn fill_field(rng: &mut Rng, kind: usize, w: usize, h: usize, n: usize) -> V
 const KINDS: [&str; 10] =
     ["one class", "mixed classes", "neighbours near", "palette", "figures", "quotients", "quadratics", "grey", "glyph", "checkered"];
 
-fn finish(rng: &mut Rng, kind: &'static str, input: Input, samples: Vec<f32>) -> Case {
+/// A room for two rows of a bitmap so wide, or as wide as one can be, with some of these bits in each element.
+pub fn room(width: usize, old: u64) -> Vec<f32> {
+    (0..2 * width.min(4096)).map(|i| f32::from_bits(old.rotate_left(i as u32 % 64) as u32)).collect()
+}
+
+pub fn finish(rng: &mut Rng, kind: &'static str, input: Input, samples: Vec<f32>) -> Case {
     let old = rng.next();
     let stencil = (0..input.width * input.height).map(|i| (old.rotate_left(i as u32 % 64) & 0xFF) as u8).collect();
-    Case { kind, input, samples, stencil }
+    let room = room(input.width, old);
+    Case { kind, input, samples, stencil, room }
 }
 
 pub fn glyph_case(rng: &mut Rng) -> Case {
@@ -503,7 +511,7 @@ pub fn broken(rng: &mut Rng) -> Case {
     case
 }
 
-/// Case `index` of the run `seed`.
+/// Case `index` of the run `seed`, with room for two rows.
 pub fn case(seed: u64, index: u64) -> Case {
     let mut rng = Rng::new(seed, index);
     if rng.one_in(6) { broken(&mut rng) } else { accepted(&mut rng) }
@@ -520,13 +528,17 @@ fn plain(width: usize, height: usize, channels: usize, contours: &[Vec<(u8, f64,
     finish(&mut rng, "every place", input, samples)
 }
 
+/// A few small cases with contours.
+pub fn small() -> [Case; 3] {
+    let contours = [vec![(3, 0.5, 0.5), (6, 1.5, 1.0)], vec![], vec![(7, 2.0, 2.0)], vec![(1, 0.0, 3.0), (5, -1.0, 0.0), (2, 9.0, 9.0)]];
+    [(1, 1, 3), (2, 3, 4), (3, 2, 3)].map(|(w, h, n)| plain(w, h, n, &contours))
+}
+
 /// Every refusal at every place that it can name in a few small cases, lengths one short and one long, the limits themselves, and the example.
 pub fn every_place() -> Vec<Case> {
     let mut rng = Rng::new(1, 1);
-    let contours = vec![vec![(3, 0.5, 0.5), (6, 1.5, 1.0)], vec![], vec![(7, 2.0, 2.0)], vec![(1, 0.0, 3.0), (5, -1.0, 0.0), (2, 9.0, 9.0)]];
     let mut cases = Vec::new();
-    for (w, h, n) in [(1, 1, 3), (2, 3, 4), (3, 2, 3)] {
-        let base = plain(w, h, n, &contours);
+    for base in small() {
         cases.push(base.clone());
         for fault in 0..FAULTS {
             for _ in 0..12 {

@@ -1,6 +1,6 @@
 //! The fixed list: some hundreds of small cases, each branch among them, with their answers. tests/fixed/README.md has the format.
 
-use crate::cases::{case, checkered, every_place, Case};
+use crate::cases::{case, checkered, every_place, room, Case};
 use crate::judge::{Answer, Input, Seen, BRANCHES};
 use crate::shrink;
 use crate::sides::{bits, by_judge, compare, Outcome, Totals};
@@ -14,12 +14,21 @@ const SEED: u64 = 6;
 /// Branches that only a large case reaches; the list leaves them to the runs.
 const LARGE: [&str; 2] = ["refusal 7 0, too many segments", "accepted, a side of 4,096"];
 
+/// What is in the rooms: the list holds none, and each of its cases is run with two rows of this.
+const OLD: u64 = 0x7FC0_0001_8000_0000;
+
+/// Whether the list leaves a branch to the runs: the large ones, and those of the room.
+fn left_to_runs(branch: &str) -> bool {
+    LARGE.contains(&branch) || branch.contains("room")
+}
+
 fn figure(width: usize, height: usize, mode: u8, length: f64, samples: &[f32]) -> Case {
     Case {
         kind: "figure",
         input: Input { width, height, channels: 3, mode, ratio: 1.0, lengths: [length; 3], colours: vec![], coords: vec![], ends: vec![] },
         samples: samples.to_vec(),
         stencil: vec![0xFF; width * height],
+        room: room(width, OLD),
     }
 }
 
@@ -188,9 +197,9 @@ impl Reader<'_> {
         let refusal = self.byte();
         let [place, protected, error, corner, tests] = [(); 5].map(|_| self.size());
         let answer = Answer { refusal, place, protected, error, corner, tests };
-        let outcome = Outcome { answer, samples: self.samples(n), stencil: self.take(m).to_vec(), tests: vec![] };
+        let outcome = Outcome { answer, samples: self.samples(n), stencil: self.take(m).to_vec(), room: vec![], tests: vec![] };
         let input = Input { width, height, channels, mode, ratio, lengths, colours, coords, ends };
-        (Case { kind: "fixed list", input, samples, stencil }, outcome)
+        (Case { kind: "fixed list", input, samples, stencil, room: room(width, OLD) }, outcome)
     }
 }
 
@@ -214,7 +223,7 @@ pub fn make(file: &str) -> bool {
     let every = every_place();
     let mut index = 0;
     loop {
-        let wanting = |k: usize, times: &[u64]| times[k] < TIMES && !LARGE.contains(&BRANCHES[k]);
+        let wanting = |k: usize, times: &[u64]| times[k] < TIMES && !left_to_runs(BRANCHES[k]);
         let candidate = if index < must {
             first[index].clone()
         } else if index < must + every.len() {

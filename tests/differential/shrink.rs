@@ -11,7 +11,8 @@ pub fn text(case: &Case) -> String {
     let mut s = String::new();
     let bits: Vec<String> = [i.ratio, i.lengths[0], i.lengths[1], i.lengths[2]].iter().map(|v| format!("{v:?} ({:016X})", v.to_bits())).collect();
     let _ = writeln!(s, "  size {} {} {}, mode {}, ratio and lengths {}", i.width, i.height, i.channels, i.mode, bits.join(" "));
-    let _ = writeln!(s, "  {} samples, {} cells, {} colours, {} coordinates, ends {:?}", case.samples.len(), case.stencil.len(), i.colours.len(), i.coords.len(), i.ends);
+    let (n, m, room) = (case.samples.len(), case.stencil.len(), case.room.len());
+    let _ = writeln!(s, "  {n} samples, {m} cells, room for {room}, {} colours, {} coordinates, ends {:?}", i.colours.len(), i.coords.len(), i.ends);
     if i.colours.len() <= 32 {
         let _ = writeln!(s, "  colours {:?} coordinates {:?}", i.colours, i.coords);
     }
@@ -56,6 +57,11 @@ fn simpler(case: &Case) -> Vec<Case> {
         }
         for (row, n) in [(true, case.input.height.min(200)), (false, case.input.width.min(200))] {
             list.extend((0..n).filter_map(|k| without(case, row, k..k + 1)));
+        }
+    }
+    for length in [2 * case.input.width.min(4096), case.room.len()] {
+        if length < case.room.len() || (length == case.room.len() && case.room.iter().any(|v| v.to_bits() != 0)) {
+            list.push(Case { room: vec![0.0; length], ..case.clone() });
         }
     }
     let outlined = case.input.ends.last().copied().unwrap_or(0) == case.input.colours.len()

@@ -5,11 +5,13 @@ use crate::judge::{judge_counting, Answer, Counting, Seen, ERROR, MOST_TESTS};
 #[cfg(oracle)]
 use crate::judge::{CORNER, PROTECTED};
 use crate::rungtwine::raw::{rungtwine_error_correction, rungtwine_plain_error_correction};
+use std::collections::BTreeMap;
 
 pub struct Outcome {
     pub answer: Answer,
     pub samples: Vec<f32>,
     pub stencil: Vec<u8>,
+    pub room: Vec<f32>,
     /// The range tests of each texel, which the judge alone tells apart; the first engine has their sum in its answer, the plain engine counts none.
     pub tests: Vec<u32>,
 }
@@ -20,9 +22,9 @@ pub fn by_judge(case: &Case, seen: &mut Seen) -> Outcome {
 
 /// The judge with its range tests counted in this way.
 pub fn by_judge_counting(case: &Case, counting: Counting, seen: &mut Seen) -> Outcome {
-    let (mut samples, mut stencil) = (case.samples.clone(), case.stencil.clone());
-    let (answer, tests) = judge_counting(&case.input, &mut samples, &mut stencil, counting, seen);
-    Outcome { answer, samples, stencil, tests }
+    let (mut samples, mut stencil, mut room) = (case.samples.clone(), case.stencil.clone(), case.room.clone());
+    let (answer, tests) = judge_counting(&case.input, &mut samples, &mut stencil, &mut room, counting, seen);
+    Outcome { answer, samples, stencil, room, tests }
 }
 
 /// The original's samples and the rest of its answer, for a case that is accepted.
@@ -35,9 +37,36 @@ pub fn by_oracle(case: &Case) -> (Vec<f32>, oracle::Answered) {
     (samples, answered)
 }
 
-const ROOM: usize = 16;
+const MARGIN: usize = 16;
 const SAMPLE_GUARD: u32 = 0x7FA5_A5A5;
-const CELL_GUARD: u8 = 0xA5;
+pub const CELL_GUARD: u8 = 0xA5;
+
+/// The list with guard elements before and after it.
+pub fn guarded<T: Copy>(list: &[T], guard: T) -> Vec<T> {
+    [&[guard; MARGIN], list, &[guard; MARGIN]].concat()
+}
+
+/// The list without its guard elements, if they are still there.
+pub fn unguarded<T: Copy>(list: Vec<T>, is_guard: impl Fn(&T) -> bool, what: &str) -> Result<Vec<T>, String> {
+    let end = list.len() - MARGIN;
+    let kept = list[..MARGIN].iter().chain(&list[end..]).all(is_guard);
+    if kept { Ok(list[MARGIN..end].to_vec()) } else { Err(format!("wrote beside the {what}")) }
+}
+
+/// A guard among floats.
+pub fn sample_guard() -> f32 {
+    f32::from_bits(SAMPLE_GUARD)
+}
+
+pub fn is_sample_guard(v: &f32) -> bool {
+    v.to_bits() == SAMPLE_GUARD
+}
+
+/// The list proper between its guard elements.
+pub fn between<T>(list: &mut [T]) -> &mut [T] {
+    let end = list.len() - MARGIN;
+    &mut list[MARGIN..end]
+}
 
 /// The two proved engines.
 #[derive(Clone, Copy)]
@@ -66,11 +95,9 @@ impl Engine {
 /// A proved engine, with guard elements on both sides of each slice that it may write.
 pub fn by_engine(engine: Engine, case: &Case) -> Result<Outcome, String> {
     let i = &case.input;
-    let (n, m) = (case.samples.len(), case.stencil.len());
-    let mut samples = vec![f32::from_bits(SAMPLE_GUARD); n + 2 * ROOM];
-    samples[ROOM..ROOM + n].copy_from_slice(&case.samples);
-    let mut stencil = vec![CELL_GUARD; m + 2 * ROOM];
-    stencil[ROOM..ROOM + m].copy_from_slice(&case.stencil);
+    let mut samples = guarded(&case.samples, sample_guard());
+    let mut stencil = guarded(&case.stencil, CELL_GUARD);
+    let mut room = guarded(&case.room, sample_guard());
     let unwritten = usize::MAX - 12345;
     let [mut place, mut protected, mut error, mut corner, mut tests] = [unwritten; 5];
     let refusal = match engine {
@@ -79,10 +106,12 @@ pub fn by_engine(engine: Engine, case: &Case) -> Result<Outcome, String> {
                 i.width,
                 i.height,
                 i.channels,
-                samples.as_mut_ptr().add(ROOM),
-                n,
-                stencil.as_mut_ptr().add(ROOM),
-                m,
+                between(&mut samples).as_mut_ptr(),
+                case.samples.len(),
+                between(&mut stencil).as_mut_ptr(),
+                case.stencil.len(),
+                between(&mut room).as_mut_ptr(),
+                case.room.len(),
                 i.mode,
                 i.ratio,
                 i.lengths[0],
@@ -107,10 +136,12 @@ pub fn by_engine(engine: Engine, case: &Case) -> Result<Outcome, String> {
                 i.width,
                 i.height,
                 i.channels,
-                samples.as_mut_ptr().add(ROOM),
-                n,
-                stencil.as_mut_ptr().add(ROOM),
-                m,
+                between(&mut samples).as_mut_ptr(),
+                case.samples.len(),
+                between(&mut stencil).as_mut_ptr(),
+                case.stencil.len(),
+                between(&mut room).as_mut_ptr(),
+                case.room.len(),
                 i.mode,
                 i.ratio,
                 i.lengths[0],
@@ -129,17 +160,11 @@ pub fn by_engine(engine: Engine, case: &Case) -> Result<Outcome, String> {
             )
         },
     };
-    let kept = |v: &&f32| v.to_bits() == SAMPLE_GUARD;
-    if samples[..ROOM].iter().filter(kept).count() != ROOM || samples[ROOM + n..].iter().filter(kept).count() != ROOM {
-        return Err("wrote beside the samples".into());
-    }
-    if stencil[..ROOM] != [CELL_GUARD; ROOM] || stencil[ROOM + m..] != [CELL_GUARD; ROOM] {
-        return Err("wrote beside the stencil".into());
-    }
     Ok(Outcome {
         answer: Answer { refusal, place, protected, error, corner, tests },
-        samples: samples[ROOM..ROOM + n].to_vec(),
-        stencil: stencil[ROOM..ROOM + m].to_vec(),
+        samples: unguarded(samples, is_sample_guard, "samples")?,
+        stencil: unguarded(stencil, |&cell| cell == CELL_GUARD, "stencil")?,
+        room: unguarded(room, is_sample_guard, "room")?,
         tests: vec![],
     })
 }
@@ -177,7 +202,7 @@ pub struct Totals {
     pub flagged: u64,
     pub tests: u64,
     pub most_tests: u32,
-    pub refused: [u64; 10],
+    pub refused: BTreeMap<u8, u64>,
     pub zero_signs: u64,
     pub original: Held,
     pub first: Held,
@@ -258,6 +283,12 @@ pub fn against_engine(engine: Engine, case: &Case, judged: &Outcome) -> Result<(
             return Err(format!("{name}: sample {k} is {o:08X}, judged {j:08X}"));
         }
     }
+    for k in 0..ours.room.len() {
+        let (o, j) = (ours.room[k].to_bits(), judged.room[k].to_bits());
+        if o != j {
+            return Err(format!("{name}: element {k} of the room is {o:08X}, judged {j:08X}"));
+        }
+    }
     Ok(())
 }
 
@@ -272,12 +303,13 @@ fn hold_tests(judged: &Outcome) -> Result<(), String> {
     if sum == judged.answer.tests { Ok(()) } else { Err(format!("judged: {sum} range tests, {} answered", judged.answer.tests)) }
 }
 
-/// The judge leaves a refusal's samples and cells as they were, and what it counts adds up.
+/// The judge leaves zeros in the room, and a refusal's samples, cells and room as they were; and what it counts adds up.
 fn hold_judged(case: &Case, judged: &Outcome) -> Result<(), String> {
     if judged.answer.refusal == 0 {
-        return hold_tests(judged);
+        let cleared = judged.room.len() == case.room.len() && judged.room.iter().all(|v| v.to_bits() == 0);
+        return if cleared { hold_tests(judged) } else { Err("judged: the room is not left with zeros".into()) };
     }
-    if bits(&judged.samples) != bits(&case.samples) || judged.stencil != case.stencil {
+    if bits(&judged.samples) != bits(&case.samples) || judged.stencil != case.stencil || bits(&judged.room) != bits(&case.room) {
         return Err("the judge wrote in a refusal".into());
     }
     Ok(())
@@ -288,7 +320,7 @@ pub fn compare(case: &Case, seen: &mut Seen, totals: &mut Totals) -> Result<Outc
     let judged = by_judge(case, seen);
     let a = judged.answer;
     totals.cases += 1;
-    totals.refused[a.refusal as usize] += 1;
+    *totals.refused.entry(a.refusal).or_default() += 1;
     hold_judged(case, &judged)?;
     let mut differences = Vec::new();
     if a.refusal == 0 {

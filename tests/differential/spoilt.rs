@@ -1,10 +1,10 @@
-//! Whether the comparison sees what a pass could get wrong about corners and about the count of range tests: the judge's answers to figures are spoilt, one way
-//! at a time, and every side has to differ from them; the plain engine, which counts no range tests, in the corners alone. In the corners' figures an edge, a
-//! corner and both protect a texel; in the others range tests are made and left out.
+//! Whether the comparison sees what a pass could get wrong about corners, about the count of range tests and about the room: the judge's answers to figures are
+//! spoilt, one way at a time, and every side has to differ from them; the plain engine, which counts no range tests, in the corners and the room alone, the original,
+//! which is lent no room, in the others. In the corners' figures an edge, a corner and both protect a texel; in the others range tests are made and left out.
 
 use crate::cases::Case;
 use crate::fixed::{corner_figures, test_figures};
-use crate::judge::{Counting, Seen, CORNER, PROTECTED};
+use crate::judge::{Answer, Counting, Seen, CORNER, PROTECTED};
 use crate::sides::{against_engine, by_judge, by_judge_counting, Engine, Outcome};
 
 /// What is spoilt, in which mode's figure, and how. An edge alone protects its first texel, an edge and a corner the second, a corner alone the third.
@@ -116,11 +116,46 @@ fn single_tests(missed: &mut usize) {
     }
 }
 
+/// What is spoilt about the room of an accepted case.
+const ROOM_WAYS: [(&str, fn(&Case, &mut Outcome)); 4] = [
+    ("a room that is left as it was", |case, o| o.room.copy_from_slice(&case.room)),
+    ("a minus zero in the room", |_, o| o.room[0] = -0.0),
+    ("the room's last element", |case, o| *o.room.last_mut().expect("a room") = *case.room.last().expect("a room")),
+    ("a room that is too short", |_, o| o.answer = Answer { refusal: 60, ..Answer::default() }),
+];
+
+/// What is spoilt about a case whose room is one short.
+const SHORT_WAYS: [(&str, fn(&mut Outcome)); 3] = [
+    ("a refusal that clears the room", |o| o.room.fill(0.0)),
+    ("a refusal of a short room by another number", |o| o.answer.refusal = 5),
+    ("a refusal of a short room at another place", |o| o.answer.place = 1),
+];
+
+/// Every way to spoil a room, in every mode, in each engine.
+fn rooms(missed: &mut usize) {
+    let both = |case: &Case, spoilt: &Outcome| [Engine::First, Engine::Plain].iter().all(|&engine| seen_by(engine, case, spoilt));
+    for mut case in corner_figures() {
+        case.room = vec![f32::NAN; 2 * case.input.width + 1];
+        for (name, spoil) in ROOM_WAYS {
+            let mut outcome = by_judge(&case, &mut Seen::new());
+            spoil(&case, &mut outcome);
+            miss(missed, both(&case, &outcome), name);
+        }
+        case.room.truncate(2 * case.input.width - 1);
+        for (name, spoil) in SHORT_WAYS {
+            let mut outcome = by_judge(&case, &mut Seen::new());
+            spoil(&mut outcome);
+            miss(missed, both(&case, &outcome), name);
+        }
+    }
+}
+
 /// Whether everything that is spoilt is seen.
 pub fn all_seen() -> bool {
     let mut missed = 0;
     corners(&mut missed);
     countings(&mut missed);
     single_tests(&mut missed);
+    rooms(&mut missed);
     missed == 0
 }

@@ -15,7 +15,7 @@ pub const CORNER: u8 = 4;
 /// The most range tests for a texel: three at each of four sides, and at each of four diagonals three pairs of two roots with three each.
 pub const MOST_TESTS: u32 = 84;
 
-/// What comes in, the two lent slices aside.
+/// What comes in, the three lent slices aside.
 #[derive(Clone, Debug)]
 pub struct Input {
     pub width: usize,
@@ -30,7 +30,7 @@ pub struct Input {
     pub ends: Vec<usize>,
 }
 
-/// What comes back, the two lent slices aside.
+/// What comes back, the three lent slices aside.
 #[derive(Clone, Copy, PartialEq, Eq, Debug, Default)]
 pub struct Answer {
     pub refusal: u8,
@@ -61,6 +61,16 @@ branches! {
     Refused3Long: "refusal 3 0, samples long",
     Refused4Short: "refusal 4 0, stencil short",
     Refused4Long: "refusal 4 0, stencil long",
+    Refused60None: "refusal 60 0, no room",
+    Refused60ByOne: "refusal 60 0, room one short",
+    Refused60Short: "refusal 60 0, room shorter",
+    Order3And60: "order, 3 before a short room",
+    Order4And60: "order, 4 before a short room",
+    Order60And5: "order, a short room before 5",
+    Order60And6: "order, a short room before 6",
+    Order60And7: "order, a short room before 7",
+    Order60And8: "order, a short room before 8",
+    Order60And9: "order, a short room before 9",
     Refused5Mode: "refusal 5 0, mode",
     Refused5Ratio: "refusal 5 1, ratio",
     Refused5Horizontal: "refusal 5 2, horizontal length",
@@ -98,6 +108,11 @@ branches! {
     Row: "accepted, one row",
     Column: "accepted, one column",
     SideLimit: "accepted, a side of 4,096",
+    RoomExact: "accepted, room for two rows",
+    RoomLonger: "accepted, room for more",
+    RoomNan: "accepted, a NaN in the room",
+    RoomMinusZero: "accepted, a minus zero in the room",
+    RoomDisabled: "accepted, a dirty room in Disabled",
     NoContours: "accepted, no contours",
     CornerEmpty: "corners, an empty contour skipped",
     CornerSingle: "corners, a contour of one segment",
@@ -339,8 +354,24 @@ fn bad_coordinate(v: f64) -> bool {
     v.is_nan() || v.is_infinite() || v.abs() > LIMIT
 }
 
+/// Check 60, where two rows of `width` take more than there is; which later check fails too is counted.
+fn room_refusal(input: &Input, samples: &[f32], stencil_len: usize, room_len: usize, seen: &mut Seen) -> (u8, usize) {
+    use Branch::*;
+    seen.hit(if room_len == 0 {
+        Refused60None
+    } else if room_len + 1 == 2 * input.width {
+        Refused60ByOne
+    } else {
+        Refused60Short
+    });
+    if let Some((later, _)) = refusal(input, samples, stencil_len, 2 * input.width, &mut Seen::new()) {
+        seen.hit([Order60And5, Order60And6, Order60And7, Order60And8, Order60And9][later as usize - 5]);
+    }
+    (60, 0)
+}
+
 /// The number and the place of the first check that fails, if one does.
-fn refusal(input: &Input, samples: &[f32], stencil_len: usize, seen: &mut Seen) -> Option<(u8, usize)> {
+fn refusal(input: &Input, samples: &[f32], stencil_len: usize, room_len: usize, seen: &mut Seen) -> Option<(u8, usize)> {
     use Branch::*;
     let (w, h, n) = (input.width, input.height, input.channels);
     if n != 3 && n != 4 {
@@ -355,11 +386,16 @@ fn refusal(input: &Input, samples: &[f32], stencil_len: usize, seen: &mut Seen) 
     }
     if samples.len() != w * h * n {
         seen.hit(if samples.len() < w * h * n { Refused3Short } else { Refused3Long });
+        seen.hit_if(room_len < 2 * w, Order3And60);
         return Some((3, 0));
     }
     if stencil_len != w * h {
         seen.hit(if stencil_len < w * h { Refused4Short } else { Refused4Long });
+        seen.hit_if(room_len < 2 * w, Order4And60);
         return Some((4, 0));
+    }
+    if room_len < 2 * w {
+        return Some(room_refusal(input, samples, stencil_len, room_len, seen));
     }
     if input.mode > 3 {
         seen.hit(Refused5Mode);
@@ -1014,13 +1050,19 @@ fn disabled_tests(input: &Input, field: &Field, counting: Counting, seen: &mut S
     if counting == Counting::DisabledToo { tests } else { untested }
 }
 
-/// The whole pass over lent samples and a lent stencil: its answer, and the range tests of each texel, counted in this way; in a refusal there are no texels.
-pub fn judge_counting(input: &Input, samples: &mut [f32], stencil: &mut [u8], counting: Counting, seen: &mut Seen) -> (Answer, Vec<u32>) {
+/// The whole pass over lent samples, a lent stencil and a lent room, which is written zeros to and not read: its answer, and the range tests of each texel, counted
+/// in this way; in a refusal there are no texels.
+pub fn judge_counting(input: &Input, samples: &mut [f32], stencil: &mut [u8], room: &mut [f32], counting: Counting, seen: &mut Seen) -> (Answer, Vec<u32>) {
     use Branch::*;
-    if let Some((refusal, place)) = refusal(input, samples, stencil.len(), seen) {
+    if let Some((refusal, place)) = refusal(input, samples, stencil.len(), room.len(), seen) {
         return (Answer { refusal, place, ..Answer::default() }, vec![]);
     }
     let (w, h) = (input.width, input.height);
+    seen.hit(if room.len() == 2 * w { RoomExact } else { RoomLonger });
+    seen.hit_if(room.iter().any(|v| v.is_nan()), RoomNan);
+    seen.hit_if(room.iter().any(|v| v.to_bits() == 0x8000_0000), RoomMinusZero);
+    seen.hit_if(input.mode == 0 && room.iter().any(|v| v.to_bits() != 0), RoomDisabled);
+    room.fill(0.0);
     seen.hit([Mode0, Mode1, Mode2, Mode3][input.mode as usize]);
     seen.hit(if input.channels == 3 { Channels3 } else { Channels4 });
     seen.hit_if(w == 1 && h == 1, Size1);
@@ -1043,6 +1085,6 @@ pub fn judge_counting(input: &Input, samples: &mut [f32], stencil: &mut [u8], co
 
 /// The whole pass by the rules.
 #[allow(dead_code)] // a program may ask for the counts of each texel instead
-pub fn judge(input: &Input, samples: &mut [f32], stencil: &mut [u8], seen: &mut Seen) -> Answer {
-    judge_counting(input, samples, stencil, Counting::Rule, seen).0
+pub fn judge(input: &Input, samples: &mut [f32], stencil: &mut [u8], room: &mut [f32], seen: &mut Seen) -> Answer {
+    judge_counting(input, samples, stencil, room, Counting::Rule, seen).0
 }

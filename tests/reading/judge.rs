@@ -127,8 +127,10 @@ fn run(mut case: Case) -> String {
     let (w, h, n) = (case.input.width, case.input.height, case.input.channels);
     // With other channels check 1 answers, and width times height may be a great deal.
     let mut stencil = vec![0u8; if n == 3 || n == 4 { w * h } else { 0 }];
+    // No input asks for a room: the program lends one that is never short.
+    let mut room = vec![0.0; 2 * w];
     let before = case.samples.clone();
-    let answer = judge::judge(&case.input, &mut case.samples, &mut stencil, &mut Seen::new());
+    let answer = judge::judge(&case.input, &mut case.samples, &mut stencil, &mut room, &mut Seen::new());
     if answer.refusal != 0 {
         return format!("refused {} {}\n", answer.refusal, answer.place);
     }

@@ -1,7 +1,9 @@
-//! Which texels finding reads, told by a build of the proved library that calls back at each, against the judge's reading of the rule: the same texels in
-//! the same order, for each texel of every case.
+//! Which texels finding reads, told by a build of the proved library that calls back at each, against the judge's reading of the rule. For each texel of every case
+//! what is read is among what the rule says, in its order, and begins with the texel itself. It may be less: what the orders of channels settle is not looked at
+//! again, and a texel that they settle towards every neighbour is not read at all.
 //!
-//! `compare [SIZE...]`: random cases, then the bench's fields as squares of each SIZE with the number of texels read a texel. Exit status 1 if something else is read.
+//! `compare [SIZE...]`: random cases, then the bench's fields as squares of each SIZE with the number of texels read a texel and what it is by the rule. Exit status 1
+//! if something else is read.
 
 #[path = "../differential/cases.rs"]
 #[allow(dead_code)]
@@ -28,30 +30,62 @@ use std::sync::Mutex;
 const CASES: u64 = 20_000;
 const SEED: u64 = 5;
 
-/// What was read since finding began, in order.
-static READ: Mutex<Vec<(usize, usize)>> = Mutex::new(Vec::new());
+/// A texel by its column and its row.
+type Place = (usize, usize);
+
+/// What was read since finding began, in order, by the texel that it was read for.
+static READ: Mutex<Vec<(Place, Vec<Place>)>> = Mutex::new(Vec::new());
+
+/// No texel: what is read before the first is read for none.
+const NOWHERE: Place = (usize::MAX, usize::MAX);
 
 #[no_mangle]
 extern "C" fn rungtwine_reads(x: usize, y: usize) {
-    READ.lock().unwrap().push((x, y));
+    let mut read = READ.lock().unwrap();
+    if read.is_empty() {
+        read.push((NOWHERE, vec![]));
+    }
+    read.last_mut().expect("a texel").1.push((x, y));
 }
 
-/// Protecting, which comes before, reads too: that is not told apart by texel and is left out.
+#[no_mangle]
+extern "C" fn rungtwine_judges(x: usize, y: usize) {
+    READ.lock().unwrap().push(((x, y), vec![]));
+}
+
+/// What comes before, protecting and the orders, reads too: that is not told apart by texel and is left out.
 #[no_mangle]
 extern "C" fn rungtwine_finds() {
     READ.lock().unwrap().clear();
 }
 
 /// What the proved pass reads in finding, for an input that is accepted.
-fn recorded(input: &Input, samples: &[f32]) -> Vec<(usize, usize)> {
+fn recorded(input: &Input, samples: &[f32]) -> Vec<(Place, Vec<Place>)> {
     let mode = [Mode::Disabled, Mode::Indiscriminate, Mode::EdgePriority, Mode::EdgeOnly][input.mode as usize];
     let [horizontal, vertical, diagonal] = input.lengths;
     let settings = Settings { ratio: input.ratio, horizontal, vertical, diagonal };
     let outlines = Outlines { colours: &input.colours, coords: &input.coords, ends: &input.ends };
-    let mut stencil = vec![0; input.width * input.height];
+    let (mut stencil, mut room) = (vec![0; input.width * input.height], vec![0.0; 2 * input.width]);
     READ.lock().unwrap().clear();
-    error_correction((input.width, input.height, input.channels), &mut samples.to_vec(), &mut stencil, mode, settings, outlines).expect("refused");
+    error_correction((input.width, input.height, input.channels), &mut samples.to_vec(), &mut stencil, &mut room, mode, settings, outlines).expect("refused");
     std::mem::take(&mut *READ.lock().unwrap())
+}
+
+/// What is read for a texel begins with itself and is among what the rule says, in its order.
+fn within(read: &[Place], rule: &[Place]) -> bool {
+    let mut left = rule.iter();
+    read.first() == rule.first() && read.iter().all(|one| left.any(|other| one == other))
+}
+
+/// Every texel that something is read for comes once, in the order of their cells, and reads what it may.
+fn all_within(read: &[(Place, Vec<Place>)], rule: &[Vec<Place>], width: usize) -> bool {
+    let mut next = 0;
+    read.iter().all(|((x, y), own)| {
+        let k = y.saturating_mul(width).saturating_add(*x);
+        let good = next <= k && k < rule.len() && within(own, &rule[k]);
+        next = k.saturating_add(1);
+        good
+    })
 }
 
 /// What was compared so far.
@@ -59,8 +93,12 @@ fn recorded(input: &Input, samples: &[f32]) -> Vec<(usize, usize)> {
 struct Tally {
     inputs: usize,
     texels: usize,
+    /// Texels that something was read for.
+    judged: usize,
     read: usize,
-    /// Texels that were flagged by the first neighbour that they have, and read it alone.
+    /// What is read by the rule.
+    due: usize,
+    /// Texels that were flagged by the first neighbour that they read, and read it alone.
     one_neighbour: usize,
     differ: usize,
 }
@@ -68,19 +106,22 @@ struct Tally {
 impl Tally {
     /// Compares one input, unless it is refused: that reads for no texel.
     fn compare(&mut self, input: &Input, samples: &[f32], stencil: &[u8]) {
-        let mut left = stencil.to_vec();
-        if judge(input, &mut samples.to_vec(), &mut left, &mut Seen::new()).refusal != 0 {
+        let (mut left, mut room) = (stencil.to_vec(), vec![0.0; 2 * input.width.min(4096)]);
+        if judge(input, &mut samples.to_vec(), &mut left, &mut room, &mut Seen::new()).refusal != 0 {
             return;
         }
         let rule = reads(input, samples, &left);
         let read = recorded(input, samples);
         self.inputs += 1;
         self.texels += rule.len();
-        self.read += read.len();
-        self.one_neighbour += rule.iter().zip(&left).filter(|(one, cell)| one.len() == 2 && **cell & judge::ERROR != 0).count();
-        if rule.concat() != read {
+        self.judged += read.len();
+        self.read += read.iter().map(|(_, own)| own.len()).sum::<usize>();
+        self.due += rule.iter().map(Vec::len).sum::<usize>();
+        if !all_within(&read, &rule, input.width) {
             self.differ += 1;
+            return;
         }
+        self.one_neighbour += read.iter().filter(|((x, y), own)| own.len() == 2 && left[y * input.width + x] & judge::ERROR != 0).count();
     }
 }
 
@@ -100,7 +141,8 @@ fn row(field: &Field, mode: u8) -> Tally {
     let mut tally = Tally::default();
     tally.compare(&input, &field.samples, &vec![0; size * size]);
     let name = ["Disabled", "Indiscriminate", "EdgePriority", "EdgeOnly"][mode as usize];
-    println!("| {size} | {} | {name} | {:.2} |", field.name, tally.read as f64 / tally.texels as f64);
+    let a_texel = |read: usize| read as f64 / tally.texels as f64;
+    println!("| {size} | {} | {name} | {:.2} | {:.2} |", field.name, a_texel(tally.read), a_texel(tally.due));
     tally
 }
 
@@ -111,8 +153,8 @@ fn main() {
         let case = cases::case(SEED, index);
         random.compare(&case.input, &case.samples, &case.stencil);
     }
-    println!("| size | field | mode | texels read/texel |");
-    println!("|---|---|---|---|");
+    println!("| size | field | mode | texels read/texel | by the rule |");
+    println!("|---|---|---|---|---|");
     let mut differ = random.differ;
     for size in sizes {
         for field in fields(size) {
@@ -120,8 +162,8 @@ fn main() {
         }
     }
     println!(
-        "reads: {} random inputs, {} texels, {} read, {} texels with one neighbour alone; {differ} inputs differ",
-        random.inputs, random.texels, random.read, random.one_neighbour
+        "reads: {} random inputs, {} texels, {} of them judged one by one, {} read of the rule's {}, {} texels with one neighbour alone; {differ} inputs read something else",
+        random.inputs, random.texels, random.judged, random.read, random.due, random.one_neighbour
     );
     std::process::exit(i32::from(differ > 0 || random.one_neighbour == 0));
 }

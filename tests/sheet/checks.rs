@@ -1,4 +1,4 @@
-//! A plain reading of a sheet's own checks, 1 and 50 to 53: sums have room for every sum, and two cells overlap where one texel is painted twice.
+//! A plain reading of a sheet's own checks, 1, 50 to 53 and 60: sums have room for every sum, and two cells overlap where one texel is painted twice.
 //! A cell's own checks, 5 to 9, are the second judge's over the cell alone.
 
 use crate::seen::{Kind, Seen};
@@ -34,6 +34,18 @@ fn bad_lengths(s: &Sheet) -> Option<Kind> {
         .or_else(|| (s.modes.len() > CELL_LIMIT).then_some(CellsOver))
         .or_else(|| length(s.cells.len(), 10 * cells, NumbersShort, NumbersLong))
         .or_else(|| length(s.settings.len(), 4 * cells, SettingsShort, SettingsLong))
+}
+
+/// Two rows of the sheet's width take more than there is.
+fn bad_room(s: &Sheet) -> Option<Kind> {
+    let (is, should) = (s.room.len() as u128, 2 * s.width as u128);
+    (is < should).then_some(if is == 0 {
+        Kind::RoomNone
+    } else if is + 1 == should {
+        Kind::RoomByOne
+    } else {
+        Kind::RoomShort
+    })
 }
 
 /// How far beyond a side something ends.
@@ -124,9 +136,18 @@ pub fn failure(s: &Sheet, seen: &mut Seen) -> Option<(u8, usize)> {
         seen.hit(kind);
         let whole = s.modes.len() <= s.cells.len() / 10;
         seen.hit_if(whole && (0..s.count()).any(|c| bad_area(s, c).is_some()), Kind::Order50And51);
+        seen.hit_if(bad_room(s).is_some(), Kind::Order50And60);
         return Some((50, 0));
     }
     let found = of_cells(s);
+    if let Some(kind) = bad_room(s) {
+        seen.hit(kind);
+        seen.hit_if(s.count() > 0 && (0..s.count()).all(|c| bad_area(s, c).is_none() && 2 * s.area(c).width <= s.room.len()), Kind::RoomForCells);
+        for (cells, order) in found.iter().zip([Kind::Order60And51, Kind::Order60And52, Kind::Order60And53]) {
+            seen.hit_if(!cells.is_empty(), order);
+        }
+        return Some((60, 0));
+    }
     count_order(&found, seen);
     for (cells, (number, first, later)) in found.iter().zip([
         (51, Kind::OutsideFirst, Kind::OutsideLater),

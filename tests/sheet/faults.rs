@@ -4,6 +4,7 @@ use crate::cases;
 use crate::checks;
 use crate::layouts::{most, none, row, transposed, whole};
 use crate::rng::Rng;
+use crate::rooms;
 use crate::sheet::{Area, Sheet};
 use crate::sheets::{accepted, sheet_of};
 
@@ -156,10 +157,20 @@ fn broken(rng: &mut Rng) -> Sheet {
     s
 }
 
-/// Sheet `index` of the run `seed`.
+/// The sheet with another room, short or not.
+fn lent(rng: &mut Rng, s: Sheet, short: bool) -> Sheet {
+    let width = s.width.min(4096);
+    let length = if short { rooms::too_short(rng, width) } else { rooms::enough(rng, width) };
+    Sheet { room: rooms::dirty(rng, length), ..s }
+}
+
+/// Sheet `index` of the run `seed`; its room is seldom short, and where something else is wrong as often as not.
 pub fn sheet(seed: u64, index: u64) -> Sheet {
     let mut rng = Rng::new(seed, index);
-    if rng.one_in(4) { broken(&mut rng) } else { accepted(&mut rng) }
+    let s = if rng.one_in(4) { broken(&mut rng) } else { accepted(&mut rng) };
+    let mut own = Rng::new(seed ^ 0x600D, index);
+    let short = own.one_in(if s.kind == "broken" { 2 } else { 30 });
+    lent(&mut own, s, short)
 }
 
 // What is tried in every run, whatever the seed.
@@ -210,14 +221,23 @@ fn limits(rng: &mut Rng) -> Vec<Sheet> {
     sheets
 }
 
-/// Every fault many times in a few small sheets, and every two of them; and the limits.
+/// Every fault many times in a few small sheets, and every two of them; each beside a short room; and the limits.
 pub fn always() -> Vec<Sheet> {
     let mut rng = Rng::new(1, 1);
     let mut sheets = limits(&mut rng);
     for channels in [3, 4, 3, 4] {
         let base = small(&mut rng, channels);
         sheets.push(base.clone());
+        let mut own = Rng::new(60, channels as u64);
+        for length in [0, 1, base.width, 2 * base.width - 1, 2 * base.width, 2 * base.width + 1] {
+            sheets.push(Sheet { room: rooms::dirty(&mut own, length), ..base.clone() });
+        }
         for fault in 0..FAULTS {
+            for _ in 0..4 {
+                let mut s = base.clone();
+                break_it(&mut own, &mut s, fault);
+                sheets.push(lent(&mut own, s, true));
+            }
             for _ in 0..8 {
                 let mut s = base.clone();
                 break_it(&mut rng, &mut s, fault);

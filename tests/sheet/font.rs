@@ -46,7 +46,8 @@ fn band(samples: &[f32], cells: &[Vec<Contour>], rows: std::ops::Range<usize>, (
     let height = rows.len() * cell;
     let samples = samples[rows.start * cell * width * CHANNELS..][..height * width * CHANNELS].to_vec();
     let stencil = vec![0xA5; width * height];
-    let mut sheet = Sheet { kind: "font", width, height, channels: CHANNELS, samples, stencil, cells: vec![], modes: vec![], settings: vec![], colours: vec![], coords: vec![], ends: vec![] };
+    let room = vec![f32::NAN; 2 * width];
+    let mut sheet = Sheet { kind: "font", width, height, channels: CHANNELS, samples, stencil, room, cells: vec![], modes: vec![], settings: vec![], colours: vec![], coords: vec![], ends: vec![] };
     let step = 1.0 / range;
     for row in 0..rows.len() {
         for column in 0..side {

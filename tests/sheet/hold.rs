@@ -1,20 +1,22 @@
 //! What a sheet has to come back as, and the proved function held to it: once as it is, and where it is accepted with its cells in another order, with one cell's
-//! samples changed, and with those outside every cell changed.
+//! samples changed, with those outside every cell changed, and with another room.
 
-use crate::call::{check, correct, safe_is_same, Answer};
+use crate::call::{check, correct, safe_is_same, Answer, Lent};
 use crate::checks;
 use crate::judge::{self, CORNER, ERROR, PROTECTED};
 use crate::layouts::shuffled;
 use crate::rng::Rng;
+use crate::rooms;
 use crate::seen::{Kind, Seen};
 use crate::sheet::{Area, Sheet};
 use crate::sheets::spoil_outside;
-use crate::sides::{self, bits, by_engine, compare, Engine};
+use crate::sides::{self, between, bits, by_engine, compare, guarded, is_sample_guard, sample_guard, unguarded, Engine, CELL_GUARD};
 
 pub struct Outcome {
     pub answer: Answer,
     pub samples: Vec<f32>,
     pub stencil: Vec<u8>,
+    pub room: Vec<f32>,
 }
 
 /// How many of each were compared.
@@ -47,46 +49,35 @@ impl Totals {
     }
 }
 
-const ROOM: usize = 16;
-const SAMPLE_GUARD: u32 = 0x7FA5_A5A5;
-const CELL_GUARD: u8 = 0xA5;
-
-/// The proved function, with guard elements on both sides of each slice that it may write; its checks alone answer the same, and its safe name.
+/// The proved function, with guard elements on both sides of each slice that it may write; its checks alone answer the same, and their safe names.
 pub fn by_library(s: &Sheet, totals: &mut Totals) -> Result<Outcome, String> {
     totals.calls += 1;
-    let (n, m) = (s.samples.len(), s.stencil.len());
-    let mut samples = vec![f32::from_bits(SAMPLE_GUARD); n + 2 * ROOM];
-    samples[ROOM..ROOM + n].copy_from_slice(&s.samples);
-    let mut stencil = vec![CELL_GUARD; m + 2 * ROOM];
-    stencil[ROOM..ROOM + m].copy_from_slice(&s.stencil);
-    let answer = correct(s.size(), &mut samples[ROOM..ROOM + n], &mut stencil[ROOM..ROOM + m], s.given());
-    let checked = check(s.size(), &s.samples, &s.stencil, s.given());
+    let (mut samples, mut stencil, mut room) = (guarded(&s.samples, sample_guard()), guarded(&s.stencil, CELL_GUARD), guarded(&s.room, sample_guard()));
+    let answer = correct(s.size(), between(&mut samples), between(&mut stencil), between(&mut room), s.given());
+    let checked = check(s.size(), &s.samples, &s.stencil, &s.room, s.given());
     if checked != (Answer { refusal: answer.refusal, cell: answer.cell, place: answer.place, ..Answer::default() }) {
         return Err(format!("{answer:?}, the checks alone {checked:?}"));
     }
-    let around = |length: usize| (0..ROOM).chain(ROOM + length..length + 2 * ROOM);
-    if around(n).any(|k| samples[k].to_bits() != SAMPLE_GUARD) {
-        return Err("wrote beside the samples".into());
-    }
-    if around(m).any(|k| stencil[k] != CELL_GUARD) {
-        return Err("wrote beside the stencil".into());
-    }
-    let left = (&samples[ROOM..ROOM + n], &stencil[ROOM..ROOM + m]);
-    if !safe_is_same(s.size(), &s.samples, &s.stencil, s.given(), answer, left) {
+    let samples = unguarded(samples, is_sample_guard, "samples")?;
+    let stencil = unguarded(stencil, |&byte| byte == CELL_GUARD, "stencil")?;
+    let room = unguarded(room, is_sample_guard, "room")?;
+    let lent = Lent { samples: &s.samples, stencil: &s.stencil, room: &s.room };
+    if !safe_is_same(s.size(), lent, s.given(), answer, Lent { samples: &samples, stencil: &stencil, room: &room }) {
         return Err(format!("{answer:?}, and another by the safe name"));
     }
-    Ok(Outcome { answer, samples: left.0.to_vec(), stencil: left.1.to_vec() })
+    Ok(Outcome { answer, samples, stencil, room })
 }
 
 /// A refusal: what was there, and no counts.
 fn refused(s: &Sheet, refusal: u8, cell: usize, place: usize) -> Outcome {
-    Outcome { answer: Answer { refusal, cell, place, ..Answer::default() }, samples: s.samples.clone(), stencil: s.stencil.clone() }
+    let answer = Answer { refusal, cell, place, ..Answer::default() };
+    Outcome { answer, samples: s.samples.clone(), stencil: s.stencil.clone(), room: s.room.clone() }
 }
 
 /// The number of cell c's own check that fails, if one does.
 fn own_refusal(s: &Sheet, c: usize) -> u8 {
     let mut case = s.alone(c);
-    judge::judge(&case.input, &mut case.samples, &mut case.stencil, &mut judge::Seen::new()).refusal
+    judge::judge(&case.input, &mut case.samples, &mut case.stencil, &mut case.room, &mut judge::Seen::new()).refusal
 }
 
 /// Which kind of a cell's own refusal it is.
@@ -108,9 +99,10 @@ pub fn expected(s: &Sheet, seen: &mut Seen, totals: &mut Totals) -> Result<Outco
     if let Some((number, cell)) = checks::failure(s, seen) {
         let own = |c: usize| checks::fits(s, c) && own_refusal(s, c) > 0;
         seen.hit_if(number == 53 && s.count() < 100 && (0..s.count()).any(own), Kind::Order53AndOwn);
+        seen.hit_if(number == 60 && s.count() < 100 && (0..s.count()).any(own), Kind::Order60AndOwn);
         return Ok(refused(s, number, cell, 0));
     }
-    let mut left = Outcome { answer: Answer::default(), samples: s.samples.clone(), stencil: vec![0; s.stencil.len()] };
+    let mut left = Outcome { answer: Answer::default(), samples: s.samples.clone(), stencil: vec![0; s.stencil.len()], room: vec![0.0; s.room.len()] };
     let sum = &mut left.answer;
     let mut with = [0; 4];
     for c in 0..s.count() {
@@ -151,6 +143,9 @@ fn same(ours: &Outcome, due: &Outcome) -> Result<(), String> {
     }
     if let Some(k) = (0..due.samples.len()).find(|&k| ours.samples[k].to_bits() != due.samples[k].to_bits()) {
         return Err(format!("sample {k} is {:08X}, expected {:08X}", ours.samples[k].to_bits(), due.samples[k].to_bits()));
+    }
+    if let Some(k) = (0..due.room.len()).find(|&k| ours.room[k].to_bits() != due.room[k].to_bits()) {
+        return Err(format!("element {k} of the room is {:08X}, expected {:08X}", ours.room[k].to_bits(), due.room[k].to_bits()));
     }
     Ok(())
 }
@@ -198,6 +193,8 @@ fn count_sheet(s: &Sheet, due: &Outcome, seen: &mut Seen, totals: &mut Totals) {
     seen.hit_if(s.count() == 4096, MostCells);
     seen.hit_if(s.width == 4096 || s.height == 4096, SideLimit);
     seen.hit_if((0..s.count()).all(|c| s.runs(c)[0] + s.runs(c)[1] < s.colours.len()), ListsLonger);
+    seen.hit(if s.room.len() == 2 * s.width { RoomExact } else { RoomLonger });
+    seen.hit_if(s.room.iter().any(|v| v.is_nan()), RoomNan);
     let outside = |k: &usize| holders[*k].is_none();
     let beyond: Vec<f32> = (0..holders.len()).filter(outside).flat_map(|k| s.samples_of(&[k])).collect();
     seen.hit_if(beyond.iter().any(|v| v.is_nan()), OutsideNan);
@@ -306,9 +303,19 @@ fn hold_outside(s: &Sheet, due: &Outcome, rng: &mut Rng, seen: &mut Seen, totals
     }
     let (holders, n) = (s.holders(), s.channels);
     let samples = (0..s.samples.len()).map(|j| if holders[j / n].is_some() { due.samples[j] } else { other.samples[j] }).collect();
-    let due = Outcome { answer: due.answer, samples, stencil: due.stencil.clone() };
+    let due = Outcome { answer: due.answer, samples, stencil: due.stencil.clone(), room: due.room.clone() };
     same(&by_library(&other, totals)?, &due).map_err(|what| format!("samples outside changed: {what}"))?;
     seen.hit(Kind::ChangedOutside);
+    Ok(())
+}
+
+/// Another room, of another length or with something else in it: the same sheet.
+fn hold_room(s: &Sheet, due: &Outcome, rng: &mut Rng, seen: &mut Seen, totals: &mut Totals) -> Result<(), String> {
+    let length = rooms::enough(rng, s.width);
+    let other = Sheet { room: rooms::dirty(rng, length), ..s.clone() };
+    let due = Outcome { answer: due.answer, samples: due.samples.clone(), stencil: due.stencil.clone(), room: vec![0.0; length] };
+    same(&by_library(&other, totals)?, &due).map_err(|what| format!("another room: {what}"))?;
+    seen.hit(Kind::OtherRoom);
     Ok(())
 }
 
@@ -325,5 +332,6 @@ pub fn hold(s: &Sheet, rng: &mut Rng, seen: &mut Seen, totals: &mut Totals) -> R
     (0..s.count().min(64)).for_each(|c| count_around(s, c, &due, seen));
     hold_order(s, &due, rng, seen, totals)?;
     hold_changed(s, &due, rng, seen, totals)?;
-    hold_outside(s, &due, rng, seen, totals)
+    hold_outside(s, &due, rng, seen, totals)?;
+    hold_room(s, &due, rng, seen, totals)
 }

@@ -1,7 +1,7 @@
 //! Whole sheets: the proved function against each cell cut out and corrected alone, on which the original, both proved engines and the second judge agree.
 //!
 //! `run COUNT SEED`: every fault in small sheets and the limits, then COUNT sheets; totals, and how often each kind of sheet, cell and refusal came up. Of an accepted
-//!   sheet the cells are given in another order too, the samples of one cell are changed, and those outside every cell.
+//!   sheet the cells are given in another order too, the samples of one cell are changed, those outside every cell, and another room is lent.
 //! `show SEED INDEX`: one sheet of a run.
 //! `largest`: a sheet of 4,096 by 4,096 with cells in its corners.
 //! `font STEM CELL [RANGE]`: a sheet of glyphs in four files (STEM.f32 its samples, three channels, and over the whole sheet STEM.col colours, STEM.xy coordinates as f64,
@@ -24,6 +24,9 @@ mod judge;
 mod layouts;
 #[path = "../differential/rng.rs"]
 mod rng;
+#[path = "../differential/rooms.rs"]
+#[allow(dead_code)]
+mod rooms;
 #[path = "../../include/rungtwine.rs"]
 mod rungtwine;
 mod seen;
@@ -44,7 +47,7 @@ const LONG: u64 = 3000;
 
 /// A sheet in words, its samples aside.
 fn text(s: &Sheet) -> String {
-    let mut text = format!("  {}: size {} {} {}, {} samples, {} bytes, {} cells", s.kind, s.width, s.height, s.channels, s.samples.len(), s.stencil.len(), s.modes.len());
+    let mut text = format!("  {}: size {} {} {}, {} samples, {} bytes, room for {}, {} cells", s.kind, s.width, s.height, s.channels, s.samples.len(), s.stencil.len(), s.room.len(), s.modes.len());
     text += &format!(", {} numbers, {} settings, {} colours, {} coordinates, {} ends\n", s.cells.len(), s.settings.len(), s.colours.len(), s.coords.len(), s.ends.len());
     for (c, numbers) in s.cells.chunks(10).enumerate().take(40) {
         let settings = s.settings.get(4 * c..4 * c + 4);

@@ -1,7 +1,7 @@
 //! A sheet as it is handed over; a cell of it cut out and put back.
 
 use crate::call::Given;
-use crate::cases::Case;
+use crate::cases::{room, Case};
 use crate::judge::Input;
 
 /// Where a cell lies: the column and the row of its first texel, its width and its height.
@@ -32,6 +32,8 @@ pub struct Sheet {
     pub samples: Vec<f32>,
     /// The stencil's old contents.
     pub stencil: Vec<u8>,
+    /// The room's old contents.
+    pub room: Vec<f32>,
     /// Ten numbers a cell: x, y, width, height, then its runs.
     pub cells: Vec<usize>,
     pub modes: Vec<u8>,
@@ -100,7 +102,7 @@ impl Sheet {
         holders
     }
 
-    /// Cell c as a bitmap alone, with its own part of each list; over this area, in which it lies.
+    /// Cell c as a bitmap alone, with its own part of each list and a room of its own; over this area, in which it lies.
     pub fn alone_in(&self, c: usize, area: Area) -> Case {
         let texels = self.texels(area);
         let [from, count, coords_from, coords_count, ends_from, ends_count] = self.runs(c);
@@ -116,7 +118,8 @@ impl Sheet {
             coords: self.coords[coords_from..coords_from + coords_count].to_vec(),
             ends: self.ends[ends_from..ends_from + ends_count].to_vec(),
         };
-        Case { kind: self.kind, input, samples: self.samples_of(&texels), stencil: texels.iter().map(|&k| self.stencil[k]).collect() }
+        let stencil = texels.iter().map(|&k| self.stencil[k]).collect();
+        Case { kind: self.kind, input, samples: self.samples_of(&texels), stencil, room: room(area.width, 0x7FC0_0001_8000_0000) }
     }
 
     /// Cell c, cut out.

@@ -1,7 +1,7 @@
 //! Sheets for the runs that are accepted: a field over the whole sheet, so that a cell's neighbours bear on its edges, some cells with one of their own; settings
 //! and a mode for each cell; and outlines whose runs lie anywhere in lists that hold more than is taken.
 
-use crate::cases::{bad_sample, checkered, contour, fill_field, lengths, ratio};
+use crate::cases::{bad_sample, checkered, contour, fill_field, lengths, ratio, room};
 use crate::glyphs;
 use crate::layouts::{layout, Layout};
 use crate::rng::Rng;
@@ -164,7 +164,8 @@ pub fn sheet_of(rng: &mut Rng, l: Layout, channels: usize) -> Sheet {
     let old = rng.next();
     let stencil = (0..l.width * l.height).map(|i| (old.rotate_left(i as u32 % 64) & 0xFF) as u8).collect();
     let (width, height) = (l.width, l.height);
-    let mut sheet = Sheet { kind: l.kind, width, height, channels, samples, stencil, cells: vec![], modes: vec![], settings: vec![], colours: vec![], coords: vec![], ends: vec![] };
+    let room = room(width, old);
+    let mut sheet = Sheet { kind: l.kind, width, height, channels, samples, stencil, room, cells: vec![], modes: vec![], settings: vec![], colours: vec![], coords: vec![], ends: vec![] };
     let mut lists = Lists::new(rng);
     for a in l.areas {
         let own = own(rng, &mut sheet, a, field);

@@ -2,8 +2,9 @@
 use mathlib.Core.Path.{_≡_}
 use mathlib.Core.Bool.{true, false}
 use mathlib.Core.List.{List, [], _∷_, _++_}
-use Prim.Native.Nat.{ℕ}
+use Prim.Native.Nat.{ℕ, _*_}
 use lib.Ieee.{Float, nan, binary32, binary64, ofBits}
+use Rattle.ground.specs.Lists.{tab}
 use Rattle.ranges.specs.Constants.{epsilon, oneLessEpsilon}
 use Rattle.numbers.specs.SquareRoot.{sqrtOf}
 use Rattle.numbers.specs.EquationSolver.{rootsOf}
@@ -38,6 +39,10 @@ quarter = f64 0x3fd0_0000_0000_0000
 
 -- ---- passes
 
+-- a room of two rows of w, with NaN everywhere
+abbrev pub lent : ℕ → List Float
+lent w = tab (2 * w) (λ k. nan)
+
 -- three channels, ratio 1, all lengths the same, no outlines
 abbrev pub case : ℕ → ℕ → List Float → List ℕ → ℕ → Float → Input
 case w h xs st mode length =
@@ -47,6 +52,7 @@ case w h xs st mode length =
       channels = 3;
       samples = xs;
       stencil = st;
+      room = lent w;
       mode = mode;
       settings = record { ratio = f64 0x3ff0_0000_0000_0000; horizontal = length; vertical = length; diagonal = length };
       colours = [];
@@ -105,6 +111,7 @@ beside mode =
       channels = 3;
       samples = edge ++ (f32 0 ∷ f32 0 ∷ f32 0 ∷ f32 0 ∷ f32 0 ∷ f32 0 ∷ []);
       stencil = 9 ∷ 9 ∷ 9 ∷ 9 ∷ [];
+      room = lent 4;
       mode = mode;
       settings = record { ratio = f64 0x3ff0_0000_0000_0000; horizontal = quarter; vertical = quarter; diagonal = quarter };
       colours = 3 ∷ 6 ∷ [];

@@ -2,7 +2,7 @@
 use mathlib.Core.Path.{_≡_}
 use Prim.Native.Nat.{ℕ, zero, suc, _+_, _-_, _*_, _/_, _%_, _≤_, _<_}
 use mathlib.Core.Bool.{Bool, false, cond, _&&_, _||_}
-use mathlib.Core.List.{List}
+use mathlib.Core.List.{List, []}
 use lib.ListN.{getD, length}
 use lib.Dec.{eqb, ltb}
 use lib.IntN.{ℤ, pos, negsuc}
@@ -87,9 +87,9 @@ madeIn xs w h ch s st = total (length st) (λ k. madeFor xs w h ch s (getD st k 
 abbrev pub Cleared : Window → List ℕ → Type 0
 Cleared g st = cutCells g st ≡ tab (g .height * g .width) (λ k. 0)
 
--- a window as a bitmap alone, with a stencil of zeros
+-- a window as a bitmap alone, with a stencil of zeros and no room, on which nothing that the engine leaves depends
 abbrev pub cutOut : Window → List Float → ℕ → Settings → List ℕ → List Float → List ℕ → Input
-cutOut g xs mode s colours coords ends = input (g .width) (g .height) (g .channels) (cutSamples g xs) (tab (g .height * g .width) (λ k. 0)) mode s colours coords ends
+cutOut g xs mode s colours coords ends = input (g .width) (g .height) (g .channels) (cutSamples g xs) (tab (g .height * g .width) (λ k. 0)) [] mode s colours coords ends
 
 -- the stencil that protection leaves
 unfoldable pub shieldedCells : Input → List ℕ

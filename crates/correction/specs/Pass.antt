@@ -1,10 +1,12 @@
--- The pass: what it answers, and what it leaves in the stencil and in the samples, for every input. Definitions only.
+-- The pass: what it answers, and what it leaves in the stencil, in the samples and in the room, for every input. Definitions only.
 use mathlib.Core.Path.{_≡_}
 use Prim.Native.Nat.{ℕ, _-_, _*_, _/_, _%_}
 use mathlib.Core.Bool.{Bool, true, false, cond, not, _&&_, _||_}
 use mathlib.Core.List.{List, [], _∷_}
 use lib.Dec.{eqb}
-use lib.Ieee.{Float}
+use lib.ListN.{length}
+use lib.Ieee.{Float, binary32}
+use Rattle.numbers.specs.Constants.{zeroOf}
 use Rattle.correction.specs.declared.pass.Answer.{Answer}
 use Rattle.correction.specs.declared.pass.Answer.the-variants.{Accepted, Refused}
 use Rattle.ground.specs.Lists.{tab, total}
@@ -133,6 +135,10 @@ stencilAfter i = cond (accepted i) (passStencil i) (i .stencil)
 unfoldable pub samplesAfter : Input → List Float
 samplesAfter i = cond (accepted i) (passSamples i) (i .samples)
 
--- the samples and the stencil that the pass leaves of the first input, with the sizes, the mode, the settings and the outlines of the second: what a pass over its result is given
+-- the room afterwards: zeros, and as it was after a refusal
+unfoldable pub roomAfter : Input → List Float
+roomAfter i = cond (accepted i) (tab (length (i .room)) (λ k. zeroOf binary32)) (i .room)
+
+-- the samples, the stencil and the room that the pass leaves of the first input, with the sizes, the mode, the settings and the outlines of the second: what a pass over its result is given
 abbrev pub fedBack : Input → Input → Input
-fedBack i j = input (j .width) (j .height) (j .channels) (samplesAfter i) (stencilAfter i) (j .mode) (j .settings) (j .colours) (j .coords) (j .ends)
+fedBack i j = input (j .width) (j .height) (j .channels) (samplesAfter i) (stencilAfter i) (roomAfter i) (j .mode) (j .settings) (j .colours) (j .coords) (j .ends)

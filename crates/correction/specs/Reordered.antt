@@ -11,6 +11,7 @@ pub record Reordered (s t : Sheet) (to from : ℕ → ℕ) : Type 0 where
   pub channels : s .channels ≡ t .channels
   pub samples : s .samples ≡ t .samples
   pub stencil : s .stencil ≡ t .stencil
+  pub room : s .room ≡ t .room
   pub colours : s .colours ≡ t .colours
   pub coords : s .coords ≡ t .coords
   pub ends : s .ends ≡ t .ends

@@ -5,14 +5,15 @@ use mathlib.Core.Bool.{Bool, false, cond, not, _&&_, _||_}
 use mathlib.Core.List.{List}
 use lib.ListN.{getD, length, take, drop}
 use lib.Dec.{eqb, ltb, leb}
-use lib.Ieee.{Float, nan}
+use lib.Ieee.{Float, binary32, nan}
+use Rattle.numbers.specs.Constants.{zeroOf}
 use Rattle.ground.specs.Lists.{tab, any, first, total}
 use Rattle.ranges.specs.declared.config.Settings.{Settings}
 use Rattle.inputs.specs.declared.sizes.Window.{Window}
 use Rattle.inputs.specs.declared.stencil.Counts.{Counts}
 use Rattle.inputs.specs.Stencil.{protectedCount, errorCount, cornerCount}
 use Rattle.inputs.specs.Window.{cutCells, cutSamples}
-use Rattle.inputs.specs.Checks.{Input, input, badChannels, badSize, badSampleCount, badCellCount, contentRefusal, placeOf}
+use Rattle.inputs.specs.Checks.{Input, input, badChannels, badSize, badSampleCount, badCellCount, badRoom, contentRefusal, placeOf}
 use Rattle.correction.specs.declared.cells.Area.{Area}
 use Rattle.correction.specs.declared.cells.Run.{Run}
 use Rattle.correction.specs.declared.sheet.Failure.{Failure}
@@ -28,6 +29,7 @@ pub record Sheet : Type 0 where
   pub channels : ℕ
   pub samples : List Float
   pub stencil : List ℕ
+  pub room : List Float
   pub cells : List ℕ
   pub modes : List ℕ
   pub settings : List Float
@@ -35,13 +37,13 @@ pub record Sheet : Type 0 where
   pub coords : List Float
   pub ends : List ℕ
 
-abbrev pub sheet : ℕ → ℕ → ℕ → List Float → List ℕ → List ℕ → List ℕ → List Float → List ℕ → List Float → List ℕ → Sheet
-sheet w h ch xs st cells modes settings colours coords ends =
-    record { width = w; height = h; channels = ch; samples = xs; stencil = st; cells = cells; modes = modes; settings = settings; colours = colours; coords = coords; ends = ends }
+abbrev pub sheet : ℕ → ℕ → ℕ → List Float → List ℕ → List Float → List ℕ → List ℕ → List Float → List ℕ → List Float → List ℕ → Sheet
+sheet w h ch xs st room cells modes settings colours coords ends =
+    record { width = w; height = h; channels = ch; samples = xs; stencil = st; room = room; cells = cells; modes = modes; settings = settings; colours = colours; coords = coords; ends = ends }
 
--- a sheet with other samples and another stencil
-abbrev pub with : Sheet → List Float → List ℕ → Sheet
-with s xs st = sheet (s .width) (s .height) (s .channels) xs st (s .cells) (s .modes) (s .settings) (s .colours) (s .coords) (s .ends)
+-- a sheet with other samples, another stencil and another room
+abbrev pub with : Sheet → List Float → List ℕ → List Float → Sheet
+with s xs st room = sheet (s .width) (s .height) (s .channels) xs st room (s .cells) (s .modes) (s .settings) (s .colours) (s .coords) (s .ends)
 
 -- ---- the cells
 
@@ -82,11 +84,11 @@ windowOf w ch a = record { width = a .width; height = a .height; channels = ch; 
 abbrev pub windowAt : Sheet → ℕ → Window
 windowAt s c = windowOf (s .width) (s .channels) (areaAt (s .cells) c)
 
--- cell c, cut out, as a bitmap alone
+-- cell c, cut out, as a bitmap alone, with the room of the sheet
 unfoldable pub alone : Sheet → ℕ → Input
 alone s c =
     let g = windowAt s c in
-    input (g .width) (g .height) (g .channels) (cutSamples g (s .samples)) (cutCells g (s .stencil)) (getD (s .modes) c 0) (settingsAt (s .settings) c)
+    input (g .width) (g .height) (g .channels) (cutSamples g (s .samples)) (cutCells g (s .stencil)) (s .room) (getD (s .modes) c 0) (settingsAt (s .settings) c)
     (taken (coloursRun (s .cells) c) (s .colours)) (taken (coordsRun (s .cells) c) (s .coords)) (taken (endsRun (s .cells) c) (s .ends))
 
 -- ---- check 50: sheet lengths wrong, a side outside 1..4,096 or over 4,096 cells
@@ -152,7 +154,7 @@ inCell s c = record { number = contentRefusal (alone s c); cell = c; place = pla
 unfoldable pub contentFailure : Sheet → Failure
 contentFailure s = let d = firstBad s in cond (ltb d (cellsOf s)) (inCell s d) (ofSheet 0)
 
--- check 1, 50, 51, 52, 53, then each cell's own: the first that fails, and zeros where all pass
+-- check 1, 50, 60 by the sheet's width, 51, 52, 53, then each cell's own: the first that fails, and zeros where all pass
 unfoldable pub failure : Sheet → Failure
 failure s =
     let n = cellsOf s in
@@ -161,10 +163,11 @@ failure s =
     let c = firstBadRun (s .cells) n (length (s .colours)) (length (s .coords)) (length (s .ends)) in
     cond (badChannels (s .channels)) (ofSheet 1)
     (cond (badSheet (s .width) (s .height) (s .channels) (length (s .samples)) (length (s .stencil)) (length (s .cells)) n (length (s .settings))) (ofSheet 50)
+    (cond (badRoom (s .width) (length (s .room))) (ofSheet 60)
     (cond (ltb a n) (ofCell 51 a)
     (cond (ltb b n) (ofCell 52 b)
     (cond (ltb c n) (ofCell 53 c)
-    (contentFailure s)))))
+    (contentFailure s))))))
 
 unfoldable pub sheetAccepted : Sheet → Bool
 sheetAccepted s = eqb (failure s .number) 0
@@ -225,6 +228,10 @@ sheetStencilAfter s = cond (sheetAccepted s) (sheetStencil s) (s .stencil)
 
 unfoldable pub sheetSamplesAfter : Sheet → List Float
 sheetSamplesAfter s = cond (sheetAccepted s) (sheetSamples s) (s .samples)
+
+-- zeros in the whole room
+unfoldable pub sheetRoomAfter : Sheet → List Float
+sheetRoomAfter s = cond (sheetAccepted s) (tab (length (s .room)) (λ k. zeroOf binary32)) (s .room)
 
 -- the number in an answer, 0 where it accepts
 unfoldable pub numberIn : Answer → ℕ

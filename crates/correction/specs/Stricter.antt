@@ -49,6 +49,7 @@ withRatio i r =
       channels = i .channels;
       samples = i .samples;
       stencil = i .stencil;
+      room = i .room;
       mode = i .mode;
       settings = record { ratio = r; horizontal = i .settings .horizontal; vertical = i .settings .vertical; diagonal = i .settings .diagonal };
       colours = i .colours;

@@ -1,11 +1,11 @@
-// The cells of a sheet: how their numbers are laid out, and checks 1 and 50 to 53. A cell has ten numbers: x, y, width, height, and of the colours, of the
+// The cells of a sheet: how their numbers are laid out, and checks 1, 50 to 53 and 60. A cell has ten numbers: x, y, width, height, and of the colours, of the
 // coordinates and of the ends where its run starts and how many it takes; and four settings: the ratio and the three lengths.
 ghost use mathlib.Core.Path.{_≡_};
 ghost use Prim.Native.Nat.{_+_, _*_, _<_, _≤_};
 ghost use mathlib.Core.Bool.{cond};
 ghost use lib.Dec.{ltb};
 ghost use lib.ListN.{length};
-ghost use Rattle.inputs.specs.Checks.{badChannels};
+ghost use Rattle.inputs.specs.Checks.{badChannels, badRoom};
 ghost use Rattle.correction.specs.Sheet as Sheet;
 ghost use Rattle.correction.specs.Cells.{AreaInside, AreasInside, cellAt};
 use inputs::checks;
@@ -40,6 +40,7 @@ pub struct Cell {
 pub struct Lengths {
     pub samples: usize,
     pub stencil: usize,
+    pub room: usize,
     pub cells: usize,
     pub modes: usize,
     pub settings: usize,
@@ -119,9 +120,9 @@ pub fn cell_at(b: Bitmap, cells: &[usize], settings: &[f64], c: usize) -> Cell
     }
 }
 
-// Checks 1 and 50; 0 where both pass.
+// Checks 1, 50 and 60; 0 where all pass.
 pub fn sheet_refusal(b: Bitmap, n: Lengths) -> u8
-    ensures { λ r. ⌜ r ≡ cond (badChannels (b .channels)) 1 (cond (Sheet.badSheet (b .width) (b .height) (b .channels) (n .samples) (n .stencil) (n .cells) (n .modes) (n .settings)) 50 0) ⌝ }
+    ensures { λ r. ⌜ r ≡ cond (badChannels (b .channels)) 1 (cond (Sheet.badSheet (b .width) (b .height) (b .channels) (n .samples) (n .stencil) (n .cells) (n .modes) (n .settings)) 50 (cond (badRoom (b .width) (n .room)) 60 0)) ⌝ }
 {
     let z = checks::size_refusal(b, n.samples, n.stencil);
     if z == 1 {
@@ -138,6 +139,9 @@ pub fn sheet_refusal(b: Bitmap, n: Lengths) -> u8
     }
     if n.settings != 4 * n.modes {
         return 50;
+    }
+    if checks::bad_room(b.width, n.room) {
+        return 60;
     }
     0
 }

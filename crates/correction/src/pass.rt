@@ -6,6 +6,7 @@ use crate::bitmap;
 use crate::engine;
 use crate::window;
 use inputs::checks;
+use inputs::room;
 use inputs::sizes::Bitmap;
 use inputs::stencil;
 use inputs::stencil::Counts;
@@ -24,15 +25,17 @@ pub fn msdf_error_correction(
     channels: usize,
     samples: &mut [f32],
     stencil: &mut [u8],
+    room: &mut [f32],
     mode: u8,
     settings: Settings,
     colours: &[u8],
     coords: &[f64],
     ends: &[usize],
 ) -> Answer
-    ensures answers { λ r. ⌜ Pass.Answers (input width height channels (now (samples .entry)) (now (stencil .entry)) mode settings (now (colours .entry)) (now (coords .entry)) (now (ends .entry))) r ⌝ }
-    ensures leaves { λ r. ⌜ now (stencil .exit) ≡ Pass.stencilAfter (input width height channels (now (samples .entry)) (now (stencil .entry)) mode settings (now (colours .entry)) (now (coords .entry)) (now (ends .entry))) ⌝ }
-    ensures writes { λ r. ⌜ now (samples .exit) ≡ Pass.samplesAfter (input width height channels (now (samples .entry)) (now (stencil .entry)) mode settings (now (colours .entry)) (now (coords .entry)) (now (ends .entry))) ⌝ }
+    ensures answers { λ r. ⌜ Pass.Answers (input width height channels (now (samples .entry)) (now (stencil .entry)) (now (room .entry)) mode settings (now (colours .entry)) (now (coords .entry)) (now (ends .entry))) r ⌝ }
+    ensures leaves { λ r. ⌜ now (stencil .exit) ≡ Pass.stencilAfter (input width height channels (now (samples .entry)) (now (stencil .entry)) (now (room .entry)) mode settings (now (colours .entry)) (now (coords .entry)) (now (ends .entry))) ⌝ }
+    ensures writes { λ r. ⌜ now (samples .exit) ≡ Pass.samplesAfter (input width height channels (now (samples .entry)) (now (stencil .entry)) (now (room .entry)) mode settings (now (colours .entry)) (now (coords .entry)) (now (ends .entry))) ⌝ }
+    ensures clears { λ r. ⌜ now (room .exit) ≡ Pass.roomAfter (input width height channels (now (samples .entry)) (now (stencil .entry)) (now (room .entry)) mode settings (now (colours .entry)) (now (coords .entry)) (now (ends .entry))) ⌝ }
 {
     let b = Bitmap {
         width: width,
@@ -43,6 +46,9 @@ pub fn msdf_error_correction(
     if n != 0 {
         return Answer::Refused(n, 0);
     }
+    if checks::bad_room(width, room.len()) {
+        return Answer::Refused(60, 0);
+    }
     let g = bitmap::whole(b);
     let f = window::check(samples, g, mode, settings, colours, coords, ends);
     if f.number != 0 {
@@ -50,5 +56,6 @@ pub fn msdf_error_correction(
     }
     stencil::fill(stencil, 0);
     let tests = engine::correct(stencil, samples, g, mode, settings, colours, coords, ends);
+    room::clear(room);
     Answer::Accepted(stencil::count_cells(stencil), tests)
 }

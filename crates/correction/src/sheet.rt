@@ -16,6 +16,7 @@ use crate::cells::Lengths;
 use crate::engine;
 use crate::window;
 use inputs::checks::Refusal;
+use inputs::room;
 use inputs::sizes::Bitmap;
 use inputs::stencil;
 use inputs::stencil::Counts;
@@ -53,9 +54,9 @@ fn check_cell(
     ends: &[usize],
     c: usize,
 ) -> Refusal
-    requires { ⌜ Laid (sheet (b .width) (b .height) (b .channels) (now xs) [] (now cells) (now modes) (now settings) (now colours) (now coords) (now ends)) × (c < length (now modes)) ⌝ }
-    ensures numbers { λ r. ⌜ r .number ≡ contentRefusal (Sheet.alone (sheet (b .width) (b .height) (b .channels) (now (xs .entry)) [] (now (cells .entry)) (now (modes .entry)) (now (settings .entry)) (now (colours .entry)) (now (coords .entry)) (now (ends .entry))) c) ⌝ }
-    ensures places { λ r. ⌜ r .place ≡ placeOf (Sheet.alone (sheet (b .width) (b .height) (b .channels) (now (xs .entry)) [] (now (cells .entry)) (now (modes .entry)) (now (settings .entry)) (now (colours .entry)) (now (coords .entry)) (now (ends .entry))) c) (r .number) ⌝ }
+    requires { ⌜ Laid (sheet (b .width) (b .height) (b .channels) (now xs) [] [] (now cells) (now modes) (now settings) (now colours) (now coords) (now ends)) × (c < length (now modes)) ⌝ }
+    ensures numbers { λ r. ⌜ r .number ≡ contentRefusal (Sheet.alone (sheet (b .width) (b .height) (b .channels) (now (xs .entry)) [] [] (now (cells .entry)) (now (modes .entry)) (now (settings .entry)) (now (colours .entry)) (now (coords .entry)) (now (ends .entry))) c) ⌝ }
+    ensures places { λ r. ⌜ r .place ≡ placeOf (Sheet.alone (sheet (b .width) (b .height) (b .channels) (now (xs .entry)) [] [] (now (cells .entry)) (now (modes .entry)) (now (settings .entry)) (now (colours .entry)) (now (coords .entry)) (now (ends .entry))) c) (r .number) ⌝ }
 {
     let k = cells::cell_at(b, cells, settings, c);
     let g = k.window;
@@ -88,8 +89,8 @@ fn check_cells(
     coords: &[f64],
     ends: &[usize],
 ) -> Failure
-    requires { ⌜ Laid (sheet (b .width) (b .height) (b .channels) (now xs) [] (now cells) (now modes) (now settings) (now colours) (now coords) (now ends)) ⌝ }
-    ensures { λ r. ⌜ r ≡ Sheet.contentFailure (sheet (b .width) (b .height) (b .channels) (now (xs .entry)) [] (now (cells .entry)) (now (modes .entry)) (now (settings .entry)) (now (colours .entry)) (now (coords .entry)) (now (ends .entry))) ⌝ }
+    requires { ⌜ Laid (sheet (b .width) (b .height) (b .channels) (now xs) [] [] (now cells) (now modes) (now settings) (now colours) (now coords) (now ends)) ⌝ }
+    ensures { λ r. ⌜ r ≡ Sheet.contentFailure (sheet (b .width) (b .height) (b .channels) (now (xs .entry)) [] [] (now (cells .entry)) (now (modes .entry)) (now (settings .entry)) (now (colours .entry)) (now (coords .entry)) (now (ends .entry))) ⌝ }
 {
     let mut c = 0usize;
     while c < modes.len() {
@@ -115,6 +116,7 @@ pub fn check(
     b: Bitmap,
     xs: &[f32],
     stencil: &[u8],
+    room: &[f32],
     cells: &[usize],
     modes: &[u8],
     settings: &[f64],
@@ -122,11 +124,12 @@ pub fn check(
     coords: &[f64],
     ends: &[usize],
 ) -> Failure
-    ensures { λ r. ⌜ r ≡ Sheet.failure (sheet (b .width) (b .height) (b .channels) (now (xs .entry)) (now (stencil .entry)) (now (cells .entry)) (now (modes .entry)) (now (settings .entry)) (now (colours .entry)) (now (coords .entry)) (now (ends .entry))) ⌝ }
+    ensures { λ r. ⌜ r ≡ Sheet.failure (sheet (b .width) (b .height) (b .channels) (now (xs .entry)) (now (stencil .entry)) (now (room .entry)) (now (cells .entry)) (now (modes .entry)) (now (settings .entry)) (now (colours .entry)) (now (coords .entry)) (now (ends .entry))) ⌝ }
 {
     let l = Lengths {
         samples: xs.len(),
         stencil: stencil.len(),
+        room: room.len(),
         cells: cells.len(),
         modes: modes.len(),
         settings: settings.len(),
@@ -180,12 +183,12 @@ fn correct_cell(
     ends: &[usize],
     c: usize,
 ) -> Tally
-    requires { ⌜ Laid (sheet (b .width) (b .height) (b .channels) (now xs) (now stencil) (now cells) (now modes) (now settings) (now colours) (now coords) (now ends)) × (c < length (now modes)) × CellOutlined (sheet (b .width) (b .height) (b .channels) (now xs) (now stencil) (now cells) (now modes) (now settings) (now colours) (now coords) (now ends)) c ⌝ }
+    requires { ⌜ Laid (sheet (b .width) (b .height) (b .channels) (now xs) (now stencil) [] (now cells) (now modes) (now settings) (now colours) (now coords) (now ends)) × (c < length (now modes)) × CellOutlined (sheet (b .width) (b .height) (b .channels) (now xs) (now stencil) [] (now cells) (now modes) (now settings) (now colours) (now coords) (now ends)) c ⌝ }
     requires { ⌜ length (now stencil) ≡ b .height * b .width ⌝ }
-    requires { ⌜ Cleared (Sheet.windowAt (sheet (b .width) (b .height) (b .channels) (now xs) (now stencil) (now cells) (now modes) (now settings) (now colours) (now coords) (now ends)) c) (now stencil) ⌝ }
-    ensures counts { λ r. ⌜ r ≡ tallyOf (Sheet.alone (sheet (b .width) (b .height) (b .channels) (now (xs .entry)) (now (stencil .entry)) (now (cells .entry)) (now (modes .entry)) (now (settings .entry)) (now (colours .entry)) (now (coords .entry)) (now (ends .entry))) c) ⌝ }
-    ensures leaves { λ _. ⌜ CellsPasted (Sheet.windowAt (sheet (b .width) (b .height) (b .channels) (now (xs .entry)) (now (stencil .entry)) (now (cells .entry)) (now (modes .entry)) (now (settings .entry)) (now (colours .entry)) (now (coords .entry)) (now (ends .entry))) c) (now (stencil .entry)) (now (stencil .exit)) (passStencil (Sheet.alone (sheet (b .width) (b .height) (b .channels) (now (xs .entry)) (now (stencil .entry)) (now (cells .entry)) (now (modes .entry)) (now (settings .entry)) (now (colours .entry)) (now (coords .entry)) (now (ends .entry))) c)) ⌝ }
-    ensures writes { λ _. ⌜ SamplesPasted (Sheet.windowAt (sheet (b .width) (b .height) (b .channels) (now (xs .entry)) (now (stencil .entry)) (now (cells .entry)) (now (modes .entry)) (now (settings .entry)) (now (colours .entry)) (now (coords .entry)) (now (ends .entry))) c) (now (xs .entry)) (now (xs .exit)) (passSamples (Sheet.alone (sheet (b .width) (b .height) (b .channels) (now (xs .entry)) (now (stencil .entry)) (now (cells .entry)) (now (modes .entry)) (now (settings .entry)) (now (colours .entry)) (now (coords .entry)) (now (ends .entry))) c)) ⌝ }
+    requires { ⌜ Cleared (Sheet.windowAt (sheet (b .width) (b .height) (b .channels) (now xs) (now stencil) [] (now cells) (now modes) (now settings) (now colours) (now coords) (now ends)) c) (now stencil) ⌝ }
+    ensures counts { λ r. ⌜ r ≡ tallyOf (Sheet.alone (sheet (b .width) (b .height) (b .channels) (now (xs .entry)) (now (stencil .entry)) [] (now (cells .entry)) (now (modes .entry)) (now (settings .entry)) (now (colours .entry)) (now (coords .entry)) (now (ends .entry))) c) ⌝ }
+    ensures leaves { λ _. ⌜ CellsPasted (Sheet.windowAt (sheet (b .width) (b .height) (b .channels) (now (xs .entry)) (now (stencil .entry)) [] (now (cells .entry)) (now (modes .entry)) (now (settings .entry)) (now (colours .entry)) (now (coords .entry)) (now (ends .entry))) c) (now (stencil .entry)) (now (stencil .exit)) (passStencil (Sheet.alone (sheet (b .width) (b .height) (b .channels) (now (xs .entry)) (now (stencil .entry)) [] (now (cells .entry)) (now (modes .entry)) (now (settings .entry)) (now (colours .entry)) (now (coords .entry)) (now (ends .entry))) c)) ⌝ }
+    ensures writes { λ _. ⌜ SamplesPasted (Sheet.windowAt (sheet (b .width) (b .height) (b .channels) (now (xs .entry)) (now (stencil .entry)) [] (now (cells .entry)) (now (modes .entry)) (now (settings .entry)) (now (colours .entry)) (now (coords .entry)) (now (ends .entry))) c) (now (xs .entry)) (now (xs .exit)) (passSamples (Sheet.alone (sheet (b .width) (b .height) (b .channels) (now (xs .entry)) (now (stencil .entry)) [] (now (cells .entry)) (now (modes .entry)) (now (settings .entry)) (now (colours .entry)) (now (coords .entry)) (now (ends .entry))) c)) ⌝ }
 {
     let k = cells::cell_at(b, cells, settings, c);
     let g = k.window;
@@ -227,11 +230,11 @@ fn correct_cells(
     coords: &[f64],
     ends: &[usize],
 ) -> Tally
-    requires { ⌜ Ready (sheet (b .width) (b .height) (b .channels) (now xs) (now stencil) (now cells) (now modes) (now settings) (now colours) (now coords) (now ends)) ⌝ }
+    requires { ⌜ Ready (sheet (b .width) (b .height) (b .channels) (now xs) (now stencil) [] (now cells) (now modes) (now settings) (now colours) (now coords) (now ends)) ⌝ }
     requires { ⌜ now stencil ≡ tab (length (now stencil)) (λ k. 0) ⌝ }
-    ensures counts { λ r. ⌜ r ≡ tallies (sheet (b .width) (b .height) (b .channels) (now (xs .entry)) (now (stencil .entry)) (now (cells .entry)) (now (modes .entry)) (now (settings .entry)) (now (colours .entry)) (now (coords .entry)) (now (ends .entry))) ⌝ }
-    ensures leaves { λ _. ⌜ now (stencil .exit) ≡ Sheet.sheetStencil (sheet (b .width) (b .height) (b .channels) (now (xs .entry)) (now (stencil .entry)) (now (cells .entry)) (now (modes .entry)) (now (settings .entry)) (now (colours .entry)) (now (coords .entry)) (now (ends .entry))) ⌝ }
-    ensures writes { λ _. ⌜ now (xs .exit) ≡ Sheet.sheetSamples (sheet (b .width) (b .height) (b .channels) (now (xs .entry)) (now (stencil .entry)) (now (cells .entry)) (now (modes .entry)) (now (settings .entry)) (now (colours .entry)) (now (coords .entry)) (now (ends .entry))) ⌝ }
+    ensures counts { λ r. ⌜ r ≡ tallies (sheet (b .width) (b .height) (b .channels) (now (xs .entry)) (now (stencil .entry)) [] (now (cells .entry)) (now (modes .entry)) (now (settings .entry)) (now (colours .entry)) (now (coords .entry)) (now (ends .entry))) ⌝ }
+    ensures leaves { λ _. ⌜ now (stencil .exit) ≡ Sheet.sheetStencil (sheet (b .width) (b .height) (b .channels) (now (xs .entry)) (now (stencil .entry)) [] (now (cells .entry)) (now (modes .entry)) (now (settings .entry)) (now (colours .entry)) (now (coords .entry)) (now (ends .entry))) ⌝ }
+    ensures writes { λ _. ⌜ now (xs .exit) ≡ Sheet.sheetSamples (sheet (b .width) (b .height) (b .channels) (now (xs .entry)) (now (stencil .entry)) [] (now (cells .entry)) (now (modes .entry)) (now (settings .entry)) (now (colours .entry)) (now (coords .entry)) (now (ends .entry))) ⌝ }
 {
     let mut p = 0usize;
     let mut e = 0usize;
@@ -272,6 +275,7 @@ pub fn msdf_sheet_error_correction(
     channels: usize,
     samples: &mut [f32],
     stencil: &mut [u8],
+    room: &mut [f32],
     cells: &[usize],
     modes: &[u8],
     settings: &[f64],
@@ -279,9 +283,10 @@ pub fn msdf_sheet_error_correction(
     coords: &[f64],
     ends: &[usize],
 ) -> Answer
-    ensures answers { λ r. ⌜ r ≡ Sheet.sheetAnswer (sheet width height channels (now (samples .entry)) (now (stencil .entry)) (now (cells .entry)) (now (modes .entry)) (now (settings .entry)) (now (colours .entry)) (now (coords .entry)) (now (ends .entry))) ⌝ }
-    ensures leaves { λ r. ⌜ now (stencil .exit) ≡ Sheet.sheetStencilAfter (sheet width height channels (now (samples .entry)) (now (stencil .entry)) (now (cells .entry)) (now (modes .entry)) (now (settings .entry)) (now (colours .entry)) (now (coords .entry)) (now (ends .entry))) ⌝ }
-    ensures writes { λ r. ⌜ now (samples .exit) ≡ Sheet.sheetSamplesAfter (sheet width height channels (now (samples .entry)) (now (stencil .entry)) (now (cells .entry)) (now (modes .entry)) (now (settings .entry)) (now (colours .entry)) (now (coords .entry)) (now (ends .entry))) ⌝ }
+    ensures answers { λ r. ⌜ r ≡ Sheet.sheetAnswer (sheet width height channels (now (samples .entry)) (now (stencil .entry)) (now (room .entry)) (now (cells .entry)) (now (modes .entry)) (now (settings .entry)) (now (colours .entry)) (now (coords .entry)) (now (ends .entry))) ⌝ }
+    ensures leaves { λ r. ⌜ now (stencil .exit) ≡ Sheet.sheetStencilAfter (sheet width height channels (now (samples .entry)) (now (stencil .entry)) (now (room .entry)) (now (cells .entry)) (now (modes .entry)) (now (settings .entry)) (now (colours .entry)) (now (coords .entry)) (now (ends .entry))) ⌝ }
+    ensures writes { λ r. ⌜ now (samples .exit) ≡ Sheet.sheetSamplesAfter (sheet width height channels (now (samples .entry)) (now (stencil .entry)) (now (room .entry)) (now (cells .entry)) (now (modes .entry)) (now (settings .entry)) (now (colours .entry)) (now (coords .entry)) (now (ends .entry))) ⌝ }
+    ensures clears { λ r. ⌜ now (room .exit) ≡ Sheet.sheetRoomAfter (sheet width height channels (now (samples .entry)) (now (stencil .entry)) (now (room .entry)) (now (cells .entry)) (now (modes .entry)) (now (settings .entry)) (now (colours .entry)) (now (coords .entry)) (now (ends .entry))) ⌝ }
 {
     let b = Bitmap {
         width: width,
@@ -292,6 +297,7 @@ pub fn msdf_sheet_error_correction(
         b,
         samples,
         stencil,
+        room,
         cells,
         modes,
         settings,
@@ -314,6 +320,7 @@ pub fn msdf_sheet_error_correction(
         coords,
         ends,
     );
+    room::clear(room);
     let counts = Counts {
         protected: n.protected,
         error: n.error,

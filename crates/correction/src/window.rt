@@ -84,8 +84,8 @@ pub fn check(
     ends: &[usize],
 ) -> Refusal
     requires { ⌜ Sampled b (now xs) ⌝ }
-    ensures numbers { λ r. ⌜ r .number ≡ Checks.contentRefusal (input (b .width) (b .height) (b .channels) (cutSamples b (now (xs .entry))) [] mode s (now (colours .entry)) (now (coords .entry)) (now (ends .entry))) ⌝ }
-    ensures places { λ r. ⌜ r .place ≡ Checks.placeOf (input (b .width) (b .height) (b .channels) (cutSamples b (now (xs .entry))) [] mode s (now (colours .entry)) (now (coords .entry)) (now (ends .entry))) (r .number) ⌝ }
+    ensures numbers { λ r. ⌜ r .number ≡ Checks.contentRefusal (input (b .width) (b .height) (b .channels) (cutSamples b (now (xs .entry))) [] [] mode s (now (colours .entry)) (now (coords .entry)) (now (ends .entry))) ⌝ }
+    ensures places { λ r. ⌜ r .place ≡ Checks.placeOf (input (b .width) (b .height) (b .channels) (cutSamples b (now (xs .entry))) [] [] mode s (now (colours .entry)) (now (coords .entry)) (now (ends .entry))) (r .number) ⌝ }
 {
     let p = checks::settings_place(mode, s);
     if p < 5 {

@@ -10,8 +10,8 @@ use Rattle.correction.specs.Sheet.{Sheet, sheetAccepted, sheetCounts, sheetTest
 abbrev pub settingsOf : Float → Float → Float → Float → Settings
 settingsOf ratio horizontal vertical diagonal = record { ratio = ratio; horizontal = horizontal; vertical = vertical; diagonal = diagonal }
 
-abbrev pub called : ℕ → ℕ → ℕ → List Float → List ℕ → ℕ → Float → Float → Float → Float → List ℕ → List Float → List ℕ → Input
-called w h ch xs st mode ratio horizontal vertical diagonal colours coords ends = input w h ch xs st mode (settingsOf ratio horizontal vertical diagonal) colours coords ends
+abbrev pub called : ℕ → ℕ → ℕ → List Float → List ℕ → List Float → ℕ → Float → Float → Float → Float → List ℕ → List Float → List ℕ → Input
+called w h ch xs st room mode ratio horizontal vertical diagonal colours coords ends = input w h ch xs st room mode (settingsOf ratio horizontal vertical diagonal) colours coords ends
 
 -- the counts of a sheet: those over the cells of an accepted one, and zeros for a refusal
 unfoldable pub sheetProtected : Sheet → ℕ

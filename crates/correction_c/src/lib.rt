@@ -27,6 +27,7 @@ pub extern "C" fn rungtwine_error_correction(
     channels: usize,
     samples: &mut [f32],
     stencil: &mut [u8],
+    room: &mut [f32],
     mode: u8,
     ratio: f64,
     horizontal: f64,
@@ -41,14 +42,15 @@ pub extern "C" fn rungtwine_error_correction(
     corner: &mut usize,
     tests: &mut usize,
 ) -> u8
-    ensures numbers { λ r. ⌜ r ≡ Checks.refusalNumber (called width height channels (now (samples .entry)) (now (stencil .entry)) mode ratio horizontal vertical diagonal (now (colours .entry)) (now (coords .entry)) (now (ends .entry))) ⌝ }
-    ensures places { λ _. ⌜ now (place .exit) ≡ Checks.refusalPlace (called width height channels (now (samples .entry)) (now (stencil .entry)) mode ratio horizontal vertical diagonal (now (colours .entry)) (now (coords .entry)) (now (ends .entry))) ⌝ }
-    ensures protects { λ _. ⌜ now (protected .exit) ≡ Pass.protectedCells (called width height channels (now (samples .entry)) (now (stencil .entry)) mode ratio horizontal vertical diagonal (now (colours .entry)) (now (coords .entry)) (now (ends .entry))) ⌝ }
-    ensures flags { λ _. ⌜ now (error .exit) ≡ Pass.errorCells (called width height channels (now (samples .entry)) (now (stencil .entry)) mode ratio horizontal vertical diagonal (now (colours .entry)) (now (coords .entry)) (now (ends .entry))) ⌝ }
-    ensures corners { λ _. ⌜ now (corner .exit) ≡ Pass.cornerCells (called width height channels (now (samples .entry)) (now (stencil .entry)) mode ratio horizontal vertical diagonal (now (colours .entry)) (now (coords .entry)) (now (ends .entry))) ⌝ }
-    ensures tests { λ _. ⌜ now (tests .exit) ≡ Pass.testCount (called width height channels (now (samples .entry)) (now (stencil .entry)) mode ratio horizontal vertical diagonal (now (colours .entry)) (now (coords .entry)) (now (ends .entry))) ⌝ }
-    ensures leaves { λ _. ⌜ now (stencil .exit) ≡ Pass.stencilAfter (called width height channels (now (samples .entry)) (now (stencil .entry)) mode ratio horizontal vertical diagonal (now (colours .entry)) (now (coords .entry)) (now (ends .entry))) ⌝ }
-    ensures writes { λ _. ⌜ now (samples .exit) ≡ Pass.samplesAfter (called width height channels (now (samples .entry)) (now (stencil .entry)) mode ratio horizontal vertical diagonal (now (colours .entry)) (now (coords .entry)) (now (ends .entry))) ⌝ }
+    ensures numbers { λ r. ⌜ r ≡ Checks.refusalNumber (called width height channels (now (samples .entry)) (now (stencil .entry)) (now (room .entry)) mode ratio horizontal vertical diagonal (now (colours .entry)) (now (coords .entry)) (now (ends .entry))) ⌝ }
+    ensures places { λ _. ⌜ now (place .exit) ≡ Checks.refusalPlace (called width height channels (now (samples .entry)) (now (stencil .entry)) (now (room .entry)) mode ratio horizontal vertical diagonal (now (colours .entry)) (now (coords .entry)) (now (ends .entry))) ⌝ }
+    ensures protects { λ _. ⌜ now (protected .exit) ≡ Pass.protectedCells (called width height channels (now (samples .entry)) (now (stencil .entry)) (now (room .entry)) mode ratio horizontal vertical diagonal (now (colours .entry)) (now (coords .entry)) (now (ends .entry))) ⌝ }
+    ensures flags { λ _. ⌜ now (error .exit) ≡ Pass.errorCells (called width height channels (now (samples .entry)) (now (stencil .entry)) (now (room .entry)) mode ratio horizontal vertical diagonal (now (colours .entry)) (now (coords .entry)) (now (ends .entry))) ⌝ }
+    ensures corners { λ _. ⌜ now (corner .exit) ≡ Pass.cornerCells (called width height channels (now (samples .entry)) (now (stencil .entry)) (now (room .entry)) mode ratio horizontal vertical diagonal (now (colours .entry)) (now (coords .entry)) (now (ends .entry))) ⌝ }
+    ensures tests { λ _. ⌜ now (tests .exit) ≡ Pass.testCount (called width height channels (now (samples .entry)) (now (stencil .entry)) (now (room .entry)) mode ratio horizontal vertical diagonal (now (colours .entry)) (now (coords .entry)) (now (ends .entry))) ⌝ }
+    ensures leaves { λ _. ⌜ now (stencil .exit) ≡ Pass.stencilAfter (called width height channels (now (samples .entry)) (now (stencil .entry)) (now (room .entry)) mode ratio horizontal vertical diagonal (now (colours .entry)) (now (coords .entry)) (now (ends .entry))) ⌝ }
+    ensures writes { λ _. ⌜ now (samples .exit) ≡ Pass.samplesAfter (called width height channels (now (samples .entry)) (now (stencil .entry)) (now (room .entry)) mode ratio horizontal vertical diagonal (now (colours .entry)) (now (coords .entry)) (now (ends .entry))) ⌝ }
+    ensures clears { λ _. ⌜ now (room .exit) ≡ Pass.roomAfter (called width height channels (now (samples .entry)) (now (stencil .entry)) (now (room .entry)) mode ratio horizontal vertical diagonal (now (colours .entry)) (now (coords .entry)) (now (ends .entry))) ⌝ }
 {
     let s = Settings {
         ratio: ratio,
@@ -62,6 +64,7 @@ pub extern "C" fn rungtwine_error_correction(
         channels,
         samples,
         stencil,
+        room,
         mode,
         s,
         colours,
@@ -95,6 +98,7 @@ pub extern "C" fn rungtwine_plain_error_correction(
     channels: usize,
     samples: &mut [f32],
     stencil: &mut [u8],
+    room: &mut [f32],
     mode: u8,
     ratio: f64,
     horizontal: f64,
@@ -108,13 +112,14 @@ pub extern "C" fn rungtwine_plain_error_correction(
     error: &mut usize,
     corner: &mut usize,
 ) -> u8
-    ensures numbers { λ r. ⌜ r ≡ Checks.refusalNumber (called width height channels (now (samples .entry)) (now (stencil .entry)) mode ratio horizontal vertical diagonal (now (colours .entry)) (now (coords .entry)) (now (ends .entry))) ⌝ }
-    ensures places { λ _. ⌜ now (place .exit) ≡ Checks.refusalPlace (called width height channels (now (samples .entry)) (now (stencil .entry)) mode ratio horizontal vertical diagonal (now (colours .entry)) (now (coords .entry)) (now (ends .entry))) ⌝ }
-    ensures protects { λ _. ⌜ now (protected .exit) ≡ Pass.protectedCells (called width height channels (now (samples .entry)) (now (stencil .entry)) mode ratio horizontal vertical diagonal (now (colours .entry)) (now (coords .entry)) (now (ends .entry))) ⌝ }
-    ensures flags { λ _. ⌜ now (error .exit) ≡ Pass.errorCells (called width height channels (now (samples .entry)) (now (stencil .entry)) mode ratio horizontal vertical diagonal (now (colours .entry)) (now (coords .entry)) (now (ends .entry))) ⌝ }
-    ensures corners { λ _. ⌜ now (corner .exit) ≡ Pass.cornerCells (called width height channels (now (samples .entry)) (now (stencil .entry)) mode ratio horizontal vertical diagonal (now (colours .entry)) (now (coords .entry)) (now (ends .entry))) ⌝ }
-    ensures leaves { λ _. ⌜ now (stencil .exit) ≡ Pass.stencilAfter (called width height channels (now (samples .entry)) (now (stencil .entry)) mode ratio horizontal vertical diagonal (now (colours .entry)) (now (coords .entry)) (now (ends .entry))) ⌝ }
-    ensures writes { λ _. ⌜ now (samples .exit) ≡ Pass.samplesAfter (called width height channels (now (samples .entry)) (now (stencil .entry)) mode ratio horizontal vertical diagonal (now (colours .entry)) (now (coords .entry)) (now (ends .entry))) ⌝ }
+    ensures numbers { λ r. ⌜ r ≡ Checks.refusalNumber (called width height channels (now (samples .entry)) (now (stencil .entry)) (now (room .entry)) mode ratio horizontal vertical diagonal (now (colours .entry)) (now (coords .entry)) (now (ends .entry))) ⌝ }
+    ensures places { λ _. ⌜ now (place .exit) ≡ Checks.refusalPlace (called width height channels (now (samples .entry)) (now (stencil .entry)) (now (room .entry)) mode ratio horizontal vertical diagonal (now (colours .entry)) (now (coords .entry)) (now (ends .entry))) ⌝ }
+    ensures protects { λ _. ⌜ now (protected .exit) ≡ Pass.protectedCells (called width height channels (now (samples .entry)) (now (stencil .entry)) (now (room .entry)) mode ratio horizontal vertical diagonal (now (colours .entry)) (now (coords .entry)) (now (ends .entry))) ⌝ }
+    ensures flags { λ _. ⌜ now (error .exit) ≡ Pass.errorCells (called width height channels (now (samples .entry)) (now (stencil .entry)) (now (room .entry)) mode ratio horizontal vertical diagonal (now (colours .entry)) (now (coords .entry)) (now (ends .entry))) ⌝ }
+    ensures corners { λ _. ⌜ now (corner .exit) ≡ Pass.cornerCells (called width height channels (now (samples .entry)) (now (stencil .entry)) (now (room .entry)) mode ratio horizontal vertical diagonal (now (colours .entry)) (now (coords .entry)) (now (ends .entry))) ⌝ }
+    ensures leaves { λ _. ⌜ now (stencil .exit) ≡ Pass.stencilAfter (called width height channels (now (samples .entry)) (now (stencil .entry)) (now (room .entry)) mode ratio horizontal vertical diagonal (now (colours .entry)) (now (coords .entry)) (now (ends .entry))) ⌝ }
+    ensures writes { λ _. ⌜ now (samples .exit) ≡ Pass.samplesAfter (called width height channels (now (samples .entry)) (now (stencil .entry)) (now (room .entry)) mode ratio horizontal vertical diagonal (now (colours .entry)) (now (coords .entry)) (now (ends .entry))) ⌝ }
+    ensures clears { λ _. ⌜ now (room .exit) ≡ Pass.roomAfter (called width height channels (now (samples .entry)) (now (stencil .entry)) (now (room .entry)) mode ratio horizontal vertical diagonal (now (colours .entry)) (now (coords .entry)) (now (ends .entry))) ⌝ }
 {
     let s = Settings {
         ratio: ratio,
@@ -128,6 +133,7 @@ pub extern "C" fn rungtwine_plain_error_correction(
         channels,
         samples,
         stencil,
+        room,
         mode,
         s,
         colours,
@@ -160,6 +166,7 @@ pub extern "C" fn rungtwine_sheet_error_correction(
     channels: usize,
     samples: &mut [f32],
     stencil: &mut [u8],
+    room: &mut [f32],
     cells: &[usize],
     modes: &[u8],
     settings: &[f64],
@@ -173,15 +180,16 @@ pub extern "C" fn rungtwine_sheet_error_correction(
     corner: &mut usize,
     tests: &mut usize,
 ) -> u8
-    ensures numbers { λ r. ⌜ r ≡ Sheet.failure (sheet width height channels (now (samples .entry)) (now (stencil .entry)) (now (cells .entry)) (now (modes .entry)) (now (settings .entry)) (now (colours .entry)) (now (coords .entry)) (now (ends .entry))) .number ⌝ }
-    ensures names { λ _. ⌜ now (cell .exit) ≡ Sheet.failure (sheet width height channels (now (samples .entry)) (now (stencil .entry)) (now (cells .entry)) (now (modes .entry)) (now (settings .entry)) (now (colours .entry)) (now (coords .entry)) (now (ends .entry))) .cell ⌝ }
-    ensures places { λ _. ⌜ now (place .exit) ≡ Sheet.failure (sheet width height channels (now (samples .entry)) (now (stencil .entry)) (now (cells .entry)) (now (modes .entry)) (now (settings .entry)) (now (colours .entry)) (now (coords .entry)) (now (ends .entry))) .place ⌝ }
-    ensures protects { λ _. ⌜ now (protected .exit) ≡ Call.sheetProtected (sheet width height channels (now (samples .entry)) (now (stencil .entry)) (now (cells .entry)) (now (modes .entry)) (now (settings .entry)) (now (colours .entry)) (now (coords .entry)) (now (ends .entry))) ⌝ }
-    ensures flags { λ _. ⌜ now (error .exit) ≡ Call.sheetErrors (sheet width height channels (now (samples .entry)) (now (stencil .entry)) (now (cells .entry)) (now (modes .entry)) (now (settings .entry)) (now (colours .entry)) (now (coords .entry)) (now (ends .entry))) ⌝ }
-    ensures corners { λ _. ⌜ now (corner .exit) ≡ Call.sheetCorners (sheet width height channels (now (samples .entry)) (now (stencil .entry)) (now (cells .entry)) (now (modes .entry)) (now (settings .entry)) (now (colours .entry)) (now (coords .entry)) (now (ends .entry))) ⌝ }
-    ensures tests { λ _. ⌜ now (tests .exit) ≡ Call.sheetTestCount (sheet width height channels (now (samples .entry)) (now (stencil .entry)) (now (cells .entry)) (now (modes .entry)) (now (settings .entry)) (now (colours .entry)) (now (coords .entry)) (now (ends .entry))) ⌝ }
-    ensures leaves { λ _. ⌜ now (stencil .exit) ≡ Sheet.sheetStencilAfter (sheet width height channels (now (samples .entry)) (now (stencil .entry)) (now (cells .entry)) (now (modes .entry)) (now (settings .entry)) (now (colours .entry)) (now (coords .entry)) (now (ends .entry))) ⌝ }
-    ensures writes { λ _. ⌜ now (samples .exit) ≡ Sheet.sheetSamplesAfter (sheet width height channels (now (samples .entry)) (now (stencil .entry)) (now (cells .entry)) (now (modes .entry)) (now (settings .entry)) (now (colours .entry)) (now (coords .entry)) (now (ends .entry))) ⌝ }
+    ensures numbers { λ r. ⌜ r ≡ Sheet.failure (sheet width height channels (now (samples .entry)) (now (stencil .entry)) (now (room .entry)) (now (cells .entry)) (now (modes .entry)) (now (settings .entry)) (now (colours .entry)) (now (coords .entry)) (now (ends .entry))) .number ⌝ }
+    ensures names { λ _. ⌜ now (cell .exit) ≡ Sheet.failure (sheet width height channels (now (samples .entry)) (now (stencil .entry)) (now (room .entry)) (now (cells .entry)) (now (modes .entry)) (now (settings .entry)) (now (colours .entry)) (now (coords .entry)) (now (ends .entry))) .cell ⌝ }
+    ensures places { λ _. ⌜ now (place .exit) ≡ Sheet.failure (sheet width height channels (now (samples .entry)) (now (stencil .entry)) (now (room .entry)) (now (cells .entry)) (now (modes .entry)) (now (settings .entry)) (now (colours .entry)) (now (coords .entry)) (now (ends .entry))) .place ⌝ }
+    ensures protects { λ _. ⌜ now (protected .exit) ≡ Call.sheetProtected (sheet width height channels (now (samples .entry)) (now (stencil .entry)) (now (room .entry)) (now (cells .entry)) (now (modes .entry)) (now (settings .entry)) (now (colours .entry)) (now (coords .entry)) (now (ends .entry))) ⌝ }
+    ensures flags { λ _. ⌜ now (error .exit) ≡ Call.sheetErrors (sheet width height channels (now (samples .entry)) (now (stencil .entry)) (now (room .entry)) (now (cells .entry)) (now (modes .entry)) (now (settings .entry)) (now (colours .entry)) (now (coords .entry)) (now (ends .entry))) ⌝ }
+    ensures corners { λ _. ⌜ now (corner .exit) ≡ Call.sheetCorners (sheet width height channels (now (samples .entry)) (now (stencil .entry)) (now (room .entry)) (now (cells .entry)) (now (modes .entry)) (now (settings .entry)) (now (colours .entry)) (now (coords .entry)) (now (ends .entry))) ⌝ }
+    ensures tests { λ _. ⌜ now (tests .exit) ≡ Call.sheetTestCount (sheet width height channels (now (samples .entry)) (now (stencil .entry)) (now (room .entry)) (now (cells .entry)) (now (modes .entry)) (now (settings .entry)) (now (colours .entry)) (now (coords .entry)) (now (ends .entry))) ⌝ }
+    ensures leaves { λ _. ⌜ now (stencil .exit) ≡ Sheet.sheetStencilAfter (sheet width height channels (now (samples .entry)) (now (stencil .entry)) (now (room .entry)) (now (cells .entry)) (now (modes .entry)) (now (settings .entry)) (now (colours .entry)) (now (coords .entry)) (now (ends .entry))) ⌝ }
+    ensures writes { λ _. ⌜ now (samples .exit) ≡ Sheet.sheetSamplesAfter (sheet width height channels (now (samples .entry)) (now (stencil .entry)) (now (room .entry)) (now (cells .entry)) (now (modes .entry)) (now (settings .entry)) (now (colours .entry)) (now (coords .entry)) (now (ends .entry))) ⌝ }
+    ensures clears { λ _. ⌜ now (room .exit) ≡ Sheet.sheetRoomAfter (sheet width height channels (now (samples .entry)) (now (stencil .entry)) (now (room .entry)) (now (cells .entry)) (now (modes .entry)) (now (settings .entry)) (now (colours .entry)) (now (coords .entry)) (now (ends .entry))) ⌝ }
 {
     match sheet::msdf_sheet_error_correction(
         width,
@@ -189,6 +197,7 @@ pub extern "C" fn rungtwine_sheet_error_correction(
         channels,
         samples,
         stencil,
+        room,
         cells,
         modes,
         settings,
@@ -225,6 +234,7 @@ pub extern "C" fn rungtwine_sheet_check(
     channels: usize,
     samples: &[f32],
     stencil: &[u8],
+    room: &[f32],
     cells: &[usize],
     modes: &[u8],
     settings: &[f64],
@@ -234,9 +244,9 @@ pub extern "C" fn rungtwine_sheet_check(
     cell: &mut usize,
     place: &mut usize,
 ) -> u8
-    ensures numbers { λ r. ⌜ r ≡ Sheet.failure (sheet width height channels (now (samples .entry)) (now (stencil .entry)) (now (cells .entry)) (now (modes .entry)) (now (settings .entry)) (now (colours .entry)) (now (coords .entry)) (now (ends .entry))) .number ⌝ }
-    ensures names { λ _. ⌜ now (cell .exit) ≡ Sheet.failure (sheet width height channels (now (samples .entry)) (now (stencil .entry)) (now (cells .entry)) (now (modes .entry)) (now (settings .entry)) (now (colours .entry)) (now (coords .entry)) (now (ends .entry))) .cell ⌝ }
-    ensures places { λ _. ⌜ now (place .exit) ≡ Sheet.failure (sheet width height channels (now (samples .entry)) (now (stencil .entry)) (now (cells .entry)) (now (modes .entry)) (now (settings .entry)) (now (colours .entry)) (now (coords .entry)) (now (ends .entry))) .place ⌝ }
+    ensures numbers { λ r. ⌜ r ≡ Sheet.failure (sheet width height channels (now (samples .entry)) (now (stencil .entry)) (now (room .entry)) (now (cells .entry)) (now (modes .entry)) (now (settings .entry)) (now (colours .entry)) (now (coords .entry)) (now (ends .entry))) .number ⌝ }
+    ensures names { λ _. ⌜ now (cell .exit) ≡ Sheet.failure (sheet width height channels (now (samples .entry)) (now (stencil .entry)) (now (room .entry)) (now (cells .entry)) (now (modes .entry)) (now (settings .entry)) (now (colours .entry)) (now (coords .entry)) (now (ends .entry))) .cell ⌝ }
+    ensures places { λ _. ⌜ now (place .exit) ≡ Sheet.failure (sheet width height channels (now (samples .entry)) (now (stencil .entry)) (now (room .entry)) (now (cells .entry)) (now (modes .entry)) (now (settings .entry)) (now (colours .entry)) (now (coords .entry)) (now (ends .entry))) .place ⌝ }
 {
     let b = Bitmap {
         width: width,
@@ -247,6 +257,7 @@ pub extern "C" fn rungtwine_sheet_check(
         b,
         samples,
         stencil,
+        room,
         cells,
         modes,
         settings,

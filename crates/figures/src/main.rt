@@ -289,6 +289,7 @@ fn main() {
     corners_apart();
     all_tests();
     refusals::sizes();
+    refusals::rooms();
     refusals::settings();
     refusals::samples();
     refusals::outlines();

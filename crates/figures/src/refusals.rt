@@ -30,6 +30,25 @@ pub fn sizes() {
     sized(b"width 1", 1, 2, 3, &mut two);
 }
 
+// One row, in a room of any length.
+fn lent(name: &[u8], w: usize, mode: u8, room: &mut [f32]) {
+    let mut xs = [0.0f32; 6];
+    let mut stencil = [255u8; 2];
+    let t = run::with(w, 1, 3, mode, run::all(0.25));
+    run::lent(name, t, &mut xs, &mut stencil, room, &[], &[], &[]);
+}
+
+pub fn rooms() {
+    let mut three = [1.0f32; 3];
+    lent(b"room too short", 2, 1, &mut three);
+    lent(b"room too short, samples too many", 1, 1, &mut three);
+    lent(b"room too short, mode 4", 2, 4, &mut three);
+    let mut none = [1.0f32; 0];
+    lent(b"no room, disabled", 2, 0, &mut none);
+    let mut four = [1.0f32; 4];
+    lent(b"room for two rows", 2, 1, &mut four);
+}
+
 fn set(name: &[u8], mode: u8, ratio: f64, horizontal: f64, vertical: f64, diagonal: f64) {
     let s = Settings {
         ratio: ratio,

@@ -35,11 +35,13 @@ pub fn with(w: usize, h: usize, ch: usize, mode: u8, s: Settings) -> Task {
     }
 }
 
-pub fn figure(
+// In a room of any length.
+pub fn lent(
     name: &[u8],
     t: Task,
     xs: &mut [f32],
     stencil: &mut [u8],
+    room: &mut [f32],
     colours: &[u8],
     coords: &[f64],
     ends: &[usize],
@@ -51,6 +53,7 @@ pub fn figure(
         b.channels,
         xs,
         stencil,
+        room,
         t.mode,
         t.settings,
         colours,
@@ -58,6 +61,20 @@ pub fn figure(
         ends,
     );
     show::line(name, a, stencil, xs, b);
+}
+
+// In a room for two rows of four texels, the most that a figure has in a row.
+pub fn figure(
+    name: &[u8],
+    t: Task,
+    xs: &mut [f32],
+    stencil: &mut [u8],
+    colours: &[u8],
+    coords: &[f64],
+    ends: &[usize],
+) {
+    let mut room = [1.0f32; 8];
+    lent(name, t, xs, stencil, &mut room, colours, coords, ends);
 }
 
 // No outlines.

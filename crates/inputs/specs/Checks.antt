@@ -18,15 +18,16 @@ pub record Input : Type 0 where
   pub channels : ℕ
   pub samples : List Float
   pub stencil : List ℕ
+  pub room : List Float
   pub mode : ℕ
   pub settings : Settings
   pub colours : List ℕ
   pub coords : List Float
   pub ends : List ℕ
 
-abbrev pub input : ℕ → ℕ → ℕ → List Float → List ℕ → ℕ → Settings → List ℕ → List Float → List ℕ → Input
-input w h ch xs st mode s colours coords ends =
-    record { width = w; height = h; channels = ch; samples = xs; stencil = st; mode = mode; settings = s; colours = colours; coords = coords; ends = ends }
+abbrev pub input : ℕ → ℕ → ℕ → List Float → List ℕ → List Float → ℕ → Settings → List ℕ → List Float → List ℕ → Input
+input w h ch xs st room mode s colours coords ends =
+    record { width = w; height = h; channels = ch; samples = xs; stencil = st; room = room; mode = mode; settings = s; colours = colours; coords = coords; ends = ends }
 
 -- ---- check 1: channels not 3 or 4
 
@@ -50,6 +51,11 @@ badSampleCount w h ch n = not (eqb n (w * h * ch))
 
 unfoldable pub badCellCount : ℕ → ℕ → ℕ → Bool
 badCellCount w h m = not (eqb m (w * h))
+
+-- ---- check 60, after 4: room n shorter than two rows of medians
+
+unfoldable pub badRoom : ℕ → ℕ → Bool
+badRoom w n = ltb n (2 * w)
 
 -- ---- check 5: mode above 3, or ratio or a length NaN, below 0 or above 1,048,576
 
@@ -128,13 +134,17 @@ outlineChecks colours coords ends =
 abbrev pub bitmapChecks : Input → List (Bool × ℕ)
 bitmapChecks i = sizeChecks (i .width) (i .height) (i .channels) (length (i .samples)) (length (i .stencil))
 
+-- check 60 of an input
+abbrev pub roomChecks : Input → List (Bool × ℕ)
+roomChecks i = (badRoom (i .width) (length (i .room)), 60) ∷ []
+
 -- checks 5 to 9
 abbrev pub contentChecks : Input → List (Bool × ℕ)
 contentChecks i = (badSettings (i .mode) (i .settings), 5) ∷ (badSamples (i .samples), 6) ∷ outlineChecks (i .colours) (i .coords) (i .ends)
 
--- all checks, in number order
+-- all checks, in the order in which they are made: 1 to 4, then 60, then 5 to 9
 abbrev pub checks : Input → List (Bool × ℕ)
-checks i = bitmapChecks i ++ contentChecks i
+checks i = bitmapChecks i ++ (roomChecks i ++ contentChecks i)
 
 -- the number of the first check that fails, and 0 where all pass: of checks 1 to 4, of checks 7 to 9, of checks 5 to 9, and of all
 unfoldable pub sizeRefusal : ℕ → ℕ → ℕ → ℕ → ℕ → ℕ

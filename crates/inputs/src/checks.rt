@@ -78,6 +78,13 @@ pub fn size_refusal(b: Bitmap, n: usize, m: usize) -> u8
     0
 }
 
+// Check 60, of n elements for two rows of w.
+pub fn bad_room(w: usize, n: usize) -> bool
+    ensures { λ r. ⌜ r ≡ Checks.badRoom w n ⌝ }
+{
+    n / 2 < w
+}
+
 // A ratio or a length that is NaN, below 0 or above the limit.
 fn bad_length(v: f64) -> bool
     ensures { λ r. ⌜ r ≡ Checks.badLength v ⌝ }

@@ -64,6 +64,16 @@ fn size_refusal(b: Bitmap, n: usize, m: usize) -> u8
     number_of(bad_channels(b.channels), 1, sides)
 }
 
+// Check 60, of a room of n: it has not two rows of w.
+fn bad_room(w: usize, n: usize) -> bool
+    ensures { λ r. ⌜ r ≡ Checks.badRoom w n ⌝ }
+{
+    if n < w {
+        return true;
+    }
+    n - w < w
+}
+
 // A ratio or a length that is NaN, below 0 or above the limit.
 fn bad_length(v: f64) -> bool
     ensures { λ r. ⌜ r ≡ Checks.badLength v ⌝ }
@@ -203,28 +213,30 @@ fn outline_refusal(colours: &[u8], coords: &[f64], ends: &[usize]) -> Refusal
     }
 }
 
-// All checks, in number order; the first failure answers.
+// All checks, 60 between 4 and 5; the first failure answers.
 pub fn check(
     b: Bitmap,
     xs: &[f32],
     stencil: &[u8],
+    room: &[f32],
     mode: u8,
     s: Settings,
     colours: &[u8],
     coords: &[f64],
     ends: &[usize],
 ) -> Refusal
-    ensures numbers { λ r. ⌜ r .number ≡ Checks.refusalNumber (input (b .width) (b .height) (b .channels) (now (xs .entry)) (now (stencil .entry)) mode s (now (colours .entry)) (now (coords .entry)) (now (ends .entry))) ⌝ }
-    ensures places { λ r. ⌜ r .place ≡ Checks.refusalPlace (input (b .width) (b .height) (b .channels) (now (xs .entry)) (now (stencil .entry)) mode s (now (colours .entry)) (now (coords .entry)) (now (ends .entry))) ⌝ }
+    ensures numbers { λ r. ⌜ r .number ≡ Checks.refusalNumber (input (b .width) (b .height) (b .channels) (now (xs .entry)) (now (stencil .entry)) (now (room .entry)) mode s (now (colours .entry)) (now (coords .entry)) (now (ends .entry))) ⌝ }
+    ensures places { λ r. ⌜ r .place ≡ Checks.refusalPlace (input (b .width) (b .height) (b .channels) (now (xs .entry)) (now (stencil .entry)) (now (room .entry)) mode s (now (colours .entry)) (now (coords .entry)) (now (ends .entry))) ⌝ }
 {
     let n = size_refusal(b, xs.len(), stencil.len());
+    let short = bad_room(b.width, room.len());
     let p = settings_place(mode, s);
     let q = samples_place(xs);
     let o = outline_refusal(colours, coords, ends);
     let number = number_of(p < 5, 5, number_of(q < xs.len(), 6, o.number));
     let place = place_of(p < 5, p, place_of(q < xs.len(), q, o.place));
     Refusal {
-        number: number_of(n != 0, n, number),
-        place: place_of(n != 0, 0, place),
+        number: number_of(n != 0, n, number_of(short, 60, number)),
+        place: place_of(n != 0, 0, place_of(short, 0, place)),
     }
 }

@@ -1,9 +1,11 @@
-// The plain pass: the checks; the corners; then for each texel its byte, worked out whole; then collapsing.
+// The plain pass: the checks; the corners; then for each texel its byte, worked out whole; then collapsing. The room is checked and cleared, and not used.
 ghost use mathlib.Core.Path.{_≡_};
 ghost use Prim.Native.Nat.{_*_, _/_, _%_, _<_, _≤_};
 ghost use mathlib.Core.Bool.{cond, _&&_};
 ghost use lib.Dec.{eqb};
 ghost use lib.ListN.{length, getD};
+ghost use lib.Ieee.{binary32};
+ghost use Rattle.numbers.specs.Constants.{zeroOf};
 ghost use Rattle.ground.specs.Lists.{tab};
 ghost use Rattle.inputs.specs.Checks.{input};
 ghost use Rattle.inputs.specs.Inner.{Sized, Celled, Outlined};
@@ -69,6 +71,17 @@ fn clear(stencil: &mut [u8])
     }
 }
 
+// The same of the room.
+fn clear_room(room: &mut [f32])
+    ensures { λ _. ⌜ now (room .exit) ≡ tab (length (now (room .entry))) (λ k. zeroOf binary32) ⌝ }
+{
+    let mut k = 0usize;
+    while k < room.len() {
+        room[k] = 0.0;
+        k += 1;
+    }
+}
+
 // Clears the stencil and marks the corners: only EdgePriority has any.
 fn mark(stencil: &mut [u8], b: Bitmap, mode: u8, colours: &[u8], coords: &[f64], ends: &[usize])
     requires { ⌜ Celled (b .width) (b .height) (now stencil) ⌝ }
@@ -121,6 +134,7 @@ fn count(stencil: &[u8]) -> Counts
 fn correct(
     stencil: &mut [u8],
     xs: &mut [f32],
+    room: &mut [f32],
     b: Bitmap,
     mode: u8,
     s: Settings,
@@ -131,12 +145,14 @@ fn correct(
     requires { ⌜ Sized (b .width) (b .height) (b .channels) (now xs) ⌝ }
     requires { ⌜ length (now stencil) ≡ b .height * b .width ⌝ }
     requires { ⌜ Outlined (now colours) (now coords) (now ends) ⌝ }
-    ensures leaves { λ _. ⌜ now (stencil .exit) ≡ Pass.passStencil (input (b .width) (b .height) (b .channels) (now (xs .entry)) (now (stencil .entry)) mode s (now (colours .entry)) (now (coords .entry)) (now (ends .entry))) ⌝ }
-    ensures writes { λ _. ⌜ now (xs .exit) ≡ Pass.passSamples (input (b .width) (b .height) (b .channels) (now (xs .entry)) (now (stencil .entry)) mode s (now (colours .entry)) (now (coords .entry)) (now (ends .entry))) ⌝ }
+    ensures leaves { λ _. ⌜ now (stencil .exit) ≡ Pass.passStencil (input (b .width) (b .height) (b .channels) (now (xs .entry)) (now (stencil .entry)) (now (room .entry)) mode s (now (colours .entry)) (now (coords .entry)) (now (ends .entry))) ⌝ }
+    ensures writes { λ _. ⌜ now (xs .exit) ≡ Pass.passSamples (input (b .width) (b .height) (b .channels) (now (xs .entry)) (now (stencil .entry)) (now (room .entry)) mode s (now (colours .entry)) (now (coords .entry)) (now (ends .entry))) ⌝ }
+    ensures clears { λ _. ⌜ now (room .exit) ≡ tab (length (now (room .entry))) (λ k. zeroOf binary32) ⌝ }
 {
     mark(stencil, b, mode, colours, coords, ends);
     gather(stencil, xs, b, mode, s);
     collapse::collapse(stencil, xs, b.channels);
+    clear_room(room);
 }
 
 // The error correction of a bitmap, in place.
@@ -146,25 +162,47 @@ pub fn plain_error_correction(
     channels: usize,
     samples: &mut [f32],
     stencil: &mut [u8],
+    room: &mut [f32],
     mode: u8,
     settings: Settings,
     colours: &[u8],
     coords: &[f64],
     ends: &[usize],
 ) -> Answer
-    ensures answers { λ r. ⌜ r ≡ plainAnswer (input width height channels (now (samples .entry)) (now (stencil .entry)) mode settings (now (colours .entry)) (now (coords .entry)) (now (ends .entry))) ⌝ }
-    ensures leaves { λ r. ⌜ now (stencil .exit) ≡ Pass.stencilAfter (input width height channels (now (samples .entry)) (now (stencil .entry)) mode settings (now (colours .entry)) (now (coords .entry)) (now (ends .entry))) ⌝ }
-    ensures writes { λ r. ⌜ now (samples .exit) ≡ Pass.samplesAfter (input width height channels (now (samples .entry)) (now (stencil .entry)) mode settings (now (colours .entry)) (now (coords .entry)) (now (ends .entry))) ⌝ }
+    ensures answers { λ r. ⌜ r ≡ plainAnswer (input width height channels (now (samples .entry)) (now (stencil .entry)) (now (room .entry)) mode settings (now (colours .entry)) (now (coords .entry)) (now (ends .entry))) ⌝ }
+    ensures leaves { λ r. ⌜ now (stencil .exit) ≡ Pass.stencilAfter (input width height channels (now (samples .entry)) (now (stencil .entry)) (now (room .entry)) mode settings (now (colours .entry)) (now (coords .entry)) (now (ends .entry))) ⌝ }
+    ensures writes { λ r. ⌜ now (samples .exit) ≡ Pass.samplesAfter (input width height channels (now (samples .entry)) (now (stencil .entry)) (now (room .entry)) mode settings (now (colours .entry)) (now (coords .entry)) (now (ends .entry))) ⌝ }
+    ensures clears { λ r. ⌜ now (room .exit) ≡ Pass.roomAfter (input width height channels (now (samples .entry)) (now (stencil .entry)) (now (room .entry)) mode settings (now (colours .entry)) (now (coords .entry)) (now (ends .entry))) ⌝ }
 {
     let b = Bitmap {
         width: width,
         height: height,
         channels: channels,
     };
-    let f = checks::check(b, samples, stencil, mode, settings, colours, coords, ends);
+    let f = checks::check(
+        b,
+        samples,
+        stencil,
+        room,
+        mode,
+        settings,
+        colours,
+        coords,
+        ends,
+    );
     if f.number != 0 {
         return Answer::Refused(f.number, f.place);
     }
-    correct(stencil, samples, b, mode, settings, colours, coords, ends);
+    correct(
+        stencil,
+        samples,
+        room,
+        b,
+        mode,
+        settings,
+        colours,
+        coords,
+        ends,
+    );
     Answer::Accepted(count(stencil))
 }

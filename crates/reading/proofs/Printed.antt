@@ -101,7 +101,7 @@ accepted-fits i t a l f =
     let c = f (cells-length (countsOf st) (omega (arith, protected-le st)) (omega (arith, error-le st)) (omega (arith, corner-le st))) in
     omega (arith, accepted-length (i .width) (i .height) (i .channels) (countsLine (countsOf st) t) st (cellTexel (i .samples) (i .channels)) (omega (arith, z .narrow)) (omega (arith, z .high)) (omega (arith, z .shallow)) c (omega arith), z .high)
 
--- a refused one: its check is one of nine, and its place at most 12,288
+-- a refused one: the number of its check is at most 60, and its place at most 12,288
 refused-fits : (i : Input) → length (i .samples) ≤ 12288 → length (i .ends) ≤ 12288 → length (i .colours) ≤ 12288 → length (judgedText i (Refused (refusalNumber i) (refusalPlace i))) ≤ 131072
 unfolding judgedText
 refused-fits i l m n = omega (arith, refused-length (refusalNumber i) (refusalPlace i) (omega (arith, refusal-number-le i)) (omega (arith, refusal-place-le i 12288 (omega arith) l m n)))

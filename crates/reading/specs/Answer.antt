@@ -3,6 +3,8 @@ use Prim.Native.Nat.{ℕ, _*_}
 use mathlib.Core.Bool.{cond}
 use mathlib.Core.List.{List, []}
 use lib.Dec.{eqb, leb}
+use lib.Ieee.{Float, binary32}
+use Rattle.numbers.specs.Constants.{zeroOf}
 use Rattle.ground.specs.Lists.{tab}
 use Rattle.ranges.specs.declared.config.Settings.{Settings}
 use Rattle.correction.specs.declared.pass.Answer.{Answer}
@@ -20,10 +22,14 @@ use Rattle.reading.specs.Text.{badText, refusedText, acceptedText, accep
 abbrev pub settingsOf : List ℕ → Settings
 settingsOf s = record { ratio = ratioOf s; horizontal = horizontalOf s; vertical = verticalOf s; diagonal = diagonalOf s }
 
+-- the room that is lent: zeros, two rows of 4,096 for the widest bitmap
+unfoldable pub lentRoom : List Float
+lentRoom = tab 8192 (λ k. zeroOf binary32)
+
 -- what the pass is given: the stencil has a cell, 0, for each texel
 abbrev pub caseOf : List ℕ → Input
 caseOf s =
-    input (width s) (height s) (channels s) (samplesOf s) (tab (width s * height s) (λ k. 0)) (modeOf s) (settingsOf s) (coloursOf s) (coordsOf s) (endsOf s)
+    input (width s) (height s) (channels s) (samplesOf s) (tab (width s * height s) (λ k. 0)) lentRoom (modeOf s) (settingsOf s) (coloursOf s) (coordsOf s) (endsOf s)
 
 -- the text of the pass's answer; each median is judged on the samples that came in, before the collapse
 unfoldable pub answerText : Input → Answer → List ℕ

@@ -42,14 +42,15 @@ pub fn judge(
     b: Bitmap,
     samples: &mut [f32],
     stencil: &mut [u8],
+    room: &mut [f32],
     mode: u8,
     s: Settings,
     colours: &[u8],
     coords: &[f64],
     ends: &[usize],
 ) -> Judged
-    ensures answers { λ r. ⌜ r ≡ Inner.judged plain (input (b .width) (b .height) (b .channels) (now (samples .entry)) (now (stencil .entry)) mode s (now (colours .entry)) (now (coords .entry)) (now (ends .entry))) ⌝ }
-    ensures leaves { λ _. ⌜ now (stencil .exit) ≡ Pass.stencilAfter (input (b .width) (b .height) (b .channels) (now (samples .entry)) (now (stencil .entry)) mode s (now (colours .entry)) (now (coords .entry)) (now (ends .entry))) ⌝ }
+    ensures answers { λ r. ⌜ r ≡ Inner.judged plain (input (b .width) (b .height) (b .channels) (now (samples .entry)) (now (stencil .entry)) (now (room .entry)) mode s (now (colours .entry)) (now (coords .entry)) (now (ends .entry))) ⌝ }
+    ensures leaves { λ _. ⌜ now (stencil .exit) ≡ Pass.stencilAfter (input (b .width) (b .height) (b .channels) (now (samples .entry)) (now (stencil .entry)) (now (room .entry)) mode s (now (colours .entry)) (now (coords .entry)) (now (ends .entry))) ⌝ }
 {
     if plain {
         return of_plain(plain_pass::plain_error_correction(
@@ -58,6 +59,7 @@ pub fn judge(
             b.channels,
             samples,
             stencil,
+            room,
             mode,
             s,
             colours,
@@ -71,6 +73,7 @@ pub fn judge(
         b.channels,
         samples,
         stencil,
+        room,
         mode,
         s,
         colours,

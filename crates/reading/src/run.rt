@@ -56,15 +56,17 @@ fn run(
     ends: &[usize],
 ) -> usize
     requires { ⌜ (131072 ≤ length (now out)) × (length (now samples) ≤ 12288) × (11 < length (now s)) ⌝ }
-    ensures { λ r. ⌜ Written (now (out .entry)) 0 (Inner.judgedText (input (b .width) (b .height) (b .channels) (now (samples .entry)) (now (stencil .entry)) (modeOf (now (s .entry))) (Answers.settingsOf (now (s .entry))) (now (colours .entry)) (now (coords .entry)) (now (ends .entry))) (Inner.judged plain (input (b .width) (b .height) (b .channels) (now (samples .entry)) (now (stencil .entry)) (modeOf (now (s .entry))) (Answers.settingsOf (now (s .entry))) (now (colours .entry)) (now (coords .entry)) (now (ends .entry))))) r (now (out .exit)) ⌝ }
+    ensures { λ r. ⌜ Written (now (out .entry)) 0 (Inner.judgedText (input (b .width) (b .height) (b .channels) (now (samples .entry)) (now (stencil .entry)) Answers.lentRoom (modeOf (now (s .entry))) (Answers.settingsOf (now (s .entry))) (now (colours .entry)) (now (coords .entry)) (now (ends .entry))) (Inner.judged plain (input (b .width) (b .height) (b .channels) (now (samples .entry)) (now (stencil .entry)) Answers.lentRoom (modeOf (now (s .entry))) (Answers.settingsOf (now (s .entry))) (now (colours .entry)) (now (coords .entry)) (now (ends .entry))))) r (now (out .exit)) ⌝ }
 {
     let mut kept = [0.0f32; 12288];
+    let mut room = [0.0f32; 8192];
     let n = keep(samples, &mut kept);
     match engines::judge(
         plain,
         b,
         samples,
         stencil,
+        &mut room,
         s[11],
         settings(s),
         colours,

@@ -166,7 +166,7 @@ fn counted(a: plain::pass::Answer, tests: usize) -> Answer {
     }
 }
 
-// Runs a case, by the plain engine where it is asked for, which answers the list's number of range tests.
+// Runs a case, by the plain engine where it is asked for, which answers the list's number of range tests. 64 samples are at most 21 texels a row.
 fn correct(
     list: &[u8],
     c: Case,
@@ -185,6 +185,7 @@ fn correct(
     let channels = bytes::be64(list, at + 16) as usize;
     let mode = bytes::byte_from(list, at, 24);
     let s = settings(list, at);
+    let mut room = [1.0f32; 42];
     if plain {
         let tests = answer::tests(list, answer_at(c));
         return counted(
@@ -194,6 +195,7 @@ fn correct(
                 channels,
                 samples,
                 cells,
+                &mut room,
                 mode,
                 s,
                 colours,
@@ -209,6 +211,7 @@ fn correct(
         channels,
         samples,
         cells,
+        &mut room,
         mode,
         s,
         colours,

@@ -18,16 +18,16 @@ use borrow.Fn.Kinds.{Dens}
 use borrow.Author.Tests.{le-ltb, eq-eqb}
 use Rattle.detectors.proofs.Laws.Texel.{texel-median-keeps}
 use Rattle.correction.specs.Bitmap.{cellTexel}
-use Rattle.inputs.specs.Checks.{Input, oversize, samplesPlace, badSamples, refusalNumber, accepted}
+use Rattle.inputs.specs.Checks.{Input, badRoom, oversize, samplesPlace, badSamples, refusalNumber, accepted}
 use Rattle.correction.specs.Collapse.{cellMedian, collapsedSample, collapsed}
-use Rattle.correction.specs.Pass.{flags, passSamples, stencilAfter, samplesAfter, fedBack, numberOf}
+use Rattle.correction.specs.Pass.{flags, passSamples, stencilAfter, samplesAfter, roomAfter, fedBack, numberOf}
 use Rattle.ground.proofs.Laws.Fill.{tab-length, tab-at}
 use Rattle.ground.proofs.Laws.Search.{first-is-end}
 use Rattle.inputs.proofs.Laws.Checks.{sizes, passed, stages, staged}
 use Rattle.correction.proofs.pass.msdf_error_correction.Kinds.{ps}
 use Rattle.correction.proofs.pass.msdf_error_correction.Reads as entry
 use Rattle.correction.proofs.Laws.Answer.{zero-accepts}
-use Rattle.correction.proofs.Laws.Leaves.{number-zero, accepted-leaves, stencil-length, given}
+use Rattle.correction.proofs.Laws.Leaves.{number-zero, accepted-leaves, stencil-length, room-length, given}
 
 -- As many samples are left as came.
 pub samples-length : (i : Input) → accepted i ≡ true → length (samplesAfter i) ≡ length (i .samples)
@@ -68,6 +68,11 @@ samples-pass : (xs : List Float) → ((j : ℕ) → j < length xs → oversize b
 unfolding badSamples samplesPlace
 samples-pass xs h = le-ltb _ _ (le-of-eq (sym (first-is-end (λ k. oversize binary32 (getD xs k nan)) (length xs) h)))
 
+-- A room that was long enough for a bitmap is so for another of its width.
+room-pass : (i j : Input) → accepted i ≡ true → i .width ≡ j .width → badRoom (j .width) (length (roomAfter i)) ≡ false
+unfolding badRoom
+room-pass i j p w = le-ltb (length (roomAfter i)) (2 * j .width) (omega (arith, room-length i p, passed i (number-zero i p) .room))
+
 -- So the result of an accepted pass is accepted as input, with the mode, the settings and the outlines of any accepted input of its size.
 pub accepted-again : (i j : Input) → accepted i ≡ true → accepted j ≡ true → i .width ≡ j .width → i .height ≡ j .height → i .channels ≡ j .channels → accepted (fedBack i j) ≡ true
 unfolding accepted
@@ -77,10 +82,10 @@ accepted-again i j p q w h ch =
     let y = sizes (i .width) (i .height) (i .channels) (length (i .samples)) (length (i .stencil)) (passed i (number-zero i p) .sizes) in
     let n : length (samplesAfter i) ≡ length (j .samples) = samples-length i p ∙ y .samples ∙ rw (w, h, ch) (sym (z .samples)) in
     let m : length (stencilAfter i) ≡ length (j .stencil) = stencil-length i p ∙ rw (w, h) (sym (z .cells)) in
-    eq-eqb (refusalNumber (fedBack i j)) 0 (staged (fedBack i j) (record { sizes = rw (n, m) (s .sizes); settings = s .settings; samples = samples-pass (samplesAfter i) (samples-within i p); outlines = s .outlines }))
+    eq-eqb (refusalNumber (fedBack i j)) 0 (staged (fedBack i j) (record { sizes = rw (n, m) (s .sizes); room = room-pass i j p w; settings = s .settings; samples = samples-pass (samplesAfter i) (samples-within i p); outlines = s .outlines }))
 
 -- The first of a run of `msdf_error_correction` that answers 0: it keeps the promise as it is read from the source, of the arguments a, the answer z and the arguments at exit e, of which the samples are the fourth.
-pub promise-within : (κs : Lfts 5) (a : Dens κs ps) (z : _) (e : _) → entry.Post κs a z e → numberOf z ≡ 0 → (j : ℕ) → j < length (now (e .1 .1 .1 .0)) → oversize binary32 (getD (now (e .1 .1 .1 .0)) j nan) ≡ false
+pub promise-within : (κs : Lfts 6) (a : Dens κs ps) (z : _) (e : _) → entry.Post κs a z e → numberOf z ≡ 0 → (j : ℕ) → j < length (now (e .1 .1 .1 .0)) → oversize binary32 (getD (now (e .1 .1 .1 .0)) j nan) ≡ false
 promise-within κs a z e p n j l =
     let i = given κs a in
-    ap (λ (xs : List Float). oversize binary32 (getD xs j nan)) (p .1 .1) ∙ samples-within i (zero-accepts i z (p .0) n) j (subst (λ (xs : List Float). j < length xs) (p .1 .1) l)
+    ap (λ (xs : List Float). oversize binary32 (getD xs j nan)) (p .1 .1 .0) ∙ samples-within i (zero-accepts i z (p .0) n) j (subst (λ (xs : List Float). j < length xs) (p .1 .1 .0) l)

@@ -17,9 +17,13 @@ pass-answers-alike κs a z z' e e' p q = answers-alike _ z z' (p .0) (q .0)
 pub pass-stencils-alike : (κs : _) (a : _) (z z' : _) (e e' : _) → entry.Post κs a z e → entry.Post κs a z' e' → now (e .1 .1 .1 .1 .0) ≡ now (e' .1 .1 .1 .1 .0)
 pass-stencils-alike κs a z z' e e' p q = alike (p .1 .0) (q .1 .0)
 
--- and two lists of samples, the fourth.
+-- two lists of samples, the fourth,
 pub pass-samples-alike : (κs : _) (a : _) (z z' : _) (e e' : _) → entry.Post κs a z e → entry.Post κs a z' e' → now (e .1 .1 .1 .0) ≡ now (e' .1 .1 .1 .0)
-pass-samples-alike κs a z z' e e' p q = alike (p .1 .1) (q .1 .1)
+pass-samples-alike κs a z z' e e' p q = alike (p .1 .1 .0) (q .1 .1 .0)
+
+-- and two rooms, the sixth.
+pub pass-rooms-alike : (κs : _) (a : _) (z z' : _) (e e' : _) → entry.Post κs a z e → entry.Post κs a z' e' → now (e .1 .1 .1 .1 .1 .0) ≡ now (e' .1 .1 .1 .1 .1 .0)
+pass-rooms-alike κs a z z' e e' p q = alike (p .1 .1 .1) (q .1 .1 .1)
 
 -- Two texel views hold the same samples,
 pub views-alike : (κs : _) (a : _) (z z' : _) (e e' : _) → view.Post κs a z e → view.Post κs a z' e' → now z ≡ now z'
@@ -39,7 +43,11 @@ sheet-stencils-alike κs a z z' e e' p q = alike (p .1 .0) (q .1 .0)
 
 -- two lists of samples, the fourth,
 pub sheet-samples-alike : (κs : _) (a : _) (z z' : _) (e e' : _) → sheets.Post κs a z e → sheets.Post κs a z' e' → now (e .1 .1 .1 .0) ≡ now (e' .1 .1 .1 .0)
-sheet-samples-alike κs a z z' e e' p q = alike (p .1 .1) (q .1 .1)
+sheet-samples-alike κs a z z' e e' p q = alike (p .1 .1 .0) (q .1 .1 .0)
+
+-- two rooms, the sixth,
+pub sheet-rooms-alike : (κs : _) (a : _) (z z' : _) (e e' : _) → sheets.Post κs a z e → sheets.Post κs a z' e' → now (e .1 .1 .1 .1 .1 .0) ≡ now (e' .1 .1 .1 .1 .1 .0)
+sheet-rooms-alike κs a z z' e e' p q = alike (p .1 .1 .1) (q .1 .1 .1)
 
 -- and two answers of its checks alone, which write nothing.
 pub sheet-checks-alike : (κs : _) (a : _) (z z' : _) (e e' : _) → checks.Post κs a z e → checks.Post κs a z' e' → z ≡ z'

@@ -47,8 +47,8 @@ sheet-monotony s t e f c d l m r x y p q h =
     ap isError (byte-alone s e c l x y p q)
     ∙ monotony (alone s c) (alone t d) r (cell-accepted s e c l) (cell-accepted t f d m) (y * areaAt (s .cells) c .width + x) (subst (λ (n : ℕ). isError (getD (stencilAfter (alone t d)) (y * n + x) 0) ≡ true) (sym w) k)
 
--- the same sheet with other samples xs, which differ in cell d alone, and another stencil
-module _ (s : Sheet) (xs : List Float) (st : List ℕ) (e : sheetAccepted s ≡ true) (f : sheetAccepted (with s xs st) ≡ true)
+-- the same sheet with other samples xs, which differ in cell d alone, another stencil and another room
+module _ (s : Sheet) (xs : List Float) (st : List ℕ) (room : List Float) (e : sheetAccepted s ≡ true) (f : sheetAccepted (with s xs st room) ≡ true)
     (c d : ℕ) (l : c < cellsOf s) (m : d < cellsOf s) (n : c ≡ d → ⊥)
     (same : (j : ℕ) → covers (areaAt (s .cells) d) (j / s .channels % s .width) (j / s .channels / s .width) ≡ false → getD xs j nan ≡ getD (s .samples) j nan) where
   r : Ready s
@@ -73,10 +73,10 @@ module _ (s : Sheet) (xs : List Float) (st : List ℕ) (e : sheetAccepted s ≡ 
       let q : (t * s .channels + j % s .channels) / s .channels ≡ t = digits-div t (p .0) in
       same (t * s .channels + j % s .channels) (subst (λ (u : ℕ). covers (areaAt (s .cells) d) (u % s .width) (u / s .width) ≡ false) (sym q) (away (j / s .channels) (p .1))))
 
-  pub cells-independent : (cutCells (windowAt s c) (sheetStencilAfter (with s xs st)) ≡ cutCells (windowAt s c) (sheetStencilAfter s)) × (cutSamples (windowAt s c) (sheetSamplesAfter (with s xs st)) ≡ cutSamples (windowAt s c) (sheetSamplesAfter s))
+  pub cells-independent : (cutCells (windowAt s c) (sheetStencilAfter (with s xs st room)) ≡ cutCells (windowAt s c) (sheetStencilAfter s)) × (cutSamples (windowAt s c) (sheetSamplesAfter (with s xs st room)) ≡ cutSamples (windowAt s c) (sheetSamplesAfter s))
   cells-independent =
-      let t = with s xs st in
+      let t = with s xs st room in
       let p = accepted-leaves (alone t c) (cell-accepted t f c l) in
       let q = accepted-leaves (alone s c) (cell-accepted s e c l) in
-      let v = alone-with s xs st c cut in
+      let v = alone-with s xs st room c cut in
       (cell-stencil t f c l ∙ p .0 ∙ v .stencil ∙ sym (cell-stencil s e c l ∙ q .0), cell-samples t f c l ∙ p .1 ∙ v .samples ∙ sym (cell-samples s e c l ∙ q .1))

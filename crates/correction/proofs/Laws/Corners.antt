@@ -124,7 +124,7 @@ runs-corners i j s v h r r' st st' a b a' b' n n' k e =
     ∙ cells-grow i j s v h (zero-accepts i r a n) (zero-accepts j r' a' n') k (ap (λ (z : List ℕ). hasCorner (getD z k 0)) (sym b) ∙ e)
 
 -- The same of two runs of `msdf_error_correction` that answer 0: each keeps the promise as it is read from the source, of the arguments a, the answer z and the arguments at exit e, of which the stencil is the fifth.
-pub promise-corners : (κs κs' : Lfts 5) (a : Dens κs ps) (a' : Dens κs' ps) (z z' : _) (e e' : _) → entry.Post κs a z e → entry.Post κs' a' z' e' → MoreOutlines (given κs a) (given κs' a') → given κs a .width ≡ given κs' a' .width → given κs a .height ≡ given κs' a' .height → numberOf z ≡ 0 → numberOf z' ≡ 0 → (k : ℕ) → hasCorner (getD (now (e .1 .1 .1 .1 .0)) k 0) ≡ true → hasCorner (getD (now (e' .1 .1 .1 .1 .0)) k 0) ≡ true
+pub promise-corners : (κs κs' : Lfts 6) (a : Dens κs ps) (a' : Dens κs' ps) (z z' : _) (e e' : _) → entry.Post κs a z e → entry.Post κs' a' z' e' → MoreOutlines (given κs a) (given κs' a') → given κs a .width ≡ given κs' a' .width → given κs a .height ≡ given κs' a' .height → numberOf z ≡ 0 → numberOf z' ≡ 0 → (k : ℕ) → hasCorner (getD (now (e .1 .1 .1 .1 .0)) k 0) ≡ true → hasCorner (getD (now (e' .1 .1 .1 .1 .0)) k 0) ≡ true
 promise-corners κs κs' a a' z z' e e' p p' s v h n n' k =
     runs-corners (given κs a) (given κs' a') s v h z z' (now (e .1 .1 .1 .1 .0)) (now (e' .1 .1 .1 .1 .0)) (p .0) (p .1 .0) (p' .0) (p' .1 .0) n n' k
 

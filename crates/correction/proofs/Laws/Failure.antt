@@ -7,7 +7,7 @@ use lib.Dec.{eqb, ltb}
 use lib.ListN.{length}
 use borrow.Author.Tests.{eqb-false, ltb-true, not-true}
 use Rattle.ground.proofs.Laws.Search.{first-holds}
-use Rattle.inputs.specs.Checks.{badChannels, contentRefusal}
+use Rattle.inputs.specs.Checks.{badChannels, badRoom, contentRefusal}
 use Rattle.correction.specs.declared.sheet.Failure.{Failure}
 use Rattle.correction.specs.Sheet.{Sheet, cellsOf, alone, badSheet, firstOutside, firstOverlap, firstBadRun, firstBad, ofSheet, ofCell, inCell, contentFailure, failure}
 
@@ -30,7 +30,8 @@ unfolding failure
 no-failure s =
     past (badChannels (s .channels)) (ofSheet 1) _ (λ t z. absurd (omega arith))
     (past (badSheet (s .width) (s .height) (s .channels) (length (s .samples)) (length (s .stencil)) (length (s .cells)) (cellsOf s) (length (s .settings))) (ofSheet 50) _ (λ t z. absurd (omega arith))
+    (past (badRoom (s .width) (length (s .room))) (ofSheet 60) _ (λ t z. absurd (omega arith))
     (past (ltb (firstOutside (s .width) (s .height) (s .cells) (cellsOf s)) (cellsOf s)) (ofCell 51 _) _ (λ t z. absurd (omega arith))
     (past (ltb (firstOverlap (s .cells) (cellsOf s)) (cellsOf s)) (ofCell 52 _) _ (λ t z. absurd (omega arith))
     (past (ltb (firstBadRun (s .cells) (cellsOf s) (length (s .colours)) (length (s .coords)) (length (s .ends))) (cellsOf s)) (ofCell 53 _) _ (λ t z. absurd (omega arith))
-    (content-zeros s)))))
+    (content-zeros s))))))

@@ -12,7 +12,7 @@ use Rattle.correction.specs.Bitmap.{texel, inBounds}
 use Rattle.inputs.specs.Stencil.{stencilByte, hasCorner, isProtected, isError, protectedCount, errorCount, cornerCount}
 use Rattle.detectors.specs.Texel.{texelMiddle}
 use Rattle.ranges.specs.Config.{sideSpan, diagonalSpan, radius}
-use Rattle.inputs.specs.Checks.{badChannels, badSide, badSize, badSampleCount, badCellCount, badLength, settingsPlace, badSettings, oversize, samplesPlace, badSamples, badOutlines, endBefore, badEnd, endsPlace, badEnds, badSegment, segmentsPlace, badSegments, refusalNumber, accepted}
+use Rattle.inputs.specs.Checks.{badChannels, badSide, badSize, badSampleCount, badCellCount, badRoom, badLength, settingsPlace, badSettings, oversize, samplesPlace, badSamples, badOutlines, endBefore, badEnd, endsPlace, badEnds, badSegment, segmentsPlace, badSegments, refusalNumber, accepted}
 use Rattle.ranges.specs.Classifier.{fallsBelow, risesAbove, liesOutside, candidate, within, inRange, rangeTest}
 use Rattle.detectors.specs.Pairs.{guard, inside, mixedChannel, mixedMedian, next, difference}
 use Rattle.detectors.specs.Linear.{crossing, linearAt, linearPair, linearPairs, hasLinearArtifact, linearTestsAt, linearPairTests, linearPairsTests, linearTests}
@@ -26,12 +26,12 @@ use Rattle.correction.specs.Figures.{checkered, Figures}
 
 -- the middle texel takes them all
 middle : testsAt checkered 1 1 ≡ 84
-unfolding trailingZeros isNan lt le ne eq neg add sum sub mul div round units odd size span climb ofBits ofFields minOf maxOf medianOf absOf narrowOf floorOf mixOf rootBy root rootOf sqrtOf isLinear linearRoots discriminant upperRoot lowerRoot squareRootsBy squareRoots rootsOf tab any some count first total spent spentIn texel texelMiddle inBounds stencilByte hasCorner isProtected isError sideSpan diagonalSpan radius firstFailing badChannels badSide badSize badSampleCount badCellCount badLength settingsPlace badSettings oversize samplesPlace badSamples badOutlines endBefore badEnd endsPlace badEnds badSegment segmentsPlace badSegments refusalNumber accepted fallsBelow risesAbove liesOutside candidate within inRange rangeTest guard inside mixedChannel mixedMedian next difference crossing linearAt linearPair linearPairs hasLinearArtifact linearTestsAt linearPairTests linearPairsTests linearTests abc linearTerm squareTerm turningPoint curve curveChannel curveMedian middleDifference quadraticRoots pairRoots turns movedEnd turningTest rootTests diagonalAt diagonalPair diagonalPairs hasDiagonalArtifact rootTestCount diagonalTestsAt diagonalPairTests diagonalPairsTests diagonalTests split contours before shared isCorner lower beside around cornerAt contourProtects cornersProtect near edgePoint edgeAt masked extreme pairProtects protectsLower protectsUpper asLower asUpper someLower someUpper someEdge edgesProtect sideArtifact someSide diagonalArtifact someDiagonal someArtifact hasArtifact sideTests acrossTests linearMade diagonalMade someMade testsMade texels cornered edgePriorityProtects protects flags byteAt passStencil testsAt passTests protectedCount errorCount cornerCount answer stencilAfter
+unfolding trailingZeros isNan lt le ne eq neg add sum sub mul div round units odd size span climb ofBits ofFields minOf maxOf medianOf absOf narrowOf floorOf mixOf rootBy root rootOf sqrtOf isLinear linearRoots discriminant upperRoot lowerRoot squareRootsBy squareRoots rootsOf tab any some count first total spent spentIn texel texelMiddle inBounds stencilByte hasCorner isProtected isError sideSpan diagonalSpan radius firstFailing badChannels badSide badSize badSampleCount badCellCount badRoom badLength settingsPlace badSettings oversize samplesPlace badSamples badOutlines endBefore badEnd endsPlace badEnds badSegment segmentsPlace badSegments refusalNumber accepted fallsBelow risesAbove liesOutside candidate within inRange rangeTest guard inside mixedChannel mixedMedian next difference crossing linearAt linearPair linearPairs hasLinearArtifact linearTestsAt linearPairTests linearPairsTests linearTests abc linearTerm squareTerm turningPoint curve curveChannel curveMedian middleDifference quadraticRoots pairRoots turns movedEnd turningTest rootTests diagonalAt diagonalPair diagonalPairs hasDiagonalArtifact rootTestCount diagonalTestsAt diagonalPairTests diagonalPairsTests diagonalTests split contours before shared isCorner lower beside around cornerAt contourProtects cornersProtect near edgePoint edgeAt masked extreme pairProtects protectsLower protectsUpper asLower asUpper someLower someUpper someEdge edgesProtect sideArtifact someSide diagonalArtifact someDiagonal someArtifact hasArtifact sideTests acrossTests linearMade diagonalMade someMade testsMade texels cornered edgePriorityProtects protects flags byteAt passStencil testsAt passTests protectedCount errorCount cornerCount answer stencilAfter
 middle = refl
 
 -- All figures of the table hold.
 pub figures : Figures
-unfolding trailingZeros isNan lt le ne eq neg add sum sub mul div round units odd size span climb ofBits ofFields minOf maxOf medianOf absOf narrowOf floorOf mixOf rootBy root rootOf sqrtOf isLinear linearRoots discriminant upperRoot lowerRoot squareRootsBy squareRoots rootsOf tab any some count first total spent spentIn texel texelMiddle inBounds stencilByte hasCorner isProtected isError sideSpan diagonalSpan radius firstFailing badChannels badSide badSize badSampleCount badCellCount badLength settingsPlace badSettings oversize samplesPlace badSamples badOutlines endBefore badEnd endsPlace badEnds badSegment segmentsPlace badSegments refusalNumber accepted fallsBelow risesAbove liesOutside candidate within inRange rangeTest guard inside mixedChannel mixedMedian next difference crossing linearAt linearPair linearPairs hasLinearArtifact linearTestsAt linearPairTests linearPairsTests linearTests abc linearTerm squareTerm turningPoint curve curveChannel curveMedian middleDifference quadraticRoots pairRoots turns movedEnd turningTest rootTests diagonalAt diagonalPair diagonalPairs hasDiagonalArtifact rootTestCount diagonalTestsAt diagonalPairTests diagonalPairsTests diagonalTests split contours before shared isCorner lower beside around cornerAt contourProtects cornersProtect near edgePoint edgeAt masked extreme pairProtects protectsLower protectsUpper asLower asUpper someLower someUpper someEdge edgesProtect sideArtifact someSide diagonalArtifact someDiagonal someArtifact hasArtifact sideTests acrossTests linearMade diagonalMade someMade testsMade texels cornered edgePriorityProtects protects flags byteAt passStencil testsAt passTests protectedCount errorCount cornerCount answer stencilAfter
+unfolding trailingZeros isNan lt le ne eq neg add sum sub mul div round units odd size span climb ofBits ofFields minOf maxOf medianOf absOf narrowOf floorOf mixOf rootBy root rootOf sqrtOf isLinear linearRoots discriminant upperRoot lowerRoot squareRootsBy squareRoots rootsOf tab any some count first total spent spentIn texel texelMiddle inBounds stencilByte hasCorner isProtected isError sideSpan diagonalSpan radius firstFailing badChannels badSide badSize badSampleCount badCellCount badRoom badLength settingsPlace badSettings oversize samplesPlace badSamples badOutlines endBefore badEnd endsPlace badEnds badSegment segmentsPlace badSegments refusalNumber accepted fallsBelow risesAbove liesOutside candidate within inRange rangeTest guard inside mixedChannel mixedMedian next difference crossing linearAt linearPair linearPairs hasLinearArtifact linearTestsAt linearPairTests linearPairsTests linearTests abc linearTerm squareTerm turningPoint curve curveChannel curveMedian middleDifference quadraticRoots pairRoots turns movedEnd turningTest rootTests diagonalAt diagonalPair diagonalPairs hasDiagonalArtifact rootTestCount diagonalTestsAt diagonalPairTests diagonalPairsTests diagonalTests split contours before shared isCorner lower beside around cornerAt contourProtects cornersProtect near edgePoint edgeAt masked extreme pairProtects protectsLower protectsUpper asLower asUpper someLower someUpper someEdge edgesProtect sideArtifact someSide diagonalArtifact someDiagonal someArtifact hasArtifact sideTests acrossTests linearMade diagonalMade someMade testsMade texels cornered edgePriorityProtects protects flags byteAt passStencil testsAt passTests protectedCount errorCount cornerCount answer stencilAfter
 figures =
     record {
       c1 = (refl, refl);

@@ -4,19 +4,24 @@
 --     cell-error       the error bit of a cell says whether its texel is flagged
 --     cell-protected   the protected bit says whether it is protected
 --     cell-corner      the corner bit says whether a corner protects it
+--     accepted-room    the room of an accepted pass is zeros throughout
+--     room-length      and a room is as long as it was
 --     given            what comes in with a run's arguments
 use mathlib.Core.Path.{_≡_, _∙_, ap}
 use mathlib.Core.Bool.{Bool, true, cond}
 use mathlib.Core.List.{List}
 use Prim.Native.Nat.{ℕ, _*_, _/_, _%_, _<_}
 use lib.ListN.{getD, length}
+use lib.Ieee.{binary32}
 use denote.Ref.{now}
 use contract.Lifetimes.{Lfts}
 use borrow.Fn.Kinds.{Dens}
 use borrow.Author.Tests.{eqb-true}
+use Rattle.numbers.specs.Constants.{zeroOf}
+use Rattle.ground.specs.Lists.{tab}
 use Rattle.inputs.specs.Stencil.{hasCorner, isProtected, isError}
 use Rattle.inputs.specs.Checks.{Input, input, refusalNumber, accepted}
-use Rattle.correction.specs.Pass.{cornered, protects, flags, byteAt, passStencil, passSamples, stencilAfter, samplesAfter}
+use Rattle.correction.specs.Pass.{cornered, protects, flags, byteAt, passStencil, passSamples, stencilAfter, samplesAfter, roomAfter}
 use Rattle.ground.proofs.Laws.Fill.{tab-length, tab-at}
 use Rattle.correction.proofs.engine.Staged.{byte-at-says}
 use Rattle.correction.proofs.pass.msdf_error_correction.Kinds.{ps}
@@ -52,7 +57,16 @@ pub stencil-length : (i : Input) → accepted i ≡ true → length (stencilAfte
 unfolding passStencil
 stencil-length i p = ap length (accepted-leaves i p .0) ∙ tab-length (i .width * i .height) (byteAt i)
 
+-- Every element of the room is zero.
+pub accepted-room : (i : Input) → accepted i ≡ true → roomAfter i ≡ tab (length (i .room)) (λ k. zeroOf binary32)
+unfolding roomAfter
+accepted-room i p = ap (λ (b : Bool). cond b (tab (length (i .room)) (λ k. zeroOf binary32)) (i .room)) p
+
+-- The room has as many as it had.
+pub room-length : (i : Input) → accepted i ≡ true → length (roomAfter i) ≡ length (i .room)
+room-length i p = ap length (accepted-room i p) ∙ tab-length (length (i .room)) (λ k. zeroOf binary32)
+
 -- what comes in with a run's arguments
-abbrev pub given : (κs : Lfts 5) → Dens κs ps → Input
+abbrev pub given : (κs : Lfts 6) → Dens κs ps → Input
 given κs a =
-    input (a .0) (a .1 .0) (a .1 .1 .0) (now (a .1 .1 .1 .0)) (now (a .1 .1 .1 .1 .0)) (a .1 .1 .1 .1 .1 .0) (a .1 .1 .1 .1 .1 .1 .0) (now (a .1 .1 .1 .1 .1 .1 .1 .0)) (now (a .1 .1 .1 .1 .1 .1 .1 .1 .0)) (now (a .1 .1 .1 .1 .1 .1 .1 .1 .1 .0))
+    input (a .0) (a .1 .0) (a .1 .1 .0) (now (a .1 .1 .1 .0)) (now (a .1 .1 .1 .1 .0)) (now (a .1 .1 .1 .1 .1 .0)) (a .1 .1 .1 .1 .1 .1 .0) (a .1 .1 .1 .1 .1 .1 .1 .0) (now (a .1 .1 .1 .1 .1 .1 .1 .1 .0)) (now (a .1 .1 .1 .1 .1 .1 .1 .1 .1 .0)) (now (a .1 .1 .1 .1 .1 .1 .1 .1 .1 .1 .0))

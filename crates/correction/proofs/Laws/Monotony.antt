@@ -101,7 +101,7 @@ runs-monotony i j s r r' st st' a b a' b' n n' k e =
     ∙ monotony i j s (zero-accepts i r a n) (zero-accepts j r' a' n') k (ap (λ (z : List ℕ). isError (getD z k 0)) (sym b') ∙ e)
 
 -- Demand 3 of two runs of `msdf_error_correction` that answer 0: each keeps the promise as it is read from the source, of the arguments a, the answer z and the arguments at exit e, of which the stencil is the fifth.
-pub promise-monotony : (κs κs' : Lfts 5) (a : Dens κs ps) (a' : Dens κs' ps) (z z' : _) (e e' : _) → entry.Post κs a z e → entry.Post κs' a' z' e' → Stricter (given κs a) (given κs' a') → numberOf z ≡ 0 → numberOf z' ≡ 0 → (k : ℕ) → isError (getD (now (e' .1 .1 .1 .1 .0)) k 0) ≡ true → isError (getD (now (e .1 .1 .1 .1 .0)) k 0) ≡ true
+pub promise-monotony : (κs κs' : Lfts 6) (a : Dens κs ps) (a' : Dens κs' ps) (z z' : _) (e e' : _) → entry.Post κs a z e → entry.Post κs' a' z' e' → Stricter (given κs a) (given κs' a') → numberOf z ≡ 0 → numberOf z' ≡ 0 → (k : ℕ) → isError (getD (now (e' .1 .1 .1 .1 .0)) k 0) ≡ true → isError (getD (now (e .1 .1 .1 .1 .0)) k 0) ≡ true
 promise-monotony κs κs' a a' z z' e e' p p' s n n' k =
     runs-monotony (given κs a) (given κs' a') s z z' (now (e .1 .1 .1 .1 .0)) (now (e' .1 .1 .1 .1 .0)) (p .0) (p .1 .0) (p' .0) (p' .1 .0) n n' k
 

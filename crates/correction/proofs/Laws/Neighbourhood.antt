@@ -115,7 +115,7 @@ errors-alike i j p q x y x' y' inX inY inX' inY' near spans on same =
     a .0 ∙ flags-alike i j x y x' y' inX inY near spans (sym (a .1) ∙ same ∙ b .1) on ∙ sym (b .0)
 
 -- The same of two runs of `msdf_error_correction` that answer 0: each keeps the promise as it is read from the source, of the arguments a, the answer z and the arguments at exit e, of which the stencil is the fifth.
-pub promise-neighbourhood : (κs κs' : Lfts 5) (a : Dens κs ps) (a' : Dens κs' ps) (z z' : _) (e e' : _) → entry.Post κs a z e → entry.Post κs' a' z' e' → numberOf z ≡ 0 → numberOf z' ≡ 0
+pub promise-neighbourhood : (κs κs' : Lfts 6) (a : Dens κs ps) (a' : Dens κs' ps) (z z' : _) (e e' : _) → entry.Post κs a z e → entry.Post κs' a' z' e' → numberOf z ≡ 0 → numberOf z' ≡ 0
     → (x y x' y' : ℕ) → x < given κs a .width → y < given κs a .height → x' < given κs' a' .width → y' < given κs' a' .height
     → SameAround (texels (given κs a)) (given κs a .width) (given κs a .height) x y (texels (given κs' a')) (given κs' a' .width) (given κs' a' .height) x' y'
     → SameSpans (given κs a .settings) (given κs' a' .settings) → eqb (given κs a .mode) disabled ≡ eqb (given κs' a' .mode) disabled

@@ -1,7 +1,7 @@
 -- Cells in another order give the same sheet, stencil, counts and tests. Assumes nothing.
 --     alone-moved          a cell as a bitmap alone is the same
 --     reordered-accepted   the second sheet is accepted where the first is
---     reordered-stencil, reordered-samples, reordered-counts, reordered-tests   and leaves and answers the same
+--     reordered-stencil, reordered-samples, reordered-room, reordered-counts, reordered-tests   and leaves and answers the same
 use mathlib.Core.Path.{_≡_, refl, sym, _∙_, ap, subst}
 use mathlib.Core.Bool.{Bool, true, false, cond, _||_, true≢false}
 use mathlib.Core.List.{List}
@@ -11,36 +11,37 @@ use native.Mathlib.Decide.{decLt}
 use native.Mathlib.Omega.{arith}
 use lib.Dec.{ltb}
 use lib.ListN.{length, getD}
-use lib.Ieee.{Float, nan}
+use lib.Ieee.{Float, binary32, nan}
 use borrow.Author.Tests.{lt-ltb, le-ltb}
+use Rattle.numbers.specs.Constants.{zeroOf}
 use Rattle.ground.specs.Lists.{tab, first, total}
 use Rattle.ground.proofs.Laws.Fill.{tab-same}
 use Rattle.ground.proofs.Laws.Search.{first-is, first-is-end, first-past, first-holds}
 use Rattle.ground.proofs.Laws.Spent.{total-same}
 use Rattle.ground.proofs.Laws.Sums.{total-reordered}
 use Rattle.ranges.specs.declared.config.Settings.{Settings}
-use Rattle.inputs.specs.Checks.{Input, input, badChannels, contentRefusal}
+use Rattle.inputs.specs.Checks.{Input, input, badChannels, badRoom, contentRefusal}
 use Rattle.inputs.specs.Window.{cutCells, cutSamples}
 use Rattle.correction.specs.declared.cells.Area.{Area}
 use Rattle.correction.specs.declared.cells.Run.{Run}
 use Rattle.inputs.specs.Stencil.{protectedCount, errorCount, cornerCount}
 use Rattle.correction.specs.Pass.{byteAt, passStencil, passSamples, passTests}
-use Rattle.correction.specs.Sheet.{Sheet, cellsOf, areaAt, windowOf, taken, alone, badSheet, badArea, badRun, badRuns, overlap, sheetAccepted, covers, holder, within, sheetByte, sheetStencil, sheetSample, sheetSamples, sheetStencilAfter, sheetSamplesAfter, overCells, sheetCounts, sheetTests}
+use Rattle.correction.specs.Sheet.{Sheet, cellsOf, areaAt, windowOf, taken, alone, badSheet, badArea, badRun, badRuns, overlap, sheetAccepted, covers, holder, within, sheetByte, sheetStencil, sheetSample, sheetSamples, sheetStencilAfter, sheetSamplesAfter, sheetRoomAfter, overCells, sheetCounts, sheetTests}
 use Rattle.correction.specs.Reordered.{Reordered}
 use Rattle.correction.proofs.Laws.Sheets.{AllPass, all-pass, passes-all}
 use Rattle.correction.proofs.sheet.Places.{both-covered}
 
 -- a cell as a bitmap alone, by all that it is made of
-abbrev made : ℕ → ℕ → List Float → List ℕ → List ℕ → List Float → List ℕ → Area → ℕ → Settings → Run → Run → Run → Input
-made w ch xs st colours coords ends a mode s p q r =
+abbrev made : ℕ → ℕ → List Float → List ℕ → List Float → List ℕ → List Float → List ℕ → Area → ℕ → Settings → Run → Run → Run → Input
+made w ch xs st room colours coords ends a mode s p q r =
     let g = windowOf w ch a in
-    input (g .width) (g .height) (g .channels) (cutSamples g xs) (cutCells g st) mode s (taken p colours) (taken q coords) (taken r ends)
+    input (g .width) (g .height) (g .channels) (cutSamples g xs) (cutCells g st) room mode s (taken p colours) (taken q coords) (taken r ends)
 
 module _ (s t : Sheet) (to from : ℕ → ℕ) (r : Reordered s t to from) where
   pub alone-moved : (c : ℕ) → c < cellsOf s → alone s c ≡ alone t (to c)
   unfolding alone
   alone-moved c l i =
-      made (r .width i) (r .channels i) (r .samples i) (r .stencil i) (r .colours i) (r .coords i) (r .ends i) (r .areas c l i) (r .mode c l i) (r .setting c l i) (r .colours-run c l i) (r .coords-run c l i) (r .ends-run c l i)
+      made (r .width i) (r .channels i) (r .samples i) (r .stencil i) (r .room i) (r .colours i) (r .coords i) (r .ends i) (r .areas c l i) (r .mode c l i) (r .setting c l i) (r .colours-run c l i) (r .coords-run c l i) (r .ends-run c l i)
 
   -- what holds of each cell of the first, in its place in the second, holds of each cell of the second
   each : (P : ℕ → Type 0) → ((c : ℕ) → c < cellsOf s → P (to c)) → (d : ℕ) → d < cellsOf t → P d
@@ -60,6 +61,7 @@ module _ (s t : Sheet) (to from : ℕ → ℕ) (r : Reordered s t to from) where
       record {
         channels = sym (ap badChannels (r .channels)) ∙ p .channels;
         lengths = sym lengths ∙ p .lengths;
+        room = sym (λ i. badRoom (r .width i) (length (r .room i))) ∙ p .room;
         areas = each (λ d. badArea (t .width) (t .height) (areaAt (t .cells) d) ≡ false) (λ c l. area-moved c l ∙ p .areas c l);
         apart = λ c d l m h. each (λ d. (c ≡ d → ⊥) → overlap (areaAt (t .cells) c) (areaAt (t .cells) d) ≡ false) (λ d b h. each (λ c. (c ≡ to d → ⊥) → overlap (areaAt (t .cells) c) (areaAt (t .cells) (to d)) ≡ false) (λ c a h. pair-moved c d a b ∙ p .apart c d a b (λ e. h (ap to e))) c l h) d m h;
         runs = each (λ d. badRuns (t .cells) (length (t .colours)) (length (t .coords)) (length (t .ends)) d ≡ false) (λ c l. runs-moved c l ∙ p .runs c l);
@@ -148,6 +150,10 @@ module _ (s t : Sheet) (to from : ℕ → ℕ) (r : Reordered s t to from) where
     unfolding sheetSamplesAfter sheetSamples
     reordered-samples =
         simp (e, reordered-accepted e) (tab-same (length (s .samples)) (sheetSample s) (sheetSample t) (λ j l. sample-moved j) ∙ (λ i. tab (length (r .samples i)) (sheetSample t)))
+
+    pub reordered-room : sheetRoomAfter s ≡ sheetRoomAfter t
+    unfolding sheetRoomAfter
+    reordered-room = simp (e, reordered-accepted e) (λ i. tab (length (r .room i)) (λ k. zeroOf binary32))
 
   -- ---- the sums
 

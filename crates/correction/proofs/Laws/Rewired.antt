@@ -90,7 +90,7 @@ pub pass-rewired-bits : (order : Wiring) (i j : Input) → accepted i ≡ true �
 pass-rewired-bits order i j p q w h ch fit same k r l m f g = ap (toBits binary32) (pass-rewired order i j p q w h ch fit same k r l m f g)
 
 -- Two runs of `msdf_error_correction` that answer 0: each keeps the promise as it is read from the source, of the arguments a, the answer z and the arguments at exit e, of which the samples are the fourth and the stencil is the fifth.
-pub promise-rewired : (order : Wiring) (κs κs' : Lfts 5) (a : Dens κs ps) (a' : Dens κs' ps) (z z' : _) (e e' : _) → entry.Post κs a z e → entry.Post κs' a' z' e' → numberOf z ≡ 0 → numberOf z' ≡ 0
+pub promise-rewired : (order : Wiring) (κs κs' : Lfts 6) (a : Dens κs ps) (a' : Dens κs' ps) (z z' : _) (e e' : _) → entry.Post κs a z e → entry.Post κs' a' z' e' → numberOf z ≡ 0 → numberOf z' ≡ 0
     → given κs a .width ≡ given κs' a' .width → given κs a .height ≡ given κs' a' .height → given κs a .channels ≡ given κs' a' .channels
     → Singles (given κs a .samples) → Rewired order (given κs a .channels) (given κs a .samples) (given κs' a' .samples)
     → (k r : ℕ) → k < given κs a .width * given κs a .height → r < 3 → isError (getD (now (e .1 .1 .1 .1 .0)) k 0) ≡ true → isError (getD (now (e' .1 .1 .1 .1 .0)) k 0) ≡ true
@@ -101,8 +101,8 @@ promise-rewired order κs κs' a a' z z' e e' p p' n n' w h ch fit same k r l m 
     let u : accepted i ≡ true = zero-accepts i z (p .0) n in
     let v : accepted j ≡ true = zero-accepts j z' (p' .0) n' in
     let l' : k < j .width * j .height = subst (λ (b : ℕ). k < b * j .height) w (subst (λ (b : ℕ). k < i .width * b) h l) in
-    ap (λ (xs : List Float). getD xs (k * i .channels + r) nan) (p .1 .1)
+    ap (λ (xs : List Float). getD xs (k * i .channels + r) nan) (p .1 .1 .0)
     ∙ pass-rewired order i j u v w h ch fit same k r l m
     (sym (cell-error i u k l) ∙ ap (λ (st : List ℕ). isError (getD st k 0)) (sym (p .1 .0)) ∙ f)
     (sym (cell-error j v k l') ∙ ap (λ (st : List ℕ). isError (getD st k 0)) (sym (p' .1 .0)) ∙ g)
-    ∙ ap (λ (xs : List Float). getD xs (k * j .channels + r) nan) (sym (p' .1 .1))
+    ∙ ap (λ (xs : List Float). getD xs (k * j .channels + r) nan) (sym (p' .1 .1 .0))

@@ -24,17 +24,17 @@ use Rattle.ground.proofs.Laws.Picked.{picked-length, picked-all, is-picked}
 use Rattle.ground.proofs.Laws.Search.{first-is, first-is-end, first-past, none-any}
 use Rattle.inputs.specs.declared.sizes.Window.{Window}
 use Rattle.inputs.specs.Window.{cellShown, sampleShown, cutCells, cutSamples, whole}
-use Rattle.inputs.specs.Checks.{badChannels, contentRefusal, placeOf, refusalNumber, accepted}
-use Rattle.inputs.proofs.Laws.Checks.{sizes-pass, by-content}
+use Rattle.inputs.specs.Checks.{badChannels, badRoom, contentRefusal, placeOf, refusalNumber, accepted}
+use Rattle.inputs.proofs.Laws.Checks.{good-room, sizes-pass, by-content}
 use Rattle.inputs.proofs.Laws.Places.{cell-inside}
 use Rattle.inputs.proofs.Laws.Windows.{cell-held, sample-held, whole-cells, whole-samples}
 use Rattle.correction.specs.declared.cells.Area.{Area}
-use Rattle.correction.specs.Pass.{byteAt, passStencil, passSamples, stencilAfter, samplesAfter}
+use Rattle.correction.specs.Pass.{byteAt, passStencil, passSamples, stencilAfter, samplesAfter, roomAfter}
 use Rattle.correction.specs.Collapse.{collapsed}
-use Rattle.correction.specs.Sheet.{Sheet, cellsOf, areaAt, windowOf, windowAt, alone, badSheet, badArea, firstOutside, overlap, overlapsEarlier, firstOverlap, badRuns, firstBadRun, firstBad, contentFailure, failure, sheetAccepted, covers, Outside, holder, within, sheetByte, sheetStencil, sheetSample, sheetSamples, sheetStencilAfter, sheetSamplesAfter, sheetAnswer}
+use Rattle.correction.specs.Sheet.{Sheet, cellsOf, areaAt, windowOf, windowAt, alone, badSheet, badArea, firstOutside, overlap, overlapsEarlier, firstOverlap, badRuns, firstBadRun, firstBad, contentFailure, failure, sheetAccepted, covers, Outside, holder, within, sheetByte, sheetStencil, sheetSample, sheetSamples, sheetStencilAfter, sheetSamplesAfter, sheetRoomAfter, sheetAnswer}
 use Rattle.correction.specs.declared.sheet.Answer.the-variants.{Refused}
 use Rattle.correction.specs.Cells.{Ready}
-use Rattle.correction.proofs.Laws.Leaves.{accepted-leaves}
+use Rattle.correction.proofs.Laws.Leaves.{accepted-leaves, accepted-room}
 use Rattle.correction.proofs.cells.Areas.{apart}
 use Rattle.correction.proofs.sheet.Laid.{stages, ready, sampled, stencilled}
 use Rattle.correction.proofs.sheet.Places.{shown-covered, shown-within, both-covered}
@@ -45,6 +45,7 @@ use Rattle.correction.proofs.sheet.Corrected.{alone-byte}
 pub record AllPass (s : Sheet) : Type 0 where
   pub channels : badChannels (s .channels) ≡ false
   pub lengths : badSheet (s .width) (s .height) (s .channels) (length (s .samples)) (length (s .stencil)) (length (s .cells)) (cellsOf s) (length (s .settings)) ≡ false
+  pub room : badRoom (s .width) (length (s .room)) ≡ false
   pub areas : (c : ℕ) → c < cellsOf s → badArea (s .width) (s .height) (areaAt (s .cells) c) ≡ false
   pub apart : (c d : ℕ) → c < cellsOf s → d < cellsOf s → (c ≡ d → ⊥) → overlap (areaAt (s .cells) c) (areaAt (s .cells) d) ≡ false
   pub runs : (c : ℕ) → c < cellsOf s → badRuns (s .cells) (length (s .colours)) (length (s .coords)) (length (s .ends)) c ≡ false
@@ -77,6 +78,7 @@ all-pass s e =
     record {
       channels = t .channels;
       lengths = t .lengths;
+      room = t .room;
       areas = first-past (λ c. badArea (s .width) (s .height) (areaAt (s .cells) c)) n (ltb-false _ n (t .areas));
       apart = λ c d l m h. dite (decLt c d) (λ b. f c d b m) (λ b. overlap-turned (areaAt (s .cells) c) (areaAt (s .cells) d) ∙ f d c (omega (arith, h)) l);
       runs = first-past (badRuns (s .cells) (length (s .colours)) (length (s .coords)) (length (s .ends))) n (ltb-false _ n (t .runs));
@@ -93,6 +95,7 @@ passes-all s p =
     rw (
       p .channels,
       p .lengths,
+      p .room,
       at-end (λ c. badArea (s .width) (s .height) (areaAt (s .cells) c)) n (p .areas),
       at-end (λ c. any c (λ d. overlap (areaAt (s .cells) d) (areaAt (s .cells) c))) n (λ c l. none-any (λ d. overlap (areaAt (s .cells) d) (areaAt (s .cells) c)) c (λ d b. p .apart d c (omega arith) l (λ e. absurd (omega arith)))),
       at-end (badRuns (s .cells) (length (s .colours)) (length (s .coords)) (length (s .ends))) n (p .runs),
@@ -112,6 +115,11 @@ module _ (s : Sheet) (e : sheetAccepted s ≡ true) where
   size c = area c .height * area c .width
 
   module _ (c : ℕ) (l : c < cellsOf s) where
+    -- the room is long enough for a cell too
+    cell-room : badRoom (area c .width) (length (s .room)) ≡ false
+    unfolding badRoom
+    cell-room = le-ltb (length (s .room)) (2 * area c .width) (omega (arith, made-ready .laid .inside c l .wide, good-room (s .width) (length (s .room)) (all-pass s e .room)))
+
     pub cell-refusal : refusalNumber (alone s c) ≡ 0
     unfolding alone
     cell-refusal =
@@ -122,7 +130,7 @@ module _ (s : Sheet) (e : sheetAccepted s ≡ true) where
         (i .any, omega (arith, i .wide, t .wide)) (i .some, omega (arith, i .high, t .high))
         (picked-length nan (size c * s .channels) (sampleShown g) (s .samples) ∙ ap (λ (k : ℕ). k * s .channels) (mul-comm (area c .height) (area c .width)))
         (picked-length 0 (size c) (cellShown g) (s .stencil) ∙ mul-comm (area c .height) (area c .width)) in
-        sym (by-content (alone s c) (sym z) refl {k = 0} {o = placeOf (alone s c) 0} (sym (all-pass s e .contents c l), refl) .0)
+        sym (by-content (alone s c) (sym z) refl cell-room {k = 0} {o = placeOf (alone s c) 0} (sym (all-pass s e .contents c l), refl) .0)
 
     pub cell-accepted : accepted (alone s c) ≡ true
     unfolding accepted
@@ -202,9 +210,9 @@ module _ (s : Sheet) (e : sheetAccepted s ≡ true) where
 
 -- ---- a refusal
 
-pub sheet-refused : (s : Sheet) → sheetAccepted s ≡ false → (sheetAnswer s ≡ Refused (failure s .number) (failure s .cell) (failure s .place)) × (sheetStencilAfter s ≡ s .stencil) × (sheetSamplesAfter s ≡ s .samples)
-unfolding sheetAnswer sheetStencilAfter sheetSamplesAfter
-sheet-refused s e = (simp e, simp e, simp e)
+pub sheet-refused : (s : Sheet) → sheetAccepted s ≡ false → (sheetAnswer s ≡ Refused (failure s .number) (failure s .cell) (failure s .place)) × (sheetStencilAfter s ≡ s .stencil) × (sheetSamplesAfter s ≡ s .samples) × (sheetRoomAfter s ≡ s .room)
+unfolding sheetAnswer sheetStencilAfter sheetSamplesAfter sheetRoomAfter
+sheet-refused s e = (simp e, simp e, simp e, simp e)
 
 -- ---- a cell that is the whole sheet
 
@@ -213,16 +221,21 @@ module _ (s : Sheet) (c : ℕ) (l : c < cellsOf s) (e : sheetAccepted s ≡ true
   window : windowAt s c ≡ whole (s .width) (s .height) (s .channels)
   window = ap (windowOf (s .width) (s .channels)) i ∙ ap (λ (o : ℕ). record { width = s .width; height = s .height; channels = s .channels; origin = o; stride = s .width }) (rw zero-mul (add-zero 0))
 
-  pub whole-alone : (alone s c .samples ≡ s .samples) × (alone s c .stencil ≡ s .stencil)
+  pub whole-alone : (alone s c .samples ≡ s .samples) × (alone s c .stencil ≡ s .stencil) × (alone s c .room ≡ s .room)
   unfolding alone
   whole-alone =
       let r = ready s (number-zero s e) in (
         ap (λ (g : Window). cutSamples g (s .samples)) window ∙ picked-all nan (s .height * s .width * s .channels) (sampleShown (whole (s .width) (s .height) (s .channels))) (s .samples) (r .laid .samples) (λ j b. whole-samples (s .width) (s .height) (s .channels) j),
         ap (λ (g : Window). cutCells g (s .stencil)) window ∙ picked-all 0 (s .height * s .width) (cellShown (whole (s .width) (s .height) (s .channels))) (s .stencil) (r .long) (λ k b. whole-cells (s .width) (s .height) (s .channels) k),
+        refl,
       )
 
+  whole-room : sheetRoomAfter s ≡ roomAfter (alone s c)
+  unfolding sheetRoomAfter alone
+  whole-room = simp e (sym (accepted-room (alone s c) (cell-accepted s e c l)))
+
   -- so the sheet is left as the pass leaves the bitmap
-  pub whole-left : (sheetStencilAfter s ≡ stencilAfter (alone s c)) × (sheetSamplesAfter s ≡ samplesAfter (alone s c))
+  pub whole-left : (sheetStencilAfter s ≡ stencilAfter (alone s c)) × (sheetSamplesAfter s ≡ samplesAfter (alone s c)) × (sheetRoomAfter s ≡ roomAfter (alone s c))
   unfolding sheetStencilAfter sheetStencil sheetSamplesAfter sheetSamples
   whole-left =
       let r = ready s (number-zero s e) in
@@ -233,4 +246,5 @@ module _ (s : Sheet) (c : ℕ) (l : c < cellsOf s) (e : sheetAccepted s ≡ true
       let xs : length (sheetSamplesAfter s) ≡ h * w * ch = simp e (tab-length (length (s .samples)) (sheetSample s) ∙ r .laid .samples) in (
         sym (ap (λ (g : Window). cutCells g (sheetStencilAfter s)) window ∙ picked-all 0 (h * w) (cellShown (whole w h ch)) (sheetStencilAfter s) st (λ k b. whole-cells w h ch k)) ∙ cell-stencil s e c l,
         sym (ap (λ (g : Window). cutSamples g (sheetSamplesAfter s)) window ∙ picked-all nan (h * w * ch) (sampleShown (whole w h ch)) (sheetSamplesAfter s) xs (λ j b. whole-samples w h ch j)) ∙ cell-samples s e c l,
+        whole-room,
       )

@@ -176,9 +176,9 @@ errors-tested i = errors-by-case i (accepted i) refl
 -- ---- a run of the public function, by its promise as it is read from the source: of the arguments a, the answer z and the arguments at exit e
 
 -- Its answer has at most 84 tests a texel,
-pub promise-tests : (κs : Lfts 5) (a : Dens κs ps) (z : _) (e : _) → entry.Post κs a z e → testsIn z ≤ given κs a .width * given κs a .height * 84
+pub promise-tests : (κs : Lfts 6) (a : Dens κs ps) (z : _) (e : _) → entry.Post κs a z e → testsIn z ≤ given κs a .width * given κs a .height * 84
 promise-tests κs a z e p = subst (λ (n : ℕ). n ≤ given κs a .width * given κs a .height * 84) (sym (p .0 .tests)) (test-count-le (given κs a))
 
 -- and at least as many as errors.
-pub promise-errors : (κs : Lfts 5) (a : Dens κs ps) (z : _) (e : _) → entry.Post κs a z e → errorsIn z ≤ testsIn z
+pub promise-errors : (κs : Lfts 6) (a : Dens κs ps) (z : _) (e : _) → entry.Post κs a z e → errorsIn z ≤ testsIn z
 promise-errors κs a z e p = omega (arith, p .0 .errors, p .0 .tests, errors-tested (given κs a))

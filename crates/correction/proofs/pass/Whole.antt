@@ -9,8 +9,9 @@ use mathlib.Core.List.{List, []}
 use Prim.Native.Nat.{ℕ, _*_}
 use lib.Dec.{eqb}
 use lib.ListN.{length}
-use lib.Ieee.{Float, nan}
+use lib.Ieee.{Float, binary32, nan}
 use borrow.Author.Tests.{eq-eqb, ne-eqb}
+use Rattle.numbers.specs.Constants.{zeroOf}
 use Rattle.ground.specs.Lists.{tab}
 use Rattle.ground.proofs.Laws.Fill.{tab-length}
 use Rattle.ground.proofs.Laws.Picked.{picked-all, pasted-all}
@@ -23,7 +24,7 @@ use Rattle.inputs.specs.Checks.{Input, input, accepted, contentRefusal, placeOf
 use Rattle.inputs.proofs.Laws.Windows.{whole-cells, whole-samples, whole-sampled, whole-stencilled}
 use Rattle.correction.specs.declared.pass.Answer.the-variants.{Accepted, Refused}
 use Rattle.correction.specs.Inner.{Cleared, cutOut}
-use Rattle.correction.specs.Pass.{texels, cornered, edgePriorityProtects, protects, flags, byteAt, testsAt, passStencil, passSamples, passTests, Answers, answer, stencilAfter, samplesAfter}
+use Rattle.correction.specs.Pass.{texels, cornered, edgePriorityProtects, protects, flags, byteAt, testsAt, passStencil, passSamples, passTests, Answers, answer, stencilAfter, samplesAfter, roomAfter}
 use Rattle.correction.proofs.Laws.Answer.{as-answered}
 
 module _ (i : Input) where
@@ -32,15 +33,15 @@ module _ (i : Input) where
 
   -- a window as a bitmap alone, as the checks are given it
   abbrev alone : Window → Input
-  alone g = input (g .width) (g .height) (g .channels) (cutSamples g (i .samples)) [] (i .mode) (i .settings) (i .colours) (i .coords) (i .ends)
+  alone g = input (g .width) (g .height) (g .channels) (cutSamples g (i .samples)) [] [] (i .mode) (i .settings) (i .colours) (i .coords) (i .ends)
 
   -- the same as the engine is given it
   abbrev cleared : Window → Input
   cleared g = cutOut g (i .samples) (i .mode) (i .settings) (i .colours) (i .coords) (i .ends)
 
-  -- an input with other samples and another stencil
+  -- an input with other samples, another stencil and no room
   abbrev with : List Float → List ℕ → Input
-  with xs st = input (i .width) (i .height) (i .channels) xs st (i .mode) (i .settings) (i .colours) (i .coords) (i .ends)
+  with xs st = input (i .width) (i .height) (i .channels) xs st [] (i .mode) (i .settings) (i .colours) (i .coords) (i .ends)
 
   module _ {g : Window} (e : g ≡ whole (i .width) (i .height) (i .channels)) (s : Sized (i .width) (i .height) (i .channels) (i .samples)) where
     pub held : Sampled g (i .samples)
@@ -81,15 +82,15 @@ module _ (i : Input) where
           )
 
   -- the number n and the place p of a refusal
-  pub refused : (n p : ℕ) → n ≡ refusalNumber i → p ≡ refusalPlace i → (n ≡ 0 → ⊥) → Answers i (Refused n p) × ((i .stencil ≡ stencilAfter i) × (i .samples ≡ samplesAfter i))
-  unfolding answer stencilAfter samplesAfter accepted
+  pub refused : (n p : ℕ) → n ≡ refusalNumber i → p ≡ refusalPlace i → (n ≡ 0 → ⊥) → Answers i (Refused n p) × ((i .stencil ≡ stencilAfter i) × ((i .samples ≡ samplesAfter i) × (i .room ≡ roomAfter i)))
+  unfolding answer stencilAfter samplesAfter roomAfter accepted
   refused n p e f h =
       let t : eqb (refusalNumber i) 0 ≡ false = ne-eqb _ 0 (λ q. h (e ∙ q)) in
-      (as-answered i (Refused n p) (simp (e, f, t)), (simp t, simp t))
+      (as-answered i (Refused n p) (simp (e, f, t)), (simp t, (simp t, simp t)))
 
-  pub answered : (st : List ℕ) (xs : List Float) (c : Counts) (t : ℕ) → refusalNumber i ≡ 0 → t ≡ passTests i → st ≡ passStencil i → xs ≡ passSamples i → c ≡ countsOf st → Answers i (Accepted c t) × ((st ≡ stencilAfter i) × (xs ≡ samplesAfter i))
-  unfolding answer stencilAfter samplesAfter accepted
-  answered st xs c t z o p q r =
+  pub answered : (st : List ℕ) (xs room : List Float) (c : Counts) (t : ℕ) → refusalNumber i ≡ 0 → t ≡ passTests i → st ≡ passStencil i → xs ≡ passSamples i → room ≡ tab (length (i .room)) (λ k. zeroOf binary32) → c ≡ countsOf st → Answers i (Accepted c t) × ((st ≡ stencilAfter i) × ((xs ≡ samplesAfter i) × (room ≡ roomAfter i)))
+  unfolding answer stencilAfter samplesAfter roomAfter accepted
+  answered st xs room c t z o p q m r =
       let a : eqb (refusalNumber i) 0 ≡ true = eq-eqb _ 0 z in
       let e : c ≡ countsOf (passStencil i) = r ∙ ap countsOf p in
-      (as-answered i (Accepted c t) (simp a (λ j. Accepted (e j) (o j))), (simp a p, simp a q))
+      (as-answered i (Accepted c t) (simp a (λ j. Accepted (e j) (o j))), (simp a p, (simp a q, simp a m)))

@@ -1,14 +1,15 @@
--- What checks 5 to 9 of a cell look at: its samples, its mode, its settings and its outlines, and no stencil. Assumes nothing.
+-- What checks 5 to 9 of a cell look at: its samples, its mode, its settings and its outlines, no stencil and no room. Assumes nothing.
 --     Passing          the cells before c pass theirs
 --     passing-none, passing-more   before the first cell, and after one that passes
 --     content-found    the cell after them fails: it is the first failure of all cells
 --     content-none     all cells pass
---     content-same     the first failure does not depend on the stencil
+--     content-same     the first failure depends neither on the stencil nor on the room
 use mathlib.Core.Path.{_≡_, refl, sym, _∙_}
 use mathlib.Core.Bool.{Bool, true, not}
 use mathlib.Core.List.{List}
 use Prim.Native.Nat.{ℕ, _+_, _<_, _≤_}
 use lib.Dec.{eqb}
+use lib.Ieee.{Float}
 use borrow.Author.Tests.{lt-ltb, le-ltb, eq-eqb, ne-eqb}
 use Rattle.ground.proofs.Laws.Search.{Searched, search-none, search-more, search-found, search-end}
 use Rattle.inputs.specs.Checks.{contentRefusal, placeOf}
@@ -45,6 +46,6 @@ module _ (s : Sheet) where
     unfolding contentFailure firstBad
     content-none l = rw (← search-end t l, le-ltb c (cellsOf s) l)
 
-pub content-same : (s : Sheet) (st : List ℕ) → contentFailure (sheet (s .width) (s .height) (s .channels) (s .samples) st (s .cells) (s .modes) (s .settings) (s .colours) (s .coords) (s .ends)) ≡ contentFailure s
+pub content-same : (s : Sheet) (st : List ℕ) (room : List Float) → contentFailure (sheet (s .width) (s .height) (s .channels) (s .samples) st room (s .cells) (s .modes) (s .settings) (s .colours) (s .coords) (s .ends)) ≡ contentFailure s
 unfolding contentFailure firstBad contentRefusal placeOf alone
-content-same s st = refl
+content-same s st room = refl

@@ -1,5 +1,5 @@
 -- Correcting the cells of a sheet one after the other. Assumes nothing.
---     pass-free         what the pass leaves of a bitmap does not rest on the stencil that it is given
+--     pass-free         what the pass leaves of a bitmap rests neither on the stencil that it is given nor on the room
 --     alone-with        nor does what it leaves of a cell rest on the samples outside
 --     alone-byte        a byte of a cell
 --     meets, meets-samples   no two cells share a place
@@ -42,19 +42,19 @@ pub record SameLeft (i j : Input) : Type 0 where
   pub samples : passSamples i ≡ passSamples j
   pub tests : passTests i ≡ passTests j
 
-pub pass-free : (w h ch : ℕ) (xs : List Float) (st st' : List ℕ) (mode : ℕ) (s : Settings) (colours : List ℕ) (coords : List Float) (ends : List ℕ) →
-    SameLeft (input w h ch xs st mode s colours coords ends) (input w h ch xs st' mode s colours coords ends)
+pub pass-free : (w h ch : ℕ) (xs : List Float) (st st' : List ℕ) (room room' : List Float) (mode : ℕ) (s : Settings) (colours : List ℕ) (coords : List Float) (ends : List ℕ) →
+    SameLeft (input w h ch xs st room mode s colours coords ends) (input w h ch xs st' room' mode s colours coords ends)
 unfolding passStencil passSamples passTests byteAt testsAt flags protects cornered edgePriorityProtects texels
-pass-free w h ch xs st st' mode s colours coords ends = record { stencil = refl; samples = refl; tests = refl }
+pass-free w h ch xs st st' room room' mode s colours coords ends = record { stencil = refl; samples = refl; tests = refl }
 
-pass-with : (w h ch : ℕ) (xs xs' : List Float) (st st' : List ℕ) (mode : ℕ) (s : Settings) (colours : List ℕ) (coords : List Float) (ends : List ℕ) → xs ≡ xs' →
-    SameLeft (input w h ch xs st mode s colours coords ends) (input w h ch xs' st' mode s colours coords ends)
-pass-with w h ch xs xs' st st' mode s colours coords ends e =
-    subst (λ (ys : List Float). SameLeft (input w h ch xs st mode s colours coords ends) (input w h ch ys st' mode s colours coords ends)) e (pass-free w h ch xs st st' mode s colours coords ends)
+pass-with : (w h ch : ℕ) (xs xs' : List Float) (st st' : List ℕ) (room room' : List Float) (mode : ℕ) (s : Settings) (colours : List ℕ) (coords : List Float) (ends : List ℕ) → xs ≡ xs' →
+    SameLeft (input w h ch xs st room mode s colours coords ends) (input w h ch xs' st' room' mode s colours coords ends)
+pass-with w h ch xs xs' st st' room room' mode s colours coords ends e =
+    subst (λ (ys : List Float). SameLeft (input w h ch xs st room mode s colours coords ends) (input w h ch ys st' room' mode s colours coords ends)) e (pass-free w h ch xs st st' room room' mode s colours coords ends)
 
-pub alone-with : (s : Sheet) (xs : List Float) (st : List ℕ) (c : ℕ) → cutSamples (windowAt s c) xs ≡ cutSamples (windowAt s c) (s .samples) → SameLeft (alone (with s xs st) c) (alone s c)
+pub alone-with : (s : Sheet) (xs : List Float) (st : List ℕ) (room : List Float) (c : ℕ) → cutSamples (windowAt s c) xs ≡ cutSamples (windowAt s c) (s .samples) → SameLeft (alone (with s xs st room) c) (alone s c)
 unfolding alone
-alone-with s xs st c e = pass-with _ _ _ _ _ _ _ _ _ _ _ _ e
+alone-with s xs st room c e = pass-with _ _ _ _ _ _ _ _ _ _ _ _ _ _ e
 
 -- a byte of a cell
 pub alone-byte : (s : Sheet) (c k : ℕ) → k < areaAt (s .cells) c .height * areaAt (s .cells) c .width → getD (passStencil (alone s c)) k 0 ≡ byteAt (alone s c) k

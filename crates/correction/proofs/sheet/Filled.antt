@@ -1,9 +1,9 @@
--- A sheet whose stencil is filled with zeros before its cells are corrected. Assumes nothing.
+-- A sheet whose stencil is filled with zeros before its cells are corrected, without its room. Assumes nothing.
 --     filled-zeros    a filled stencil by its own length
 --     ready-filled    the sheet is as ready as it was
---     left-filled     what is counted and left of it does not rest on the stencil
+--     left-filled     what is counted and left of it rests neither on the stencil nor on the room
 use mathlib.Core.Path.{_≡_, refl, sym, _∙_, ap}
-use mathlib.Core.List.{List}
+use mathlib.Core.List.{List, []}
 use Prim.Native.Nat.{ℕ}
 use lib.ListN.{length}
 use Rattle.ground.specs.Lists.{tab}
@@ -16,9 +16,9 @@ use Rattle.correction.proofs.sheet.Laid.{laid-with}
 pub filled-zeros : (n : ℕ) (st : List ℕ) → st ≡ tab n (λ k. 0) → st ≡ tab (length st) (λ k. 0)
 filled-zeros n st e = e ∙ ap (λ (m : ℕ). tab m (λ k. 0)) (sym (ap length e ∙ tab-length n (λ k. 0)))
 
-pub ready-filled : (s : Sheet) (st : List ℕ) → length st ≡ length (s .stencil) → Ready s → Ready (with s (s .samples) st)
-ready-filled s st e r = record { laid = laid-with s (s .samples) st refl (r .laid); long = e ∙ r .long; apart = r .apart; outlined = r .outlined }
+pub ready-filled : (s : Sheet) (st : List ℕ) → length st ≡ length (s .stencil) → Ready s → Ready (with s (s .samples) st [])
+ready-filled s st e r = record { laid = laid-with s (s .samples) st [] refl (r .laid); long = e ∙ r .long; apart = r .apart; outlined = r .outlined }
 
-pub left-filled : (s : Sheet) (st : List ℕ) → (tallies (with s (s .samples) st) ≡ tallies s) × ((sheetStencil (with s (s .samples) st) ≡ sheetStencil s) × (sheetSamples (with s (s .samples) st) ≡ sheetSamples s))
+pub left-filled : (s : Sheet) (st : List ℕ) → (tallies (with s (s .samples) st []) ≡ tallies s) × ((sheetStencil (with s (s .samples) st []) ≡ sheetStencil s) × (sheetSamples (with s (s .samples) st []) ≡ sheetSamples s))
 unfolding sheetCounts sheetTests overCells sheetStencil sheetByte sheetSamples sheetSample holder within alone passStencil passSamples passTests byteAt testsAt flags protects cornered edgePriorityProtects texels
 left-filled s st = (refl, (refl, refl))

@@ -59,7 +59,7 @@ module _ (s : Sheet) (c : ℕ) (k : Cell) (e : k ≡ cellAt (s .width) (s .chann
 
   abbrev handed : Input
   handed =
-      input (k .window .width) (k .window .height) (k .window .channels) (cutSamples (k .window) (s .samples)) [] (getD (s .modes) c 0) (k .settings)
+      input (k .window .width) (k .window .height) (k .window .channels) (cutSamples (k .window) (s .samples)) [] [] (getD (s .modes) c 0) (k .settings)
       (slice (k .colours) (s .colours)) (slice (k .coords) (s .coords)) (slice (k .ends) (s .ends))
 
   judged-alone : contentRefusal handed ≡ contentRefusal (alone s c)
@@ -92,7 +92,7 @@ module _ (s : Sheet) (c : ℕ) (k : Cell) (e : k ≡ cellAt (s .width) (s .chann
 
   left : SameLeft given (alone s c)
   unfolding alone
-  left = rw (slice-taken (k .colours) (s .colours), slice-taken (k .coords) (s .coords), slice-taken (k .ends) (s .ends), e) (pass-free _ _ _ _ _ _ _ _ _ _ _)
+  left = rw (slice-taken (k .colours) (s .colours), slice-taken (k .coords) (s .coords), slice-taken (k .ends) (s .ends), e) (pass-free _ _ _ _ _ _ _ _ _ _ _ _ _)
 
   module _ {st : List ℕ} (p : CellsPasted (k .window) (s .stencil) st (passStencil given)) where
     pub leaves : CellsPasted (windowAt s c) (s .stencil) st (passStencil (alone s c))

@@ -1,6 +1,6 @@
 -- What the checks of a sheet leave for the passes on its cells. Assumes nothing.
 --     laid         checks 1, 50, 51 and 53 pass
---     laid-with    that says nothing of the stencil, and of the samples only how many they are
+--     laid-with    that says nothing of the stencil and of the room, and of the samples only how many they are
 --     sampled      a cell's window has its samples
 --     stencilled   and its stencil cells
 --     stages       all checks pass, each stage by itself
@@ -20,7 +20,7 @@ use borrow.Author.Tests.{eqb-true, eqb-false, lt-ltb, not-true, not-false}
 use Rattle.ground.specs.Lists.{first}
 use Rattle.ground.proofs.Laws.Search.{first-past, first-holds}
 use Rattle.inputs.specs.Inner.{Fits, Sampled, Stencilled}
-use Rattle.inputs.specs.Checks.{badChannels, contentRefusal}
+use Rattle.inputs.specs.Checks.{badChannels, badRoom, contentRefusal}
 use Rattle.inputs.specs.Window.{cellIn}
 use Rattle.inputs.proofs.Laws.Checks.{channel-bound, content-outlined}
 use Rattle.inputs.proofs.Laws.Places.{cell-lt, cell-small, next-row}
@@ -52,9 +52,9 @@ laid s p q i r =
       ends = λ c l. t c l .ends;
     }
 
--- the same whatever its stencil is, and its samples, so long as they are as many
-pub laid-with : (s : Sheet) (xs : List Float) (st : List ℕ) → length xs ≡ length (s .samples) → Laid s → Laid (with s xs st)
-laid-with s xs st e t =
+-- the same whatever its stencil and its room are, and its samples, so long as they are as many
+pub laid-with : (s : Sheet) (xs : List Float) (st : List ℕ) (room : List Float) → length xs ≡ length (s .samples) → Laid s → Laid (with s xs st room)
+laid-with s xs st room e t =
     record {
       few = t .few;
       numbers = t .numbers;
@@ -132,6 +132,7 @@ content-zero s e c l =
 pub record Stages (s : Sheet) : Type 0 where
   pub channels : badChannels (s .channels) ≡ false
   pub lengths : badSheet (s .width) (s .height) (s .channels) (length (s .samples)) (length (s .stencil)) (length (s .cells)) (cellsOf s) (length (s .settings)) ≡ false
+  pub room : badRoom (s .width) (length (s .room)) ≡ false
   pub areas : ltb (firstOutside (s .width) (s .height) (s .cells) (cellsOf s)) (cellsOf s) ≡ false
   pub overlaps : ltb (firstOverlap (s .cells) (cellsOf s)) (cellsOf s) ≡ false
   pub runs : ltb (firstBadRun (s .cells) (cellsOf s) (length (s .colours)) (length (s .coords)) (length (s .ends))) (cellsOf s) ≡ false
@@ -142,10 +143,11 @@ unfolding failure
 stages s e =
     let a = passes (badChannels (s .channels)) (ofSheet 1) _ (λ z. absurd (omega arith)) e in
     let b = passes (badSheet (s .width) (s .height) (s .channels) (length (s .samples)) (length (s .stencil)) (length (s .cells)) (cellsOf s) (length (s .settings))) (ofSheet 50) _ (λ z. absurd (omega arith)) (a .1) in
-    let o = passes (ltb (firstOutside (s .width) (s .height) (s .cells) (cellsOf s)) (cellsOf s)) (ofCell 51 _) _ (λ z. absurd (omega arith)) (b .1) in
+    let m = passes (badRoom (s .width) (length (s .room))) (ofSheet 60) _ (λ z. absurd (omega arith)) (b .1) in
+    let o = passes (ltb (firstOutside (s .width) (s .height) (s .cells) (cellsOf s)) (cellsOf s)) (ofCell 51 _) _ (λ z. absurd (omega arith)) (m .1) in
     let v = passes (ltb (firstOverlap (s .cells) (cellsOf s)) (cellsOf s)) (ofCell 52 _) _ (λ z. absurd (omega arith)) (o .1) in
     let r = passes (ltb (firstBadRun (s .cells) (cellsOf s) (length (s .colours)) (length (s .coords)) (length (s .ends))) (cellsOf s)) (ofCell 53 _) (contentFailure s) (λ z. absurd (omega arith)) (v .1) in
-    record { channels = a .0; lengths = b .0; areas = o .0; overlaps = v .0; runs = r .0; contents = content-zero s (r .1) }
+    record { channels = a .0; lengths = b .0; room = m .0; areas = o .0; overlaps = v .0; runs = r .0; contents = content-zero s (r .1) }
 
 pub ready : (s : Sheet) → failure s .number ≡ 0 → Ready s
 unfolding alone

@@ -29,16 +29,16 @@ use Rattle.correction.proofs.sheet.Corrected.{Corrected, SameLeft, alon
 
 module _ (s : Sheet) (r : Ready s) (c : ℕ) (l : c < cellsOf s) {st : List ℕ} {xs : List Float} (i : Corrected s c st xs) where
   -- the cell as it stands is the cell as it was
-  same : SameLeft (alone (with s xs st) c) (alone s c)
-  same = alone-with s xs st c (i .rest c (omega arith) l .1)
+  same : SameLeft (alone (with s xs st (s .room)) c) (alone s c)
+  same = alone-with s xs st (s .room) c (i .rest c (omega arith) l .1)
 
-  pub corrected-step : {st' : List ℕ} {xs' : List Float} → CellsPasted (windowAt s c) st st' (passStencil (alone (with s xs st) c)) → SamplesPasted (windowAt s c) xs xs' (passSamples (alone (with s xs st) c)) → Corrected s (c + 1) st' xs'
+  pub corrected-step : {st' : List ℕ} {xs' : List Float} → CellsPasted (windowAt s c) st st' (passStencil (alone (with s xs st (s .room)) c)) → SamplesPasted (windowAt s c) xs xs' (passSamples (alone (with s xs st (s .room)) c)) → Corrected s (c + 1) st' xs'
   corrected-step p q =
       let a = areaAt (s .cells) c in
       corrected-next s r c l i (pasted-as 0 (a .height * a .width) (cellShown (windowAt s c)) p (same .stencil)) (pasted-as nan (a .height * a .width * s .channels) (sampleShown (windowAt s c)) q (same .samples))
 
   -- what is counted of it too
-  pub same-tally : {n : Tally} → n ≡ tallyOf (alone (with s xs st) c) → n ≡ tallyOf (alone s c)
+  pub same-tally : {n : Tally} → n ≡ tallyOf (alone (with s xs st (s .room)) c) → n ≡ tallyOf (alone s c)
   same-tally e = e ∙ rw (same .stencil, same .tests)
 
 -- ---- the sums

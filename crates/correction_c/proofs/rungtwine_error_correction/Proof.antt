@@ -14,17 +14,17 @@ parts i r r' e a = (ap numberOf (sym e) ∙ a .number, (ap placeIn (sym e) ∙ a
 returns : tie.Need-returns
 unfolding numberOf placeIn protectedIn errorsIn cornersIn testsIn
 returns c =
-    let p = c .before .before .before .before .before .before .before .msdf-error-correction .ensures in
+    let p = c .before .before .before .before .before .before .before .before .before .msdf-error-correction .ensures in
     let e = parts _ _ _ (c .before .c .given .1) (p .0) in
     (e .0, (e .1 .0, (e .1 .1 .0, (e .1 .1 .1 .0, (e .1 .1 .1 .1 .0, (e .1 .1 .1 .1 .1, p .1))))))
 
 returns-2 : tie.Need-returns-2
 unfolding numberOf placeIn protectedIn errorsIn cornersIn testsIn
 returns-2 c =
-    let p = c .before .before .before .before .before .before .before .msdf-error-correction .ensures in
+    let p = c .before .before .before .before .before .before .before .before .before .msdf-error-correction .ensures in
     let e = parts _ _ _ (c .before .n .given .1) (p .0) in
     (e .0, (e .1 .0, (e .1 .1 .0, (e .1 .1 .1 .0, (e .1 .1 .1 .1 .0, (e .1 .1 .1 .1 .1, p .1))))))
 
 pub rungtwine-error-correction-spec : {M : Type 1} → statement M
 rungtwine-error-correction-spec =
-    tie.close (tie.spec (λ c κs. search needs) (λ c. search needs) (λ c. search needs) (λ c. search needs) (λ c. search needs) returns (λ c. search needs) (λ c. search needs) returns-2)
+    tie.close (tie.spec (λ c κs. search needs) (λ c. search needs) (λ c. search needs) (λ c. search needs) (λ c. search needs) (λ c. search needs) returns (λ c. search needs) (λ c. search needs) (λ c. search needs) returns-2)

@@ -18,17 +18,17 @@ parts i r r' e a =
 returns : tie.Need-returns
 unfolding numberOf placeIn protectedIn errorsIn cornersIn
 returns c =
-    let p = c .before .before .before .before .before .before .before .plain-error-correction .ensures in
+    let p = c .before .before .before .before .before .before .before .before .before .plain-error-correction .ensures in
     let e = parts _ _ _ (c .before .c .given .1) (p .0) in
     (e .0, (e .1 .0, (e .1 .1 .0, (e .1 .1 .1 .0, (e .1 .1 .1 .1, p .1)))))
 
 returns-2 : tie.Need-returns-2
 unfolding numberOf placeIn protectedIn errorsIn cornersIn
 returns-2 c =
-    let p = c .before .before .before .before .before .before .before .plain-error-correction .ensures in
+    let p = c .before .before .before .before .before .before .before .before .before .plain-error-correction .ensures in
     let e = parts _ _ _ (c .before .n .given .1) (p .0) in
     (e .0, (e .1 .0, (e .1 .1 .0, (e .1 .1 .1 .0, (e .1 .1 .1 .1, p .1)))))
 
 pub rungtwine-plain-error-correction-spec : {M : Type 1} → statement M
 rungtwine-plain-error-correction-spec =
-    tie.close (tie.spec (λ c κs. search needs) (λ c. search needs) (λ c. search needs) (λ c. search needs) (λ c. search needs) returns (λ c. search needs) (λ c. search needs) returns-2)
+    tie.close (tie.spec (λ c κs. search needs) (λ c. search needs) (λ c. search needs) (λ c. search needs) (λ c. search needs) (λ c. search needs) returns (λ c. search needs) (λ c. search needs) (λ c. search needs) returns-2)

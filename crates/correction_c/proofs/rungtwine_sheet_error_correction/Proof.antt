@@ -42,17 +42,17 @@ told s r r' e a = subst (Told s) (sym a ∙ e) (by-case s (sheetAccepted s) refl
 returns : tie.Need-returns
 unfolding Told
 returns c =
-    let p = c .before .before .before .before .before .before .before .msdf-sheet-error-correction .ensures in
+    let p = c .before .before .before .before .before .before .before .before .before .msdf-sheet-error-correction .ensures in
     let e = told _ _ _ (c .before .c .given .1) (p .0) in
     (e .0, (e .1 .0, (e .1 .1 .0, (e .1 .1 .1 .0, (e .1 .1 .1 .1 .0, (e .1 .1 .1 .1 .1 .0, (e .1 .1 .1 .1 .1 .1, p .1)))))))
 
 returns-2 : tie.Need-returns-2
 unfolding Told
 returns-2 c =
-    let p = c .before .before .before .before .before .before .before .msdf-sheet-error-correction .ensures in
+    let p = c .before .before .before .before .before .before .before .before .before .msdf-sheet-error-correction .ensures in
     let e = told _ _ _ (c .before .n .given .1) (p .0) in
     (e .0, (e .1 .0, (e .1 .1 .0, (e .1 .1 .1 .0, (e .1 .1 .1 .1 .0, (e .1 .1 .1 .1 .1 .0, (e .1 .1 .1 .1 .1 .1, p .1)))))))
 
 pub rungtwine-sheet-error-correction-spec : {M : Type 1} → statement M
 rungtwine-sheet-error-correction-spec =
-    tie.close (tie.spec (λ c κs. search needs) (λ c. search needs) (λ c. search needs) (λ c. search needs) (λ c. search needs) returns (λ c. search needs) (λ c. search needs) returns-2)
+    tie.close (tie.spec (λ c κs. search needs) (λ c. search needs) (λ c. search needs) (λ c. search needs) (λ c. search needs) (λ c. search needs) returns (λ c. search needs) (λ c. search needs) (λ c. search needs) returns-2)

@@ -1,4 +1,4 @@
--- Each public function's promise determines its answer, and the stencil where it writes one: any two that it permits for the same arguments are the same. Assumes nothing.
+-- Each public function's promise determines its answer, and the stencil or the room where it writes one: any two that it permits for the same arguments are the same. Assumes nothing.
 -- `Post` is a function's promise as the checker makes it of the `ensures` in the source. No public function has a `requires`.
 use mathlib.Core.Path.{_≡_, _∙_}
 use denote.Ref.{now}
@@ -20,8 +20,11 @@ use Rattle.inputs.proofs.stencil.set_both.Reads as set-both
 use Rattle.inputs.proofs.stencil.fill.Reads as fill
 use Rattle.inputs.proofs.stencil.count_cells.Kinds as count-cells-kinds
 use Rattle.inputs.proofs.stencil.count_cells.Reads as count-cells
+use Rattle.inputs.proofs.room.clear.Reads as clear
 use Rattle.inputs.proofs.checks.size_refusal.Kinds as size-refusal-kinds
 use Rattle.inputs.proofs.checks.size_refusal.Reads as size-refusal
+use Rattle.inputs.proofs.checks.bad_room.Kinds as bad-room-kinds
+use Rattle.inputs.proofs.checks.bad_room.Reads as bad-room
 use Rattle.inputs.proofs.checks.settings_place.Kinds as settings-place-kinds
 use Rattle.inputs.proofs.checks.settings_place.Reads as settings-place
 use Rattle.inputs.proofs.checks.samples_place.Kinds as samples-place-kinds
@@ -56,6 +59,10 @@ set-both-alike κs a r s e f = alike
 pub filled-alike : (κs : _) (a : _) (z z' : _) (e e' : _) → fill.Post κs a z e → fill.Post κs a z' e' → now (e .0) ≡ now (e' .0)
 filled-alike κs a z z' e e' = alike
 
+-- A room of zeros: it answers nothing.
+pub cleared-alike : (κs : _) (a : _) (z z' : _) (e e' : _) → clear.Post κs a z e → clear.Post κs a z' e' → now (e .0) ≡ now (e' .0)
+cleared-alike κs a z z' e e' = alike
+
 -- The counts.
 pub count-cells-alike : Alike 1 count-cells-kinds.ps count-cells-kinds.r count-cells.Post
 count-cells-alike κs a r s e f = alike
@@ -63,6 +70,10 @@ count-cells-alike κs a r s e f = alike
 -- The first of checks 1 to 4 that fails.
 pub size-refusal-alike : Alike 0 size-refusal-kinds.ps size-refusal-kinds.r size-refusal.Post
 size-refusal-alike κs a r s e f = alike
+
+-- Whether check 60 fails.
+pub bad-room-alike : Alike 0 bad-room-kinds.ps bad-room-kinds.r bad-room.Post
+bad-room-alike κs a r s e f = alike
 
 -- The places of checks 5 and 6.
 pub settings-place-alike : Alike 0 settings-place-kinds.ps settings-place-kinds.r settings-place.Post

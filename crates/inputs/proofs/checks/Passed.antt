@@ -1,15 +1,15 @@
--- What passing each of checks 5 to 9 says, and all nine. Assumes nothing.
+-- What passing each of checks 60 and 5 to 9 says, and all checks. Assumes nothing.
 --     length-bounds  a length that is not bad is from 0 to the limit
 --     size-bounds    a sample or a coordinate that is not oversize is from minus the limit to the limit
 --     good-segment   a segment that is not bad has a colour of at most 7 and two coordinates that are not oversize
---     good-settings, good-samples, good-outlines, good-ends, good-segments   each check by itself
+--     good-room, good-settings, good-samples, good-outlines, good-ends, good-segments   each check by itself
 --     stages, staged   an answer 0 is one of each stage of the checks
 --     passed         so of each check
 --     ready          what the functions behind the checks ask for
 --     content-outlined   the same of the outlines, where checks 5 to 9 by themselves pass
 use mathlib.Core.Path.{_≡_, refl, subst, _∙_}
 use mathlib.Core.Bool.{true, false, not, _||_}
-use mathlib.Core.List.{List}
+use mathlib.Core.List.{List, _++_}
 use Prim.Native.Nat.{ℕ, suc, _+_, _*_, _<_, _≤_}
 use native.Mathlib.Omega.{arith}
 use lib.Dec.{eqb, ltb}
@@ -19,7 +19,7 @@ use borrow.Author.Tests.{eqb-true, ltb-false, not-false}
 use Rattle.numbers.specs.Constants.{zeroOf}
 use Rattle.ranges.specs.Constants.{limitOf}
 use Rattle.ranges.specs.declared.config.Settings.{Settings}
-use Rattle.inputs.specs.Checks.{Input, badLength, settingsPlace, badSettings, oversize, samplesPlace, badSamples, badOutlines, endBefore, badEnd, endsPlace, badEnds, badSegment, segmentsPlace, badSegments, outlineChecks, bitmapChecks, contentChecks, sizeRefusal, contentRefusal, refusalNumber}
+use Rattle.inputs.specs.Checks.{Input, badRoom, badLength, settingsPlace, badSettings, oversize, samplesPlace, badSamples, badOutlines, endBefore, badEnd, endsPlace, badEnds, badSegment, segmentsPlace, badSegments, outlineChecks, bitmapChecks, roomChecks, contentChecks, sizeRefusal, contentRefusal, refusalNumber}
 use Rattle.inputs.specs.Inner.{Sized, Outlined}
 use Rattle.inputs.proofs.checks.Ends.{before-next}
 use Rattle.inputs.proofs.checks.Measures.{sizes, sized, cells}
@@ -29,6 +29,7 @@ use Rattle.ground.proofs.Laws.Refuse.{Passes, none-fails, all-pass, zero-parts,
 
 pub record Passed (i : Input) : Type 0 where
   pub sizes : sizeRefusal (i .width) (i .height) (i .channels) (length (i .samples)) (length (i .stencil)) ≡ 0
+  pub room : 2 * i .width ≤ length (i .room)
   pub mode : i .mode ≤ 3
   pub ratio : badLength (i .settings .ratio) ≡ false
   pub horizontal : badLength (i .settings .horizontal) ≡ false
@@ -89,7 +90,11 @@ made colours coords ends p h =
       within = λ j l. good-end ends (length colours) j (h j l) .1;
     }
 
--- ---- the settings, the samples and the segments
+-- ---- the room, the settings, the samples and the segments
+
+pub good-room : (w n : ℕ) → badRoom w n ≡ false → 2 * w ≤ n
+unfolding badRoom
+good-room w n p = ltb-false n (2 * w) p
 
 pub good-settings : (mode : ℕ) (s : Settings) → badSettings mode s ≡ false → (mode ≤ 3) × (badLength (s .ratio) ≡ false) × (badLength (s .horizontal) ≡ false) × (badLength (s .vertical) ≡ false) × (badLength (s .diagonal) ≡ false)
 unfolding badSettings settingsPlace
@@ -114,6 +119,7 @@ good-segments colours coords p = first-past (badSegment colours coords) (length 
 -- an answer 0 stage by stage, before each is taken apart
 pub record Stages (i : Input) : Type 0 where
   pub sizes : sizeRefusal (i .width) (i .height) (i .channels) (length (i .samples)) (length (i .stencil)) ≡ 0
+  pub room : badRoom (i .width) (length (i .room)) ≡ false
   pub settings : badSettings (i .mode) (i .settings) ≡ false
   pub samples : badSamples (i .samples) ≡ false
   pub outlines : Passes (outlineChecks (i .colours) (i .coords) (i .ends))
@@ -121,14 +127,16 @@ pub record Stages (i : Input) : Type 0 where
 pub stages : (i : Input) → refusalNumber i ≡ 0 → Stages i
 unfolding refusalNumber sizeRefusal
 stages i p =
-    let a = zero-parts (bitmapChecks i) (contentChecks i) refl p in
-    let f = all-pass (contentChecks i) refl (a .1) in
-    record { sizes = a .0; settings = f .0; samples = f .1 .0; outlines = f .1 .1 }
+    let a = zero-parts (bitmapChecks i) (roomChecks i ++ contentChecks i) refl p in
+    let b = zero-parts (roomChecks i) (contentChecks i) refl (a .1) in
+    let f = all-pass (contentChecks i) refl (b .1) in
+    record { sizes = a .0; room = all-pass (roomChecks i) refl (b .0) .0; settings = f .0; samples = f .1 .0; outlines = f .1 .1 }
 
 pub staged : (i : Input) → Stages i → refusalNumber i ≡ 0
 unfolding refusalNumber sizeRefusal
 staged i s =
-    passes-to (bitmapChecks i) (contentChecks i) (all-pass (bitmapChecks i) refl (s .sizes))
+    passes-to (bitmapChecks i) (roomChecks i ++ contentChecks i) (all-pass (bitmapChecks i) refl (s .sizes))
+    ∙ passes-to (roomChecks i) (contentChecks i) (s .room, tt)
     ∙ none-fails (contentChecks i) (s .settings, (s .samples, s .outlines))
 
 pub passed : (i : Input) → refusalNumber i ≡ 0 → Passed i
@@ -138,6 +146,7 @@ passed i p =
     let e = good-ends (i .ends) (length (i .colours)) (t .outlines .1 .0) in
     record {
       sizes = t .sizes;
+      room = good-room (i .width) (length (i .room)) (t .room);
       mode = s .0;
       ratio = s .1;
       horizontal = s .2;

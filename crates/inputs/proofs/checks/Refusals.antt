@@ -2,19 +2,21 @@
 --     below, not-below   a test of a place, by what the code compares
 --     content-settings, content-samples, content-outlines   of checks 5 to 9 by themselves, the one that answers
 --     by-sizes           one of checks 1 to 4 fails
---     by-content         those pass, so checks 5 to 9 answer
---     by-settings        those pass, and check 5 fails
---     by-samples         those pass, and check 6 fails
---     by-outlines        those pass, so checks 7 to 9 answer, with r and its place o
+--     by-room            those pass, and check 60 fails
+--     by-content         those and check 60 pass, so checks 5 to 9 answer
+--     by-settings        the same, and check 5 fails
+--     by-samples         the same, and check 6 fails
+--     by-outlines        the same, so checks 7 to 9 answer, with r and its place o
 use mathlib.Core.Path.{_≡_, refl, sym, _∙_, ap, subst}
 use mathlib.Core.Bool.{true, false}
+use mathlib.Core.List.{[], _++_}
 use Prim.Native.Nat.{ℕ, _<_, _≤_}
 use lib.Dec.{ltb}
 use lib.ListN.{length}
 use borrow.Author.Tests.{lt-ltb, le-ltb}
 use Rattle.ground.specs.Refuse.{firstFailing}
-use Rattle.inputs.specs.Checks.{Input, settingsPlace, badSettings, samplesPlace, badSamples, outlineChecks, bitmapChecks, contentChecks, sizeRefusal, outlineRefusal, contentRefusal, refusalNumber, outlinePlace, placeOf, refusalPlace}
-use Rattle.ground.proofs.Laws.Refuse.{all-pass, fails-in, passes-to, answer-is}
+use Rattle.inputs.specs.Checks.{Input, badRoom, settingsPlace, badSettings, samplesPlace, badSamples, outlineChecks, bitmapChecks, roomChecks, contentChecks, sizeRefusal, outlineRefusal, contentRefusal, refusalNumber, outlinePlace, placeOf, refusalPlace}
+use Rattle.ground.proofs.Laws.Refuse.{all-pass, fails-at, fails-in, passes-to, answer-is}
 
 pub below : {p q : ℕ} (n : ℕ) → p ≡ q → p < n → ltb q n ≡ true
 below n e l = lt-ltb _ n (subst (λ (k : ℕ). k < n) e l)
@@ -53,21 +55,31 @@ module _ (i : Input) where
     pub by-sizes : (n ≡ 0 → ⊥) → (n ≡ refusalNumber i) × (0 ≡ refusalPlace i)
     unfolding sizeRefusal refusalNumber placeOf outlinePlace
     by-sizes h =
-        answers (e ∙ sym (fails-in (bitmapChecks i) (contentChecks i) (λ z. h (e ∙ z))))
+        answers (e ∙ sym (fails-in (bitmapChecks i) (roomChecks i ++ contentChecks i) (λ z. h (e ∙ z))))
         (answer-is (λ k. 0 ≡ placeOf i k) (bitmapChecks i) refl (refl, (refl, (refl, (refl, tt)))) ∙ ap (placeOf i) (sym e))
 
     module _ (z : n ≡ 0) where
-      pub by-content : {k o : ℕ} → (k ≡ contentRefusal i) × (o ≡ placeOf i k) → (k ≡ refusalNumber i) × (o ≡ refusalPlace i)
-      unfolding sizeRefusal refusalNumber contentRefusal
-      by-content a = answers (a .0 ∙ sym (passes-to (bitmapChecks i) (contentChecks i) (all-pass (bitmapChecks i) refl (sym e ∙ z)))) (a .1)
+      -- so the rest answers
+      to-room : refusalNumber i ≡ firstFailing (roomChecks i ++ contentChecks i)
+      unfolding sizeRefusal refusalNumber
+      to-room = passes-to (bitmapChecks i) (roomChecks i ++ contentChecks i) (all-pass (bitmapChecks i) refl (sym e ∙ z))
 
-      module _ {p : ℕ} (f : p ≡ settingsPlace (i .mode) (i .settings)) where
-        pub by-settings : p < 5 → (5 ≡ refusalNumber i) × (p ≡ refusalPlace i)
-        by-settings l = by-content (content-settings f l)
+      pub by-room : badRoom (i .width) (length (i .room)) ≡ true → (60 ≡ refusalNumber i) × (0 ≡ refusalPlace i)
+      unfolding placeOf outlinePlace
+      by-room b = answers (sym (to-room ∙ fails-at [] (badRoom (i .width) (length (i .room))) 60 (contentChecks i) tt b)) refl
 
-        module _ (t : 5 ≤ p) {q : ℕ} (g : q ≡ samplesPlace (i .samples)) where
-          pub by-samples : q < length (i .samples) → (6 ≡ refusalNumber i) × (q ≡ refusalPlace i)
-          by-samples l = by-content (content-samples f t g l)
+      module _ (b : badRoom (i .width) (length (i .room)) ≡ false) where
+        pub by-content : {k o : ℕ} → (k ≡ contentRefusal i) × (o ≡ placeOf i k) → (k ≡ refusalNumber i) × (o ≡ refusalPlace i)
+        unfolding contentRefusal
+        by-content a = answers (a .0 ∙ sym (to-room ∙ passes-to (roomChecks i) (contentChecks i) (b, tt))) (a .1)
 
-          pub by-outlines : length (i .samples) ≤ q → {r o : ℕ} → r ≡ outlineRefusal (i .colours) (i .coords) (i .ends) → o ≡ outlinePlace (i .colours) (i .coords) (i .ends) r → (r ≡ refusalNumber i) × (o ≡ refusalPlace i)
-          by-outlines l a b = by-content (content-outlines f t g l a b)
+        module _ {p : ℕ} (f : p ≡ settingsPlace (i .mode) (i .settings)) where
+          pub by-settings : p < 5 → (5 ≡ refusalNumber i) × (p ≡ refusalPlace i)
+          by-settings l = by-content (content-settings f l)
+
+          module _ (t : 5 ≤ p) {q : ℕ} (g : q ≡ samplesPlace (i .samples)) where
+            pub by-samples : q < length (i .samples) → (6 ≡ refusalNumber i) × (q ≡ refusalPlace i)
+            by-samples l = by-content (content-samples f t g l)
+
+            pub by-outlines : length (i .samples) ≤ q → {r o : ℕ} → r ≡ outlineRefusal (i .colours) (i .coords) (i .ends) → o ≡ outlinePlace (i .colours) (i .coords) (i .ends) r → (r ≡ refusalNumber i) × (o ≡ refusalPlace i)
+            by-outlines l a b = by-content (content-outlines f t g l a b)

@@ -13,6 +13,10 @@ plain-answers-alike κs a z z' e e' p q = alike (p .0) (q .0)
 pub plain-stencils-alike : (κs : _) (a : _) (z z' : _) (e e' : _) → entry.Post κs a z e → entry.Post κs a z' e' → now (e .1 .1 .1 .1 .0) ≡ now (e' .1 .1 .1 .1 .0)
 plain-stencils-alike κs a z z' e e' p q = alike (p .1 .0) (q .1 .0)
 
--- and two lists of samples, the fourth.
+-- two lists of samples, the fourth,
 pub plain-samples-alike : (κs : _) (a : _) (z z' : _) (e e' : _) → entry.Post κs a z e → entry.Post κs a z' e' → now (e .1 .1 .1 .0) ≡ now (e' .1 .1 .1 .0)
-plain-samples-alike κs a z z' e e' p q = alike (p .1 .1) (q .1 .1)
+plain-samples-alike κs a z z' e e' p q = alike (p .1 .1 .0) (q .1 .1 .0)
+
+-- and two rooms, the sixth.
+pub plain-rooms-alike : (κs : _) (a : _) (z z' : _) (e e' : _) → entry.Post κs a z e → entry.Post κs a z' e' → now (e .1 .1 .1 .1 .1 .0) ≡ now (e' .1 .1 .1 .1 .1 .0)
+plain-rooms-alike κs a z z' e e' p q = alike (p .1 .1 .1) (q .1 .1 .1)

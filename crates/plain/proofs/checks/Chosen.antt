@@ -2,7 +2,7 @@
 --     area-small, volume-small   products of sizes that are at most so large fit
 --     sizes-chosen      of checks 1 to 4
 --     outlines-chosen   of checks 7 to 9, where check 7 passes
---     all-chosen        of all nine
+--     all-chosen        of all
 use mathlib.Core.Path.{_≡_, refl, sym, _∙_}
 use mathlib.Core.Bool.{Bool, true, false, cond, not}
 use mathlib.Core.List.{List}
@@ -13,8 +13,8 @@ use lib.ListN.{length}
 use lib.Ieee.{Float}
 use borrow.Author.Tests.{eqb-true, eqb-false, ltb-true, ltb-false, le-leb}
 use Rattle.ground.specs.Refuse.{firstFailing}
-use Rattle.inputs.specs.Checks.{Input, badChannels, badSize, badSampleCount, badCellCount, settingsPlace, samplesPlace, badOutlines, endsPlace, badEnds, segmentsPlace, badSegments, sizeRefusal, outlineRefusal, outlinePlace, refusalNumber, refusalPlace}
-use Rattle.inputs.proofs.Laws.Checks.{channel-bound, size-bound, by-sizes, by-settings, by-samples, by-outlines}
+use Rattle.inputs.specs.Checks.{Input, badChannels, badSize, badSampleCount, badCellCount, badRoom, settingsPlace, samplesPlace, badOutlines, endsPlace, badEnds, segmentsPlace, badSegments, sizeRefusal, outlineRefusal, outlinePlace, refusalNumber, refusalPlace}
+use Rattle.inputs.proofs.Laws.Checks.{channel-bound, size-bound, by-sizes, by-room, by-settings, by-samples, by-outlines}
 
 pub area-small : {w h : ℕ} → w ≤ 4096 → h ≤ 4096 → w * h ≤ 16777216
 area-small p q = mul-le-mul p q
@@ -50,13 +50,14 @@ module _ (colours : List ℕ) (coords : List Float) (ends : List ℕ) where
       go false true = h
       go false false = refl
 
-module _ (i : Input) {n p q r o : ℕ} (e : n ≡ sizeRefusal (i .width) (i .height) (i .channels) (length (i .samples)) (length (i .stencil))) (f : p ≡ settingsPlace (i .mode) (i .settings)) (g : q ≡ samplesPlace (i .samples))
-    (h : r ≡ outlineRefusal (i .colours) (i .coords) (i .ends)) (k : o ≡ outlinePlace (i .colours) (i .coords) (i .ends) r) where
-  pub all-chosen : (cond (not (eqb n 0)) n (cond (ltb p 5) 5 (cond (ltb q (length (i .samples))) 6 r)) ≡ refusalNumber i) × (cond (not (eqb n 0)) 0 (cond (ltb p 5) p (cond (ltb q (length (i .samples))) q o)) ≡ refusalPlace i)
-  all-chosen = go (eqb n 0) (ltb p 5) (ltb q (length (i .samples))) refl refl refl
+module _ (i : Input) {n p q r o : ℕ} {m : Bool} (e : n ≡ sizeRefusal (i .width) (i .height) (i .channels) (length (i .samples)) (length (i .stencil))) (d : m ≡ badRoom (i .width) (length (i .room)))
+    (f : p ≡ settingsPlace (i .mode) (i .settings)) (g : q ≡ samplesPlace (i .samples)) (h : r ≡ outlineRefusal (i .colours) (i .coords) (i .ends)) (k : o ≡ outlinePlace (i .colours) (i .coords) (i .ends) r) where
+  pub all-chosen : (cond (not (eqb n 0)) n (cond m 60 (cond (ltb p 5) 5 (cond (ltb q (length (i .samples))) 6 r))) ≡ refusalNumber i) × (cond (not (eqb n 0)) 0 (cond m 0 (cond (ltb p 5) p (cond (ltb q (length (i .samples))) q o))) ≡ refusalPlace i)
+  all-chosen = go (eqb n 0) m (ltb p 5) (ltb q (length (i .samples))) refl refl refl refl
     where
-      go : (a b c : Bool) → eqb n 0 ≡ a → ltb p 5 ≡ b → ltb q (length (i .samples)) ≡ c → (cond (not a) n (cond b 5 (cond c 6 r)) ≡ refusalNumber i) × (cond (not a) 0 (cond b p (cond c q o)) ≡ refusalPlace i)
-      go false b c x y z = by-sizes i e (eqb-false n 0 x)
-      go true true c x y z = by-settings i e (eqb-true n 0 x) f (ltb-true p 5 y)
-      go true false true x y z = by-samples i e (eqb-true n 0 x) f (ltb-false p 5 y) g (ltb-true q _ z)
-      go true false false x y z = by-outlines i e (eqb-true n 0 x) f (ltb-false p 5 y) g (ltb-false q _ z) h k
+      go : (a s b c : Bool) → eqb n 0 ≡ a → m ≡ s → ltb p 5 ≡ b → ltb q (length (i .samples)) ≡ c → (cond (not a) n (cond s 60 (cond b 5 (cond c 6 r))) ≡ refusalNumber i) × (cond (not a) 0 (cond s 0 (cond b p (cond c q o))) ≡ refusalPlace i)
+      go false s b c x w y z = by-sizes i e (eqb-false n 0 x)
+      go true true b c x w y z = by-room i e (eqb-true n 0 x) (sym d ∙ w)
+      go true false true c x w y z = by-settings i e (eqb-true n 0 x) (sym d ∙ w) f (ltb-true p 5 y)
+      go true false false true x w y z = by-samples i e (eqb-true n 0 x) (sym d ∙ w) f (ltb-false p 5 y) g (ltb-true q _ z)
+      go true false false false x w y z = by-outlines i e (eqb-true n 0 x) (sym d ∙ w) f (ltb-false p 5 y) g (ltb-false q _ z) h k

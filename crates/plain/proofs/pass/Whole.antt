@@ -12,8 +12,9 @@ use native.Mathlib.Nat.{mul-comm, mul-le-mul}
 use native.Mathlib.Omega.{arith}
 use lib.Dec.{eqb}
 use lib.ListN.{length, getD}
-use lib.Ieee.{Float}
+use lib.Ieee.{Float, binary32}
 use borrow.Author.Tests.{eq-eqb, ne-eqb}
+use Rattle.numbers.specs.Constants.{zeroOf}
 use Rattle.ground.specs.Lists.{tab, painted}
 use Rattle.ground.proofs.Laws.Fill.{tab-length, tab-at, tab-same}
 use Rattle.ranges.specs.Config.{edgePriority, edgeOnly}
@@ -26,7 +27,7 @@ use Rattle.correction.specs.Corners.{contours, cornersProtect}
 use Rattle.correction.specs.Edges.{edgesProtect}
 use Rattle.correction.specs.Bitmap.{texel}
 use Rattle.correction.specs.Collapse.{collapsed}
-use Rattle.correction.specs.Pass.{texels, cornered, edgePriorityProtects, protects, flags, byteAt, passStencil, passSamples, answer, stencilAfter, samplesAfter}
+use Rattle.correction.specs.Pass.{texels, cornered, edgePriorityProtects, protects, flags, byteAt, passStencil, passSamples, answer, stencilAfter, samplesAfter, roomAfter}
 use Rattle.correction.proofs.Laws.Collapse.{collapsed-same}
 use Rattle.plain.specs.declared.pass.Answer.the-variants.{Accepted, Refused}
 use Rattle.plain.specs.Inner.{corner, protectedBy, byteBy, Collapsible}
@@ -110,15 +111,15 @@ module _ (i : Input) where
 
   -- ---- the answer
 
-  pub refused : (n p : ℕ) → n ≡ refusalNumber i → p ≡ refusalPlace i → (n ≡ 0 → ⊥) → (Refused n p ≡ plainAnswer i) × ((i .stencil ≡ stencilAfter i) × (i .samples ≡ samplesAfter i))
-  unfolding plainAnswer untested answer stencilAfter samplesAfter accepted
+  pub refused : (n p : ℕ) → n ≡ refusalNumber i → p ≡ refusalPlace i → (n ≡ 0 → ⊥) → (Refused n p ≡ plainAnswer i) × ((i .stencil ≡ stencilAfter i) × ((i .samples ≡ samplesAfter i) × (i .room ≡ roomAfter i)))
+  unfolding plainAnswer untested answer stencilAfter samplesAfter roomAfter accepted
   refused n p e f h =
       let t : eqb (refusalNumber i) 0 ≡ false = ne-eqb _ 0 (λ q. h (e ∙ q)) in
-      (simp (e, f, t), (simp t, simp t))
+      (simp (e, f, t), (simp t, (simp t, simp t)))
 
-  pub answered : (st : List ℕ) (xs : List Float) (c : Counts) → refusalNumber i ≡ 0 → st ≡ passStencil i → xs ≡ passSamples i → c ≡ countsOf st → (Accepted c ≡ plainAnswer i) × ((st ≡ stencilAfter i) × (xs ≡ samplesAfter i))
-  unfolding plainAnswer untested answer stencilAfter samplesAfter accepted
-  answered st xs c z p q r =
+  pub answered : (st : List ℕ) (xs room : List Float) (c : Counts) → refusalNumber i ≡ 0 → st ≡ passStencil i → xs ≡ passSamples i → room ≡ tab (length (i .room)) (λ k. zeroOf binary32) → c ≡ countsOf st → (Accepted c ≡ plainAnswer i) × ((st ≡ stencilAfter i) × ((xs ≡ samplesAfter i) × (room ≡ roomAfter i)))
+  unfolding plainAnswer untested answer stencilAfter samplesAfter roomAfter accepted
+  answered st xs room c z p q m r =
       let a : eqb (refusalNumber i) 0 ≡ true = eq-eqb _ 0 z in
       let e : c ≡ countsOf (passStencil i) = r ∙ ap countsOf p in
-      (simp a (λ j. Accepted (e j)), (simp a p, simp a q))
+      (simp a (λ j. Accepted (e j)), (simp a p, (simp a q, simp a m)))

@@ -1,20 +1,25 @@
 -- How large the numbers are that are printed: the place of a breach, a refusal with its place, and the counts; and that a text fits where it is written. Assumes nothing.
 use mathlib.Core.Bool.{Bool, true, false, cond, not}
 use mathlib.Core.List.{List, _++_}
-use mathlib.Core.Path.{_≡_, refl, ap, _∙_}
+use mathlib.Core.Path.{_≡_, refl, ap, _∙_, subst}
+use mathlib.Core.Logic.{dite}
 use Prim.Native.Nat.{ℕ, zero, suc, _+_, _*_, _/_, _%_, _≤_, _<_}
 use native.Mathlib.Nat.{le-trans}
+use native.Mathlib.Decide.{ℕ-discrete}
 use native.Mathlib.Omega.{arith}
 use lib.Dec.{eqb, ltb, leb}
-use lib.Ieee.{Float}
+use lib.Ieee.{Float, binary32}
 use lib.ListN.{length, getD, length-append}
-use borrow.Author.Tests.{eqb-true, ltb-true, ltb-false, leb-false}
+use borrow.Author.Tests.{eqb-true, ltb-true, ltb-false, le-ltb, leb-false}
+use Rattle.numbers.specs.Constants.{zeroOf}
 use Rattle.ground.specs.Lists.{joined}
 use Rattle.ground.proofs.Laws.Fill.{tab-length}
 use Rattle.ground.proofs.Laws.Refuse.{answer-is}
 use Rattle.ground.proofs.Laws.Search.{first-le}
-use Rattle.inputs.specs.Checks.{Input, badLength, settingsPlace, samplesPlace, endsPlace, segmentsPlace, outlinePlace, placeOf, checks, refusalNumber, refusalPlace}
+use Rattle.inputs.specs.Checks.{Input, badLength, settingsPlace, samplesPlace, endsPlace, segmentsPlace, outlinePlace, placeOf, badRoom, bitmapChecks, contentChecks, checks, sizeRefusal, contentRefusal, refusalNumber, refusalPlace}
+use Rattle.inputs.proofs.Laws.Checks.{sizes, by-sizes, by-content}
 use Rattle.ranges.specs.declared.config.Settings.{Settings}
+use Rattle.reading.specs.Answer.{lentRoom, caseOf}
 use Rattle.reading.specs.Case.{segments, contourColours, coloursOf, endsOf}
 use Rattle.reading.specs.Grammar.{fine, orElse, lengthAt, headBreach, bodyBreach, fieldBreach, sizeBreach, settingsBreach, contourBreach, start, before, goodContour, contoursFrom, contours, isContour, rowsAt, outlineBreach, rowSize, rowsBreach, endAt, endBreach, breach, width, height, channels}
 use Rattle.reading.proofs.fields.Breaches.{test-fine, both-fine}
@@ -91,11 +96,27 @@ breach-short s e = ltb-false 65536 (length s) (test-fine (ltb 65536 (length s)) 
 
 -- ---- a refusal and its place
 
--- a refusal is by one of nine checks
-pub refusal-number-le : (i : Input) → refusalNumber i ≤ 9
+-- a refusal is by one of ten checks, 1 to 9 and 60
+pub refusal-number-le : (i : Input) → refusalNumber i ≤ 60
 unfolding refusalNumber
 refusal-number-le i =
-    answer-is (λ (n : ℕ). n ≤ 9) (checks i) (omega arith) (omega arith, (omega arith, (omega arith, (omega arith, (omega arith, (omega arith, (omega arith, (omega arith, (omega arith, tt)))))))))
+    answer-is (λ (n : ℕ). n ≤ 60) (checks i) (omega arith) (omega arith, (omega arith, (omega arith, (omega arith, (omega arith, (omega arith, (omega arith, (omega arith, (omega arith, (omega arith, tt))))))))))
+
+-- the room that is lent is long enough for every bitmap that checks 1 to 4 let through, so check 60 refuses no input
+pub room-enough : (s : List ℕ) → refusalNumber (caseOf s) ≤ 9
+unfolding sizeRefusal contentRefusal badRoom lentRoom
+room-enough s =
+    let i = caseOf s in
+    let n : ℕ = sizeRefusal (i .width) (i .height) (i .channels) (length (i .samples)) (length (i .stencil)) in
+    dite (ℕ-discrete n 0)
+    (λ z.
+    let w = sizes (i .width) (i .height) (i .channels) (length (i .samples)) (length (i .stencil)) z .wide .1 in
+    let b : badRoom (i .width) (length lentRoom) ≡ false = le-ltb (length lentRoom) (2 * i .width) (omega (arith, tab-length 8192 (λ k. zeroOf binary32))) in
+    let c : contentRefusal i ≤ 9 = answer-is (λ (k : ℕ). k ≤ 9) (contentChecks i) (omega arith) (omega arith, (omega arith, (omega arith, (omega arith, (omega arith, tt))))) in
+    subst (λ (k : ℕ). k ≤ 9) (by-content i refl z b {k = contentRefusal i} {o = placeOf i (contentRefusal i)} (refl, refl) .0) c)
+    (λ h.
+    let c : n ≤ 9 = answer-is (λ (k : ℕ). k ≤ 9) (bitmapChecks i) (omega arith) (omega arith, (omega arith, (omega arith, (omega arith, tt)))) in
+    subst (λ (k : ℕ). k ≤ 9) (by-sizes i refl h .0) c)
 
 settings-place-le : (mode : ℕ) (s : Settings) → settingsPlace mode s ≤ 5
 unfolding settingsPlace

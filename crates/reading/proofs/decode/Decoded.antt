@@ -12,7 +12,7 @@ use Rattle.ground.specs.Write.{Written}
 use Rattle.ground.proofs.Laws.Fill.{tab-length}
 use Rattle.ground.proofs.Laws.Write.{written-as, written-to, written-length, tab-none, tab-next, tab-all, joined-none, joined-next, joined-all}
 use Rattle.inputs.specs.Checks.{input}
-use Rattle.reading.specs.Answer.{settingsOf, caseOf}
+use Rattle.reading.specs.Answer.{settingsOf, lentRoom, caseOf}
 use Rattle.reading.specs.Case.{modeOf, segments, rowSamples, contourColours, contourCoords, samplesOf, coloursOf, coordsOf, endsOf}
 use Rattle.reading.specs.Grammar.{lengthAt, start, before, contours, width, height, channels, rowsAt}
 use Rattle.reading.specs.Inner.{Told, Outlined, Whole, Decoded}
@@ -163,5 +163,5 @@ module _ {s : List ℕ} {rows k n w h : ℕ} (a : Whole s rows k n) (ew : w ≡ 
 
   -- the decoded case is the one that the input means
   pub decoded-case : {xs : List Float} {st cs : List ℕ} {ps : List Float} {es : List ℕ} → xs ≡ samplesOf s → st ≡ tab (w * h) (λ k. 0) → cs ≡ coloursOf s → ps ≡ coordsOf s → es ≡ endsOf s
-      → input w h (channels s) xs st (modeOf s) (settingsOf s) cs ps es ≡ caseOf s
+      → input w h (channels s) xs st lentRoom (modeOf s) (settingsOf s) cs ps es ≡ caseOf s
   decoded-case p q e f g = rw (p, q, e, f, g, ew, eh)

@@ -1,13 +1,16 @@
 -- What an accepted case leaves in the stencil, and the samples that it was given, are what is printed of it. Assumes nothing.
 use mathlib.Core.Bool.{Bool, true, false, cond}
-use mathlib.Core.List.{List}
+use mathlib.Core.List.{List, _∷_}
 use mathlib.Core.Path.{_≡_, refl, sym, ap, _∙_}
-use Prim.Native.Nat.{ℕ, _*_, _≤_, _<_}
+use Prim.Native.Nat.{ℕ, zero, suc, _*_, _≤_, _<_}
 use native.Mathlib.Nat.{mul-le-mul-left}
 use native.Mathlib.Omega.{arith}
-use lib.Ieee.{Float}
-use lib.ListN.{length}
+use lib.Ieee.{Float, binary32}
+use lib.ListN.{length, replicate}
 use borrow.Author.Tests.{eqb-true}
+use Rattle.numbers.specs.Constants.{zeroOf}
+use Rattle.ground.specs.Lists.{tab}
+use Rattle.ranges.specs.declared.config.Settings.{Settings}
 use Rattle.inputs.specs.Checks.{Input, refusalNumber, accepted}
 use Rattle.inputs.proofs.Laws.Checks.{sizes, passed}
 use Rattle.correction.specs.Bitmap.{cellTexel}
@@ -17,6 +20,7 @@ use Rattle.correction.specs.declared.pass.Answer.the-variants as first
 use Rattle.inputs.specs.declared.stencil.Counts.{Counts}
 use Rattle.plain.specs.Answer.{plainAnswer, untested}
 use Rattle.reading.specs.Inner.{countsLine, ofPass, ofPlain, judged, judgedText}
+use Rattle.reading.specs.Answer.{lentRoom}
 use Rattle.reading.specs.Text.{acceptedWith, refusedText}
 use Rattle.reading.specs.declared.text.Tests.{Tests}
 use Rattle.reading.specs.declared.engines.Judged.the-variants.{Accepted, Refused}
@@ -90,3 +94,19 @@ roomy plain i c t st xs e few p q =
 pub refused-text : (plain : Bool) (i : Input) (n p : ℕ) → Refused n p ≡ judged plain i → refusedText n p ≡ judgedText i (judged plain i)
 unfolding judgedText
 refused-text plain i n p e = ap (judgedText i) e
+
+-- ---- the room
+
+repeated : {A : Type 0} (n : ℕ) (v : A) → replicate n v ≡ tab n (λ k. v)
+unfolding tab
+repeated zero v = refl
+repeated (suc n) v = ap (λ l. v ∷ l) (repeated n v)
+
+-- what an array of zeros lends
+pub lent : replicate 8192 (zeroOf binary32) ≡ lentRoom
+unfolding lentRoom
+lent = repeated 8192 (zeroOf binary32)
+
+-- what is printed in it, with the settings as the input has them
+pub printed-as : (plain : Bool) (f : Settings → List Float → Input) {t u : Settings} → t ≡ u → let r = replicate 8192 (zeroOf binary32) in judgedText (f t r) (judged plain (f t r)) ≡ judgedText (f u lentRoom) (judged plain (f u lentRoom))
+printed-as plain f e = λ j. judgedText (f (e j) (lent j)) (judged plain (f (e j) (lent j)))

@@ -91,14 +91,27 @@ returns-5 c =
     let o = left (d .before .before) in
     rw (o .0, o .1, le-ltb _ _ (d .if3 .left), eq-eqb _ _ (e .if4 .left), ne-eqb _ _ (c .if5 .taken))
 
-returns-6 : tie.Need-returns-6
-returns-6 c =
+-- check 50 passes
+passes : (c : tie.Else5) → let a = c .before .before .before .before .before .before .before .before .before .before .before .args in (badChannels (a .b .channels) ≡ false) × (badSheet (a .b .width) (a .b .height) (a .b .channels) (a .n .samples) (a .n .stencil) (a .n .cells) (a .n .modes) (a .n .settings) ≡ false)
+passes c =
     let e = c .before .before .before in
     let d = e .before .before .before in
     let o = left (d .before .before) in
-    rw (o .0, o .1, le-ltb _ _ (d .if3 .left), eq-eqb _ _ (e .if4 .left), eq-eqb _ _ (c .if5 .left))
+    (o .0, rw (o .1, le-ltb _ _ (d .if3 .left), eq-eqb _ _ (e .if4 .left), eq-eqb _ _ (c .if5 .left)))
+
+returns-6 : tie.Need-returns-6
+returns-6 c =
+    let b = c .before in
+    let o = passes (b .before) in
+    rw (o .0, o .1, sym (b .bad-room .ensures) ∙ c .if6 .taken)
+
+returns-7 : tie.Need-returns-7
+returns-7 c =
+    let b = c .before in
+    let o = passes (b .before) in
+    rw (o .0, o .1, sym (b .bad-room .ensures) ∙ c .if6 .left)
 
 pub sheet-refusal-spec : {M : Type 1} → statement M
 sheet-refusal-spec =
     tie.close
-    (tie.spec (λ c κs. search needs) returns returns-2 returns-3 (λ c. search needs) returns-4 (λ c. search needs) returns-5 returns-6)
+    (tie.spec (λ c κs. search needs) returns returns-2 returns-3 (λ c. search needs) returns-4 (λ c. search needs) returns-5 (λ c κs. search needs) returns-6 returns-7)

@@ -9,8 +9,8 @@ use Rattle.correction.proofs.sheet.check.Tie as tie
 -- the sheet
 abbrev given : tie.After-sheet-refusal → Sheet
 given c =
-    let a = c .before .before .before .before .before .before .before .before .before .args in
-    sheet (a .b .width) (a .b .height) (a .b .channels) (now (a .xs)) (now (a .stencil)) (now (a .cells)) (now (a .modes)) (now (a .settings)) (now (a .colours)) (now (a .coords)) (now (a .ends))
+    let a = c .before .before .before .before .before .before .before .before .before .before .args in
+    sheet (a .b .width) (a .b .height) (a .b .channels) (now (a .xs)) (now (a .stencil)) (now (a .room)) (now (a .cells)) (now (a .modes)) (now (a .settings)) (now (a .colours)) (now (a .coords)) (now (a .ends))
 
 returns : tie.Need-returns
 returns c = by-sheet (given (c .before)) (c .before .sheet-refusal .ensures) (c .if1 .taken)

@@ -14,7 +14,7 @@ use Rattle.correction.proofs.sheet.check_cell.Tie as tie
 abbrev given : tie.Start → Sheet
 given c =
     let a = c .args in
-    sheet (a .b .width) (a .b .height) (a .b .channels) (now (a .xs)) [] (now (a .cells)) (now (a .modes)) (now (a .settings)) (now (a .colours)) (now (a .coords)) (now (a .ends))
+    sheet (a .b .width) (a .b .height) (a .b .channels) (now (a .xs)) [] [] (now (a .cells)) (now (a .modes)) (now (a .settings)) (now (a .colours)) (now (a .coords)) (now (a .ends))
 
 -- the call, as later places see it
 abbrev start : tie.After-cell-at → tie.Start

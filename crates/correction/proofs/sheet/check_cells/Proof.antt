@@ -10,7 +10,7 @@ use Rattle.correction.proofs.sheet.check_cells.Statement.{statement}
 use Rattle.correction.proofs.sheet.check_cells.Tie as tie
 
 abbrev Inv-loop : tie.InvT-loop
-Inv-loop b xs cells modes settings colours coords ends c₀ c = Passing (sheet (b .width) (b .height) (b .channels) xs [] cells modes settings colours coords ends) c
+Inv-loop b xs cells modes settings colours coords ends c₀ c = Passing (sheet (b .width) (b .height) (b .channels) xs [] [] cells modes settings colours coords ends) c
 
 abbrev μ-loop : tie.MeasureT-loop
 μ-loop b xs cells modes settings colours coords ends c₀ c = length modes - c

@@ -1,4 +1,5 @@
 -- `correction::sheet::correct_cell` meets its contract: what is handed to the engine is the cell alone. Assumes nothing.
+use mathlib.Core.List.{[]}
 use native.Mathlib.Omega.{arith}
 use lib.ListN.{length}
 use denote.Ref.{now}
@@ -14,7 +15,7 @@ use Rattle.correction.proofs.sheet.correct_cell.Tie as tie
 abbrev given : tie.Start → Sheet
 given c =
     let a = c .args in
-    sheet (a .b .width) (a .b .height) (a .b .channels) (now (a .xs)) (now (a .stencil)) (now (a .cells)) (now (a .modes)) (now (a .settings)) (now (a .colours)) (now (a .coords)) (now (a .ends))
+    sheet (a .b .width) (a .b .height) (a .b .channels) (now (a .xs)) (now (a .stencil)) [] (now (a .cells)) (now (a .modes)) (now (a .settings)) (now (a .colours)) (now (a .coords)) (now (a .ends))
 
 -- the call, as later places see it
 abbrev start : tie.After-cell-at → tie.Start

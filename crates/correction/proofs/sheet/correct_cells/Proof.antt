@@ -1,5 +1,6 @@
 -- `correction::sheet::correct_cells` meets its contract: the cells before the loop's are corrected, and counted. Assumes nothing.
 use mathlib.Core.Path.{_∙_}
+use mathlib.Core.List.{[]}
 use Prim.Native.Nat.{_-_, _*_, _<_, _≤_}
 use native.Mathlib.Nat.{mul-comm}
 use native.Mathlib.Omega.{arith}
@@ -14,7 +15,7 @@ use Rattle.correction.proofs.sheet.correct_cells.Tie as tie
 
 abbrev Inv-loop : tie.InvT-loop
 Inv-loop stencil₀ xs₀ b cells modes settings colours coords ends p₀ e₀ r₀ t₀ c₀ stencil xs p e r t c =
-    let s = sheet (b .width) (b .height) (b .channels) xs₀ stencil₀ cells modes settings colours coords ends in
+    let s = sheet (b .width) (b .height) (b .channels) xs₀ stencil₀ [] cells modes settings colours coords ends in
     Corrected s c stencil xs × Summed s c p e r t × (c ≤ length modes)
 
 abbrev μ-loop : tie.MeasureT-loop
@@ -27,7 +28,7 @@ begun l = l .before .before .before .before .before .before .before .before .bef
 abbrev given : tie.Start Inv-loop μ-loop → Sheet
 given c =
     let a = c .args in
-    sheet (a .b .width) (a .b .height) (a .b .channels) (now (a .xs)) (now (a .stencil)) (now (a .cells)) (now (a .modes)) (now (a .settings)) (now (a .colours)) (now (a .coords)) (now (a .ends))
+    sheet (a .b .width) (a .b .height) (a .b .channels) (now (a .xs)) (now (a .stencil)) [] (now (a .cells)) (now (a .modes)) (now (a .settings)) (now (a .colours)) (now (a .coords)) (now (a .ends))
 
 -- the turn, once its cell is corrected
 abbrev turn : tie.After-correct-cell Inv-loop μ-loop → tie.In-loop Inv-loop μ-loop
@@ -44,7 +45,7 @@ correct-cell-requires c κs =
     let i = l .loop .inv .0 in
     let r = s .pre .0 in
     let b = t .loop-test .taken in
-    ((laid-with (given s) _ _ (i .many) (r .laid), b, r .outlined _ b), (i .long ∙ r .long, i .rest _ (omega arith) b .0))
+    ((laid-with (given s) _ _ [] (i .many) (r .laid), b, r .outlined _ b), (i .long ∙ r .long, i .rest _ (omega arith) b .0))
 
 -- the cell's counts, and the sums before it, are small
 small : (k : tie.After-correct-cell Inv-loop μ-loop) → let n = k .correct-cell .result in (n .protected ≤ 16777216) × (n .error ≤ 16777216) × (n .corner ≤ 16777216) × (n .tests ≤ 1409286144)

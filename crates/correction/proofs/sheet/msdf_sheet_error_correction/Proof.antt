@@ -16,11 +16,11 @@ use Rattle.correction.proofs.sheet.msdf_sheet_error_correction.Tie as t
 abbrev given : tie.Start → Sheet
 given c =
     let a = c .args in
-    sheet (a .width) (a .height) (a .channels) (now (a .samples)) (now (a .stencil)) (now (a .cells)) (now (a .modes)) (now (a .settings)) (now (a .colours)) (now (a .coords)) (now (a .ends))
+    sheet (a .width) (a .height) (a .channels) (now (a .samples)) (now (a .stencil)) (now (a .room)) (now (a .cells)) (now (a .modes)) (now (a .settings)) (now (a .colours)) (now (a .coords)) (now (a .ends))
 
 -- the call, as later places see it
 abbrev start : tie.After-check → tie.Start
-start c = c .before .before .before .before .before .before .before .before .before .before .before
+start c = c .before .before .before .before .before .before .before .before .before .before .before .before .before
 
 returns : tie.Need-returns
 returns c =
@@ -40,14 +40,15 @@ correct-cells-requires c κs =
 
 returns-2 : tie.Need-returns-2
 returns-2 c =
-    let d = c .before .before .before .before in
+    let r = c .before .before in
+    let d = r .before .before .before .before .before .before in
     let f = d .before .before .before .before .before in
     let k = checked f in
     let g = given (start k) in
     let e = d .correct-cells .ensures in
     let l = left-filled g _ in
-    answered g _ _ _ _ (k .check .ensures) (f .before .before .if1 .left) (e .0 ∙ l .0) (e .1 .0 ∙ l .1 .0) (e .1 .1 ∙ l .1 .1)
+    answered g _ _ _ _ _ (k .check .ensures) (f .before .before .if1 .left) (e .0 ∙ l .0) (e .1 .0 ∙ l .1 .0) (e .1 .1 ∙ l .1 .1) (r .clear .ensures)
 
 pub msdf-sheet-error-correction-spec : {M : Type 1} → statement M
 msdf-sheet-error-correction-spec =
-    tie.close (tie.spec (λ c κs. tt) (λ c. search needs) (λ c. search needs) returns (λ c κs. tt) correct-cells-requires (λ c. search needs) (λ c. search needs) returns-2)
+    tie.close (tie.spec (λ c κs. tt) (λ c. search needs) (λ c. search needs) (λ c. search needs) returns (λ c κs. tt) correct-cells-requires (λ c κs. tt) (λ c. search needs) (λ c. search needs) (λ c. search needs) returns-2)

@@ -14,7 +14,7 @@ use Rattle.correction.proofs.window.check.Tie as tie
 
 -- the window as a bitmap alone
 abbrev given : tie.Start → Input
-given c = let a = c .args in input (a .b .width) (a .b .height) (a .b .channels) (cutSamples (a .b) (now (a .xs))) [] (a .mode) (a .s) (now (a .colours)) (now (a .coords)) (now (a .ends))
+given c = let a = c .args in input (a .b .width) (a .b .height) (a .b .channels) (cutSamples (a .b) (now (a .xs))) [] [] (a .mode) (a .s) (now (a .colours)) (now (a .coords)) (now (a .ends))
 
 returns : tie.Need-returns
 returns c =
