@@ -2,4 +2,5 @@
 pub mod Centres
 pub mod Places
 pub mod Sweep
+pub mod Stretch
 pub mod Sizes

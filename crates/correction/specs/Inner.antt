@@ -2,19 +2,21 @@
 use mathlib.Core.Path.{_≡_}
 use Prim.Native.Nat.{ℕ, zero, suc, _+_, _-_, _*_, _/_, _%_, _≤_, _<_}
 use mathlib.Core.Bool.{Bool, false, cond, _&&_, _||_}
-use mathlib.Core.List.{List, []}
+use mathlib.Core.List.{List, [], _∷_}
 use lib.ListN.{getD, length}
 use lib.Dec.{eqb, ltb}
 use lib.IntN.{ℤ, pos, negsuc}
-use lib.Ieee.{Float}
+use lib.Ieee.{Float, nan}
 use Rattle.ranges.specs.declared.config.Settings.{Settings}
 use Rattle.detectors.specs.Texel.{texelMedian}
+use Rattle.detectors.specs.Orders.{orderCode}
 use Rattle.detectors.specs.Edge.{protectsLower, protectsUpper}
 use Rattle.inputs.specs.declared.sizes.Window.{Window}
 use Rattle.inputs.specs.Window.{cellIn, cutCells, cutSamples}
 use Rattle.inputs.specs.Checks.{Input, input}
 use Rattle.correction.specs.declared.bitmap.Visit.{Visit}
 use Rattle.correction.specs.declared.bitmap.Centre.{Centre}
+use Rattle.correction.specs.declared.errors.Scan.{Scan}
 use Rattle.ground.specs.Lists.{tab, total}
 use Rattle.correction.specs.Bitmap.{cell, texel, inBounds}
 use Rattle.inputs.specs.Stencil.{stencilByte, isProtected, setCorner, setProtected, setError}
@@ -94,3 +96,71 @@ cutOut g xs mode s colours coords ends = input (g .width) (g .height) (g .channe
 -- the stencil that protection leaves
 unfoldable pub shieldedCells : Input → List ℕ
 shieldedCells i = tab (i .height * i .width) (λ k. stencilByte (cornered i (k % i .width) (k / i .width)) (protects i (k % i .width) (k / i .width)) false)
+
+-- the four texels of the diagonal test of texel a at x, y against the one at u, v
+abbrev pub fourOf : (ℕ → ℕ → List Float) → List Float → ℕ → ℕ → ℕ → ℕ → List (List Float)
+fourOf tex a x y u v = a ∷ tex u y ∷ tex x v ∷ tex u v ∷ []
+
+-- ---- orders, while errors are found
+
+-- each cell of a window has no more than the three bits
+abbrev pub Plain : Window → List ℕ → Type 0
+Plain g st = (x y : ℕ) → x < g .width → y < g .height → getD st (cellIn g x y) 0 < 8
+
+-- the order that stands above the three bits in the cell of texel x, y of a window
+abbrev pub orderIn : Window → List ℕ → ℕ → ℕ → ℕ
+orderIn g st x y = getD st (cellIn g x y) 0 / 8
+
+-- in each cell of a window stands the order of its texel
+abbrev pub Ordered : Window → List Float → List ℕ → Type 0
+Ordered g xs st = (x y : ℕ) → x < g .width → y < g .height → orderIn g st x y ≡ orderCode (texel (cutSamples g xs) (g .width) (g .channels) x y)
+
+-- cells with the orders of their texels above the three bits, and without them
+unfoldable pub withOrders : List Float → ℕ → ℕ → List ℕ → List ℕ
+withOrders xs w ch st = tab (length st) (λ k. getD st k 0 + 8 * orderCode (texel xs w ch (k % w) (k / w)))
+
+unfoldable pub withoutOrders : List ℕ → List ℕ
+withoutOrders st = tab (length st) (λ k. getD st k 0 % 8)
+
+-- texel x, y and all around it have one order, which is beyond doubt
+pub record Settled (g : Window) (st : List ℕ) (x y : ℕ) : Type 0 where
+  pub beyond : 1 ≤ orderIn g st x y
+  pub around : (u v : ℕ) → u < g .width → v < g .height → u ≤ x + 1 → x ≤ u + 1 → v ≤ y + 1 → y ≤ v + 1 → orderIn g st u v ≡ orderIn g st x y
+
+-- the column or row after one of n, or itself where it is the last
+abbrev pub nextIn : ℕ → ℕ → ℕ
+nextIn x n = cond (ltb (x + 1) n) (x + 1) x
+
+-- the order of the texels of column x in row y and the rows beside it, where it is one; else 0
+abbrev pub columnIn : Window → List ℕ → ℕ → ℕ → ℕ
+columnIn g st x y =
+    let o = orderIn g st x y in
+    cond (eqb (orderIn g st x (y - 1)) o && eqb (orderIn g st x (nextIn y (g .height))) o) o 0
+
+-- a scan along row y has come to column x, and knows the orders of that column and of the one before; or past the last
+pub record Scanned (g : Window) (st : List ℕ) (y : ℕ) (at : Scan) : Type 0 where
+  pub few : at .x ≤ g .width
+  pub left : at .x < g .width → at .left ≡ columnIn g st (at .x - 1) y
+  pub here : at .x < g .width → at .here ≡ columnIn g st (at .x) y
+
+-- the cells after finding in row y, and the range tests made in it
+unfoldable pub rowFound : List Float → ℕ → ℕ → ℕ → Settings → ℕ → List ℕ → List ℕ
+rowFound xs w h ch s y st = tab (length st) (λ k. cond (eqb (k / w) y) (marked xs w h ch s (getD st k 0) (k % w) (k / w)) (getD st k 0))
+
+unfoldable pub rowMade : List Float → ℕ → ℕ → ℕ → Settings → ℕ → List ℕ → ℕ
+rowMade xs w h ch s y st = total w (λ x. madeFor xs w h ch s (getD st (cell w x y) 0) x y)
+
+-- ---- medians, while edges are protected
+
+-- where the medians of row y start in the room: two rows by turns
+abbrev pub rowPlace : Window → ℕ → ℕ
+rowPlace g y = y % 2 * g .width
+
+-- the room has the medians of row y
+abbrev pub Medians : Window → List Float → List Float → ℕ → Type 0
+Medians g xs room y = (x : ℕ) → x < g .width → getD room (rowPlace g y + x) nan ≡ texelMedian (texel (cutSamples g xs) (g .width) (g .channels) x y)
+
+-- and those of row y and of the next, where there is one
+pub record Rows (g : Window) (xs : List Float) (room : List Float) (y : ℕ) : Type 0 where
+  pub own : Medians g xs room y
+  pub next : y + 1 < g .height → Medians g xs room (y + 1)

@@ -4,9 +4,10 @@ ghost use Prim.Native.Nat.{_+_, _*_, _<_};
 ghost use mathlib.Core.Bool.{cond};
 ghost use lib.ListN.{length, getD};
 ghost use Rattle.correction.specs.Collapse as Collapse;
+ghost use Rattle.correction.specs.Inner.{withoutOrders};
 ghost use Rattle.correction.specs.Numbered.{collapsedAt};
 ghost use Rattle.inputs.specs.Inner.{Sampled, Stencilled};
-ghost use Rattle.inputs.specs.Window.{cellIn, cutCells, cutSamples, SamplesPasted};
+ghost use Rattle.inputs.specs.Window.{cellIn, cutCells, cutSamples, CellsPasted, SamplesPasted};
 ghost use Rattle.inputs.specs.Stencil.{isError};
 use crate::bitmap;
 use detectors::texel;
@@ -35,16 +36,19 @@ fn collapse_flagged(xs: &mut [f32], b: Window, v: u8, x: usize, y: usize)
     }
 }
 
-// Collapses each texel whose cell has the error bit.
-pub fn apply(stencil: &[u8], xs: &mut [f32], b: Window)
+// Collapses each texel whose cell has the error bit, and leaves no order in a cell.
+pub fn apply(stencil: &mut [u8], xs: &mut [f32], b: Window)
     requires { ⌜ Sampled b (now xs) ⌝ }
     requires { ⌜ Stencilled b (now stencil) ⌝ }
-    ensures { λ _. ⌜ SamplesPasted b (now (xs .entry)) (now (xs .exit)) (Collapse.collapsed (cutSamples b (now (xs .entry))) (b .channels) (λ k. isError (getD (cutCells b (now (stencil .entry))) k 0))) ⌝ }
+    ensures leaves { λ _. ⌜ CellsPasted b (now (stencil .entry)) (now (stencil .exit)) (withoutOrders (cutCells b (now (stencil .entry)))) ⌝ }
+    ensures writes { λ _. ⌜ SamplesPasted b (now (xs .entry)) (now (xs .exit)) (Collapse.collapsed (cutSamples b (now (xs .entry))) (b .channels) (λ k. isError (getD (cutCells b (now (stencil .entry))) k 0))) ⌝ }
 {
     let mut at = bitmap::first(b);
     while at.y < b.height {
         let k = at.number;
-        collapse_flagged(xs, b, stencil[k], at.x, at.y);
+        let v = stencil[k];
+        stencil[k] = v % stencil::ORDER;
+        collapse_flagged(xs, b, v, at.x, at.y);
         at = bitmap::next(b, at);
     }
 }

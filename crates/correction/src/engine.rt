@@ -1,5 +1,7 @@
 // The engine: protection, finding and collapsing on a window of a sheet. A bitmap alone is the window that is the whole.
 ghost use mathlib.Core.Path.{_≡_};
+ghost use Prim.Native.Nat.{_*_, _≤_};
+ghost use lib.ListN.{length};
 ghost use Rattle.correction.specs.Pass as Pass;
 ghost use Rattle.inputs.specs.Inner.{Sampled, Stencilled, Outlined};
 ghost use Rattle.inputs.specs.Window.{CellsPasted, SamplesPasted};
@@ -8,6 +10,7 @@ use crate::collapse;
 use crate::corners;
 use crate::edges;
 use crate::errors;
+use crate::orders;
 use crate::window;
 use inputs::sizes::Window;
 use ranges::config;
@@ -17,6 +20,7 @@ use ranges::config::Settings;
 fn protect(
     stencil: &mut [u8],
     xs: &[f32],
+    room: &mut [f32],
     b: Window,
     mode: u8,
     s: Settings,
@@ -24,7 +28,7 @@ fn protect(
     coords: &[f64],
     ends: &[usize],
 )
-    requires { ⌜ Sampled b (now xs) ⌝ }
+    requires { ⌜ Sampled b (now xs) × (2 * b .width ≤ length (now room)) ⌝ }
     requires { ⌜ Stencilled b (now stencil) × Cleared b (now stencil) ⌝ }
     requires { ⌜ Outlined (now colours) (now coords) (now ends) ⌝ }
     ensures { λ _. ⌜ CellsPasted b (now (stencil .entry)) (now (stencil .exit)) (shieldedCells (cutOut b (now (xs .entry)) mode s (now (colours .entry)) (now (coords .entry)) (now (ends .entry)))) ⌝ }
@@ -35,7 +39,7 @@ fn protect(
     }
     if mode == config::EDGE_PRIORITY {
         corners::protect_corners(stencil, b, colours, coords, ends);
-        edges::protect_edges(stencil, xs, b, s);
+        edges::protect_edges(stencil, xs, room, b, s);
     }
 }
 
@@ -43,6 +47,7 @@ fn protect(
 pub fn correct(
     stencil: &mut [u8],
     xs: &mut [f32],
+    room: &mut [f32],
     b: Window,
     mode: u8,
     s: Settings,
@@ -50,7 +55,7 @@ pub fn correct(
     coords: &[f64],
     ends: &[usize],
 ) -> usize
-    requires { ⌜ Sampled b (now xs) ⌝ }
+    requires { ⌜ Sampled b (now xs) × (2 * b .width ≤ length (now room)) ⌝ }
     requires { ⌜ Stencilled b (now stencil) × Cleared b (now stencil) ⌝ }
     requires { ⌜ Outlined (now colours) (now coords) (now ends) ⌝ }
     ensures makes { λ r. ⌜ r ≡ Pass.passTests (cutOut b (now (xs .entry)) mode s (now (colours .entry)) (now (coords .entry)) (now (ends .entry))) ⌝ }
@@ -60,7 +65,8 @@ pub fn correct(
     if mode == config::DISABLED {
         return 0;
     }
-    protect(stencil, xs, b, mode, s, colours, coords, ends);
+    protect(stencil, xs, room, b, mode, s, colours, coords, ends);
+    orders::write_orders(stencil, xs, b);
     let tests = errors::find_errors(stencil, xs, b, s);
     collapse::apply(stencil, xs, b);
     tests

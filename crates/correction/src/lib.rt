@@ -6,6 +6,7 @@ mod corners;
 mod edges;
 mod engine;
 mod errors;
+mod orders;
 pub mod pass;
 pub mod sheet;
 pub mod view;

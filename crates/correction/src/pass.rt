@@ -55,7 +55,17 @@ pub fn msdf_error_correction(
         return Answer::Refused(f.number, f.place);
     }
     stencil::fill(stencil, 0);
-    let tests = engine::correct(stencil, samples, g, mode, settings, colours, coords, ends);
+    let tests = engine::correct(
+        stencil,
+        samples,
+        room,
+        g,
+        mode,
+        settings,
+        colours,
+        coords,
+        ends,
+    );
     room::clear(room);
     Answer::Accepted(stencil::count_cells(stencil), tests)
 }

@@ -174,6 +174,7 @@ pub fn check(
 fn correct_cell(
     stencil: &mut [u8],
     xs: &mut [f32],
+    room: &mut [f32],
     b: Bitmap,
     cells: &[usize],
     modes: &[u8],
@@ -186,6 +187,7 @@ fn correct_cell(
     requires { ⌜ Laid (sheet (b .width) (b .height) (b .channels) (now xs) (now stencil) [] (now cells) (now modes) (now settings) (now colours) (now coords) (now ends)) × (c < length (now modes)) × CellOutlined (sheet (b .width) (b .height) (b .channels) (now xs) (now stencil) [] (now cells) (now modes) (now settings) (now colours) (now coords) (now ends)) c ⌝ }
     requires { ⌜ length (now stencil) ≡ b .height * b .width ⌝ }
     requires { ⌜ Cleared (Sheet.windowAt (sheet (b .width) (b .height) (b .channels) (now xs) (now stencil) [] (now cells) (now modes) (now settings) (now colours) (now coords) (now ends)) c) (now stencil) ⌝ }
+    requires { ⌜ 2 * b .width ≤ length (now room) ⌝ }
     ensures counts { λ r. ⌜ r ≡ tallyOf (Sheet.alone (sheet (b .width) (b .height) (b .channels) (now (xs .entry)) (now (stencil .entry)) [] (now (cells .entry)) (now (modes .entry)) (now (settings .entry)) (now (colours .entry)) (now (coords .entry)) (now (ends .entry))) c) ⌝ }
     ensures leaves { λ _. ⌜ CellsPasted (Sheet.windowAt (sheet (b .width) (b .height) (b .channels) (now (xs .entry)) (now (stencil .entry)) [] (now (cells .entry)) (now (modes .entry)) (now (settings .entry)) (now (colours .entry)) (now (coords .entry)) (now (ends .entry))) c) (now (stencil .entry)) (now (stencil .exit)) (passStencil (Sheet.alone (sheet (b .width) (b .height) (b .channels) (now (xs .entry)) (now (stencil .entry)) [] (now (cells .entry)) (now (modes .entry)) (now (settings .entry)) (now (colours .entry)) (now (coords .entry)) (now (ends .entry))) c)) ⌝ }
     ensures writes { λ _. ⌜ SamplesPasted (Sheet.windowAt (sheet (b .width) (b .height) (b .channels) (now (xs .entry)) (now (stencil .entry)) [] (now (cells .entry)) (now (modes .entry)) (now (settings .entry)) (now (colours .entry)) (now (coords .entry)) (now (ends .entry))) c) (now (xs .entry)) (now (xs .exit)) (passSamples (Sheet.alone (sheet (b .width) (b .height) (b .channels) (now (xs .entry)) (now (stencil .entry)) [] (now (cells .entry)) (now (modes .entry)) (now (settings .entry)) (now (colours .entry)) (now (coords .entry)) (now (ends .entry))) c)) ⌝ }
@@ -202,6 +204,7 @@ fn correct_cell(
     let tests = engine::correct(
         stencil,
         xs,
+        room,
         g,
         modes[c],
         s,
@@ -222,6 +225,7 @@ fn correct_cell(
 fn correct_cells(
     stencil: &mut [u8],
     xs: &mut [f32],
+    room: &mut [f32],
     b: Bitmap,
     cells: &[usize],
     modes: &[u8],
@@ -232,6 +236,7 @@ fn correct_cells(
 ) -> Tally
     requires { ⌜ Ready (sheet (b .width) (b .height) (b .channels) (now xs) (now stencil) [] (now cells) (now modes) (now settings) (now colours) (now coords) (now ends)) ⌝ }
     requires { ⌜ now stencil ≡ tab (length (now stencil)) (λ k. 0) ⌝ }
+    requires { ⌜ 2 * b .width ≤ length (now room) ⌝ }
     ensures counts { λ r. ⌜ r ≡ tallies (sheet (b .width) (b .height) (b .channels) (now (xs .entry)) (now (stencil .entry)) [] (now (cells .entry)) (now (modes .entry)) (now (settings .entry)) (now (colours .entry)) (now (coords .entry)) (now (ends .entry))) ⌝ }
     ensures leaves { λ _. ⌜ now (stencil .exit) ≡ Sheet.sheetStencil (sheet (b .width) (b .height) (b .channels) (now (xs .entry)) (now (stencil .entry)) [] (now (cells .entry)) (now (modes .entry)) (now (settings .entry)) (now (colours .entry)) (now (coords .entry)) (now (ends .entry))) ⌝ }
     ensures writes { λ _. ⌜ now (xs .exit) ≡ Sheet.sheetSamples (sheet (b .width) (b .height) (b .channels) (now (xs .entry)) (now (stencil .entry)) [] (now (cells .entry)) (now (modes .entry)) (now (settings .entry)) (now (colours .entry)) (now (coords .entry)) (now (ends .entry))) ⌝ }
@@ -245,6 +250,7 @@ fn correct_cells(
         let n = correct_cell(
             stencil,
             xs,
+            room,
             b,
             cells,
             modes,
@@ -312,6 +318,7 @@ pub fn msdf_sheet_error_correction(
     let n = correct_cells(
         stencil,
         samples,
+        room,
         b,
         cells,
         modes,

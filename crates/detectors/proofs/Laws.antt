@@ -8,3 +8,4 @@ pub mod Verdict
 pub mod Guard
 pub mod Tests
 pub mod Alike
+pub mod Orders

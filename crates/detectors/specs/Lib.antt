@@ -7,4 +7,5 @@ pub mod Diagonal
 pub mod RootCount
 pub mod Discriminant
 pub mod Edge
+pub mod Orders
 pub mod Inner

@@ -1,14 +1,20 @@
 // The diagonal detector: a texel, its two side neighbours and the one across.
 ghost use mathlib.Core.Path.{_≡_};
+ghost use mathlib.Core.List.{[]};
+ghost use lib.Dec.{eqb};
+ghost use lib.ListN.{getD};
 ghost use Prim.Native.Nat.{_<_, _≤_};
-ghost use mathlib.Core.Bool.{cond};
+ghost use mathlib.Core.Bool.{true, false, cond};
 ghost use Rattle.numbers.specs.EquationSolver.{Listed};
 ghost use Rattle.detectors.specs.Verdict.{verdict};
 ghost use Rattle.detectors.specs.Diagonal as Diagonal;
-ghost use Rattle.ground.specs.Lists.{any, spent};
+ghost use Rattle.ground.specs.Lists.{any, some, spent};
 ghost use Rattle.ranges.specs.Config as Config;
-ghost use Rattle.detectors.specs.Discriminant.{normalPairRoots};
-ghost use Rattle.detectors.specs.Inner.{rootVerdict, rootCount, rootAt};
+ghost use Rattle.detectors.specs.Pairs.{inside, difference};
+ghost use Rattle.detectors.specs.Orders.{Doubts};
+ghost use Rattle.detectors.specs.Discriminant.{normalQuadraticRoots};
+ghost use Rattle.detectors.specs.Inner as Inner;
+ghost use Rattle.detectors.specs.Inner.{rootVerdict, rootCount};
 use crate::pairs;
 use crate::texel;
 use crate::verdict;
@@ -21,6 +27,13 @@ use ranges::classifier::Classifier;
 use ranges::config;
 use ranges::config::Settings;
 use ranges::constants;
+
+// The least and the largest of a pair's differences at which it is judged without its roots; the largest of the two in the middle together.
+const LEAST: f32 = 0.0078125;
+
+const MOST: f32 = 4096.0;
+
+const MOST_MIDDLE: f32 = 16384.0;
 
 // What both coefficients of channel i share: a less b less c.
 fn abc(m: &[[f32; 3]; 4], i: usize) -> f32
@@ -84,6 +97,15 @@ fn interpolated_median_quad(m: &[[f32; 3]; 4], t: f64) -> f32
     scalar::median_value(x, y, z)
 }
 
+// The difference of pair p in texel i of the four, read where it stands.
+fn difference_in(m: &[[f32; 3]; 4], i: usize, p: usize) -> f32
+    requires { ⌜ (i < 4) × (p < 3) ⌝ }
+    ensures { λ r. ⌜ r ≡ difference (getD (now (m .entry)) i []) p ⌝ }
+{
+    let j = pairs::next(p);
+    m[i][j] - m[i][p]
+}
+
 // The difference of pair p in the two side neighbours together.
 fn middle_difference(m: &[[f32; 3]; 4], p: usize) -> f32
     requires { ⌜ p < 3 ⌝ }
@@ -93,14 +115,39 @@ fn middle_difference(m: &[[f32; 3]; 4], p: usize) -> f32
     m[1][j] - m[1][p] + m[2][j] - m[2][p]
 }
 
-// The roots of pair p's difference, a quadratic in t, by the root without branches.
-fn pair_roots(m: &[[f32; 3]; 4], p: usize) -> Roots
-    requires { ⌜ p < 3 ⌝ }
-    ensures { λ r. ⌜ Listed (normalPairRoots (now (m .entry)) p) (r .count) (r .first) (r .second) ⌝ }
+// A difference that is zero or from the least to the largest at which a pair of one sign is judged without its roots.
+fn ample(d: f32) -> bool
+    ensures { λ r. ⌜ r ≡ Inner.ample d ⌝ }
 {
-    let da = pairs::difference(m[0], p);
-    let dbc = middle_difference(m, p);
-    let dd = pairs::difference(m[3], p);
+    ((d == 0.0) | (d >= LEAST)) & (d <= MOST)
+}
+
+// None of a pair's three differences is below zero, and each is of a size at which no root is inside then.
+fn rises(da: f32, dbc: f32, dd: f32) -> bool
+    ensures { λ r. ⌜ (r ≡ true → some inside (Diagonal.quadraticRoots da dbc dd) ≡ false) ⌝ }
+{
+    ample(da)
+        & (ample(dd)
+            & ((dbc >= 0.0)
+                & ((dbc <= MOST_MIDDLE)
+                    & (((dbc == 0.0) | (dbc >= LEAST)) | ((da >= LEAST) & (dd >= LEAST))))))
+}
+
+// The same with none above zero.
+fn falls(da: f32, dbc: f32, dd: f32) -> bool
+    ensures { λ r. ⌜ (r ≡ true → some inside (Diagonal.quadraticRoots da dbc dd) ≡ false) ⌝ }
+{
+    ample(-da)
+        & (ample(-dd)
+            & ((dbc <= 0.0)
+                & ((dbc >= -MOST_MIDDLE)
+                    & (((dbc == 0.0) | (dbc <= -LEAST)) | ((da <= -LEAST) & (dd <= -LEAST))))))
+}
+
+// The roots of a pair's difference, a quadratic in t, by the root without branches.
+fn pair_roots(da: f32, dbc: f32, dd: f32) -> Roots
+    ensures { λ r. ⌜ Listed (normalQuadraticRoots da dbc dd) (r .count) (r .first) (r .second) ⌝ }
+{
     let a = std::num::f32_to_f64_with_nan(dd - dbc + da);
     let b = std::num::f32_to_f64_with_nan(dbc - da - da);
     let c = std::num::f32_to_f64_with_nan(da);
@@ -183,13 +230,49 @@ fn diagonal_at(k: Classifier, am: f32, dm: f32, m: &[[f32; 3]; 4], p: usize, t: 
 
 // Root i of up to two.
 fn root_at(r: Roots, i: usize) -> f64
-    ensures { λ t. ⌜ t ≡ rootAt (r .first) (r .second) i ⌝ }
+    ensures { λ t. ⌜ t ≡ Inner.rootAt (r .first) (r .second) i ⌝ }
 {
     if i == 0 { r.first } else { r.second }
 }
 
+// Pair p is among those that are in doubt.
+fn in_doubt(doubt: u8, p: usize) -> bool
+    ensures { λ r. ⌜ r ≡ eqb (Inner.doubtBit doubt p) 1 ⌝ }
+{
+    if p == 0 {
+        return doubt % 2 == 1;
+    }
+    if p == 1 {
+        return doubt / 2 % 2 == 1;
+    }
+    doubt / 4 % 2 == 1
+}
+
+// The roots of pair p that are tried: none where it is beyond doubt, or where its differences are of one sign.
+fn roots_tried(m: &[[f32; 3]; 4], p: usize, doubt: u8) -> Roots
+    requires { ⌜ (p < 3) × Doubts doubt (now m) ⌝ }
+    ensures { λ r. ⌜ Inner.Tried (now (m .entry)) p (r .count) (r .first) (r .second) ⌝ }
+{
+    let none = Roots {
+        count: 0,
+        first: 0.0,
+        second: 0.0,
+    };
+    if !in_doubt(doubt, p) {
+        return none;
+    }
+    let da = difference_in(m, 0, p);
+    let dbc = middle_difference(m, p);
+    let dd = difference_in(m, 3, p);
+    if rises(da, dbc, dd) | falls(da, dbc, dd) {
+        return none;
+    }
+    pair_roots(da, dbc, dd)
+}
+
 // The pairs in order, and of each the roots in order; the search stops at the first artifact.
-fn some_pair(k: Classifier, am: f32, dm: f32, m: &[[f32; 3]; 4]) -> usize
+fn some_pair(k: Classifier, am: f32, dm: f32, m: &[[f32; 3]; 4], doubt: u8) -> usize
+    requires { ⌜ Doubts doubt (now m) ⌝ }
     ensures { λ r. ⌜ r ≡ verdict (any 3 (Diagonal.diagonalPair (k .span) (k .protected) am dm (now (m .entry)))) (spent 3 (Diagonal.diagonalPair (k .span) (k .protected) am dm (now (m .entry))) (Diagonal.diagonalPairTests (k .span) (k .protected) am dm (now (m .entry)))) ⌝ }
 {
     let mut p = 0usize;
@@ -198,7 +281,7 @@ fn some_pair(k: Classifier, am: f32, dm: f32, m: &[[f32; 3]; 4]) -> usize
         if p >= 3 {
             break 'pairs tests;
         }
-        let r = pair_roots(m, p);
+        let r = roots_tried(m, p, doubt);
         let n = r.count;
         let mut i = 0usize;
         while i < n {
@@ -213,21 +296,23 @@ fn some_pair(k: Classifier, am: f32, dm: f32, m: &[[f32; 3]; 4]) -> usize
     found
 }
 
-// The verdict of texel m[0], whose median is am, against the one across, m[3], whose median is dm, where the guard lets it be tested.
+// The verdict of texel m[0], whose median is am, against the one across, m[3], whose median is dm, where the guard lets it be tested and each pair that `doubt` leaves out has no root inside.
 pub fn has_guarded_artifact(
     s: Settings,
     protected: bool,
     am: f32,
     dm: f32,
     m: [[f32; 3]; 4],
+    doubt: u8,
 ) -> usize
+    requires { ⌜ Doubts doubt m ⌝ }
     ensures { λ r. ⌜ r ≡ verdict (any 3 (Diagonal.diagonalPair (Config.diagonalSpan s) protected am dm m)) (spent 3 (Diagonal.diagonalPair (Config.diagonalSpan s) protected am dm m) (Diagonal.diagonalPairTests (Config.diagonalSpan s) protected am dm m)) ⌝ }
 {
     let k = Classifier {
         span: config::diagonal_span(s),
         protected,
     };
-    some_pair(k, am, dm, &m)
+    some_pair(k, am, dm, &m, doubt)
 }
 
 // The verdict of texel m[0], whose median is am, against the one across, m[3].
@@ -237,7 +322,7 @@ pub fn has_diagonal_artifact(s: Settings, protected: bool, am: f32, m: [[f32; 3]
     let far = texel::median(m[3]);
     let dm = far.value;
     if texel::guard(am, dm) {
-        return has_guarded_artifact(s, protected, am, dm, m);
+        return has_guarded_artifact(s, protected, am, dm, m, 7);
     }
     0
 }

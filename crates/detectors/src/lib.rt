@@ -2,6 +2,7 @@
 pub mod diagonal;
 pub mod edge;
 pub mod linear;
+pub mod orders;
 mod pairs;
 pub mod texel;
 pub mod verdict;

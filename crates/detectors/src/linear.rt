@@ -1,10 +1,12 @@
 // The linear detector: a texel against a side neighbour.
 ghost use mathlib.Core.Path.{_≡_};
+ghost use mathlib.Core.Bool.{false};
 ghost use Rattle.ground.specs.Lists.{any, spent};
 ghost use Rattle.ranges.specs.Config as Config;
 ghost use Rattle.detectors.specs.Verdict.{verdict};
 ghost use Rattle.detectors.specs.Linear as Linear;
 ghost use Rattle.detectors.specs.Inner.{orElse};
+ghost use Rattle.detectors.specs.Pairs.{inside};
 use crate::pairs;
 use crate::pairs::difference;
 use crate::texel;
@@ -21,6 +23,13 @@ fn crossing(da: f32, db: f32) -> f64
     std::num::f32_to_f64_with_nan(da) / std::num::f32_to_f64_with_nan(da - db)
 }
 
+// A difference that is da at a and db at b can be zero between them: else its crossing is not inside.
+fn crosses(da: f32, db: f32) -> bool
+    ensures { λ r. ⌜ (r ≡ false → inside (Linear.crossing da db) ≡ false) ⌝ }
+{
+    ((da > 0.0) & (db < 0.0)) | ((da < 0.0) & (db > 0.0))
+}
+
 // The pair whose difference is da at a and db at b, tried unless there is an artifact before.
 fn has_linear_artifact_inner(
     before: usize,
@@ -35,6 +44,9 @@ fn has_linear_artifact_inner(
     ensures { λ r. ⌜ r ≡ orElse before (verdict (Linear.linearAt (k .span) (k .protected) am bm a b (Linear.crossing da db)) (Linear.linearTestsAt (Linear.crossing da db))) ⌝ }
 {
     if before >= verdict::ARTIFACT {
+        return before;
+    }
+    if !crosses(da, db) {
         return before;
     }
     let t = crossing(da, db);

@@ -20,6 +20,9 @@ pub const PROTECTED: u8 = 2;
 
 pub const CORNER: u8 = 4;
 
+// What stands above the three bits while errors are found is a texel's order, counted in this.
+pub const ORDER: u8 = 8;
+
 pub fn is_error(v: u8) -> bool
     ensures { λ r. ⌜ r ≡ Stencil.isError v ⌝ }
 {

@@ -1,7 +1,9 @@
 -- A sweep over the cells of a window that stores `f v x y` in the cell of column x and row y, v being its old byte. Assumes nothing.
+--     cell-cut      a cell of the window as it is cut out
 --     swept-none    at the first cell
 --     swept-place   a cell that is inside is one of the stencil's
 --     swept-long    the stencil is as long as it was
+--     swept-old     the byte that stands there is the old one
 --     swept-from    what is worked out there from the byte that stands there is what is worked out from the old one
 --     swept-next    after a store and a step
 --     swept-past    past the last row no cell is left
@@ -17,13 +19,19 @@ use Rattle.ground.specs.Lists.{tab}
 use Rattle.ground.proofs.Laws.Fill.{Filled, filled-none, filled-more, filled-at, filled-all}
 use Rattle.ground.proofs.Laws.Picked.{picked-length, picked-at, pasted-none, pasted-set, pasted-then, pasted-as}
 use Rattle.inputs.specs.declared.sizes.Window.{Window}
-use Rattle.inputs.specs.Window.{cellShown, cutCells, CellsPasted}
+use Rattle.inputs.specs.Window.{cellIn, cellShown, cutCells, CellsPasted}
 use Rattle.inputs.specs.Inner.{Stencilled}
 use Rattle.inputs.proofs.Laws.Places.{cell-lt}
 use Rattle.inputs.proofs.Laws.Windows.{cell-shown, cells-apart, still-stencilled}
 use Rattle.correction.specs.declared.bitmap.Visit.{Visit}
 use Rattle.correction.specs.Bitmap.{cell}
 use Rattle.correction.specs.Inner.{Reached}
+
+-- a cell of the window as it is cut out
+pub cell-cut : (g : Window) (st : List ℕ) (x y : ℕ) → x < g .width → y < g .height → getD (cutCells g st) (cell (g .width) x y) 0 ≡ getD st (cellIn g x y) 0
+cell-cut g st x y p q =
+    picked-at 0 (g .height * g .width) (cellShown g) st (cell (g .width) x y) (cell-lt (g .width) (g .height) x y p q)
+    ∙ ap (λ (k : ℕ). getD st k 0) (cell-shown g x y p)
 
 -- what the sweep leaves in cell k of the window, whose cells were st₀
 abbrev pub swept : (ℕ → ℕ → ℕ → ℕ) → ℕ → List ℕ → ℕ → ℕ
@@ -66,6 +74,9 @@ module _ (f : ℕ → ℕ → ℕ → ℕ) (g : Window) (st₀ : List ℕ) where
 
     here : at .y < g .height → getD st (at .number) 0 ≡ getD (cutCells g st₀) k 0
     here l = sym (picked-at 0 (g .height * g .width) (cellShown g) st k (below l) ∙ ap (λ (n : ℕ). getD st n 0) lies) ∙ i .filled .rest k (le-refl k)
+
+    pub swept-old : at .y < g .height → getD st (at .number) 0 ≡ getD st₀ (cellIn g (at .x) (at .y)) 0
+    swept-old l = here l ∙ cell-cut g st₀ (at .x) (at .y) (i .on .column) l
 
     pub swept-from : at .y < g .height → (m : ℕ → ℕ → ℕ → ℕ) → m (getD st (at .number) 0) (at .x) (at .y) ≡ swept m (g .width) (cutCells g st₀) (cell (g .width) (at .x) (at .y))
     swept-from l m =

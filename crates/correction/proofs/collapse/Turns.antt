@@ -1,6 +1,4 @@
 -- A sweep that collapses the flagged texels of a window: before a cell the samples below its texel are as `collapsed` has them, the others as they were. Assumes nothing.
---     turning-cell      a cell that is inside is one of the stencil's
---     turning-flag      its byte says what is said of it in what is cut out
 --     turning-none      at the first cell
 --     turning-sampled   the samples are as many as they were
 --     turning-next      after a turn, by what the byte says, and a step
@@ -17,8 +15,8 @@ use Rattle.ground.proofs.Laws.Fill.{Filled, filled-none, filled-at, filled-all}
 use Rattle.ground.proofs.Laws.Picked.{picked-length, picked-at, pasted-none, pasted-then, pasted-more, pasted-as}
 use Rattle.detectors.specs.Texel.{texelMedian}
 use Rattle.inputs.specs.declared.sizes.Window.{Window}
-use Rattle.inputs.specs.Window.{cellIn, cellShown, sampleShown, cutCells, cutSamples, SamplesPasted}
-use Rattle.inputs.specs.Inner.{Sampled, Stencilled}
+use Rattle.inputs.specs.Window.{cellIn, sampleShown, cutCells, cutSamples, SamplesPasted}
+use Rattle.inputs.specs.Inner.{Sampled}
 use Rattle.inputs.specs.Stencil.{isError}
 use Rattle.inputs.proofs.Laws.Places.{cell-lt, place-lt, next-row}
 use Rattle.inputs.proofs.Laws.Windows.{cell-shown, sample-shown, samples-apart, still-sampled}
@@ -38,16 +36,6 @@ pub record Turning (flag : ℕ → Bool) (g : Window) (xs₀ xs : List Float) (a
   pub on : Reached g at
   pub filled : Filled nan (collapsedSample (cutSamples g xs₀) (g .channels) flag) (cutSamples g xs₀) (cell (g .width) (at .x) (at .y) * g .channels) (cutSamples g xs)
   pub rest : SamplesPasted g xs₀ xs (cutSamples g xs)
-
-module _ (g : Window) (st : List ℕ) {at : Visit} (o : Reached g at) (l : at .y < g .height) where
-  pub turning-cell : Stencilled g st → at .number < length st
-  turning-cell s = subst (λ (n : ℕ). n < length st) (sym (o .here)) (s .held (at .x) (at .y) (o .column) l)
-
-  pub turning-flag : isError (getD st (at .number) 0) ≡ flags (cutCells g st) (cell (g .width) (at .x) (at .y))
-  turning-flag =
-      ap isError
-      (ap (λ (n : ℕ). getD st n 0) (o .here ∙ sym (cell-shown g (at .x) (at .y) (o .column)))
-      ∙ sym (picked-at 0 (g .height * g .width) (cellShown g) st (cell (g .width) (at .x) (at .y)) (cell-lt (g .width) (g .height) (at .x) (at .y) (o .column) l)))
 
 -- a texel of a window collapses, and so does it in what is cut out
 module _ (g : Window) {xs : List Float} (s : Sampled g xs) (x y : ℕ) (p : x < g .width) (q : y < g .height) where

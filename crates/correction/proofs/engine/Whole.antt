@@ -2,11 +2,14 @@
 --     protects-all, protects-none, protects-some   the bytes of each mode, as protection leaves them
 --     switched-off, done                           what all stages leave, in mode Disabled and in the others
 --     shielded-all, shielded-none, shielded-some   protection in a window of a sheet
+--     shielded-plain, written-ordered              what it leaves for the orders, and what these leave for finding
 --     left-alone, corrected                        and all stages there
 use mathlib.Core.Path.{_≡_, refl, sym, _∙_, ap, subst}
 use mathlib.Core.Bool.{Bool, true, false, cond, _||_}
 use mathlib.Core.List.{List}
-use Prim.Native.Nat.{ℕ, _*_, _/_, _%_, _<_}
+use Prim.Native.Nat.{ℕ, _+_, _*_, _/_, _%_, _<_}
+use native.Mathlib.Omega.{arith}
+use lib.Arith.{digits-div, digits-mod}
 use native.Mathlib.Nat.{mul-comm}
 use lib.Dec.{eqb}
 use lib.ListN.{length, getD}
@@ -17,21 +20,25 @@ use Rattle.ground.specs.Lists.{tab, total, painted}
 use Rattle.ground.proofs.Laws.Fill.{tab-length, tab-at, tab-same}
 use Rattle.ground.proofs.Laws.Spent.{total-zero, total-same}
 use Rattle.ground.proofs.Laws.Painted.{painted-length, painted-at, is-painted}
-use Rattle.ground.proofs.Laws.Picked.{pasted-none, pasted-then, pasted-as}
+use Rattle.ground.proofs.Laws.Picked.{picked-length, pasted-none, pasted-then, pasted-as}
 use Rattle.inputs.specs.declared.sizes.Window.{Window}
-use Rattle.inputs.specs.Window.{cellShown, sampleShown, cutCells, cutSamples, CellsPasted, SamplesPasted}
+use Rattle.inputs.specs.Window.{cellIn, cellShown, sampleShown, cutCells, cutSamples, CellsPasted, SamplesPasted}
 use Rattle.inputs.specs.Inner.{Sized, Sampled}
 use Rattle.inputs.specs.Stencil.{stencilByte, isError, setCorner, setProtected}
 use Rattle.inputs.specs.Checks.{Input}
 use Rattle.inputs.proofs.Laws.Stencil.{byte-sets, byte-clear, byte-only-protected}
+use Rattle.inputs.proofs.Laws.Places.{cell-lt}
 use Rattle.inputs.proofs.Laws.Windows.{cut-sized}
-use Rattle.correction.specs.Bitmap.{texel}
+use Rattle.detectors.specs.Orders.{orderCode}
+use Rattle.correction.specs.Bitmap.{cell, texel}
 use Rattle.correction.specs.Corners.{contours, cornersProtect}
 use Rattle.correction.specs.Edges.{edgesProtect}
 use Rattle.correction.specs.Collapse.{collapsed}
-use Rattle.correction.specs.Inner.{atCorner, found, madeIn, Cleared, cutOut, shieldedCells}
+use Rattle.correction.specs.Inner.{atCorner, found, madeIn, Cleared, cutOut, shieldedCells, Plain, Ordered, withOrders, withoutOrders}
 use Rattle.correction.specs.Pass.{texels, cornered, edgePriorityProtects, protects, flags, byteAt, passStencil, passSamples, testsAt, passTests}
 use Rattle.correction.proofs.Laws.Collapse.{collapsed-same, collapsed-none}
+use Rattle.correction.proofs.bitmap.Sweep.{cell-cut}
+use Rattle.correction.proofs.engine.Orders.{byte-small, above-at, made-above, found-below, flags-below}
 use Rattle.correction.proofs.engine.Staged.{found-staged, made-staged, byte-at-says, byte-at-disabled}
 
 -- what two paintings leave of zeros
@@ -125,6 +132,27 @@ module _ (i : Input) where
     unfolding passStencil passSamples
     done = (made-as, staged ∙ ap (λ (m : ℕ). tab m (byteAt i)) area, collapsed-same (i .samples) (i .channels) n _ _ (s .long) error-at)
 
+-- the bytes that protection leaves have no more than three bits
+shielded-small : (i : Input) (k : ℕ) → k < i .height * i .width → getD (shieldedCells i) k 0 < 8
+unfolding shieldedCells
+shielded-small i k l = subst (λ (v : ℕ). v < 8) (sym (tab-at (i .height * i .width) _ k 0 l)) (byte-small _ _ false)
+
+-- what is written above the bits are the orders
+pub written-ordered : (g : Window) (xs : List Float) {st st' : List ℕ} → Plain g st → CellsPasted g st st' (withOrders (cutSamples g xs) (g .width) (g .channels) (cutCells g st)) → Ordered g xs st'
+written-ordered g xs {st} {st'} small p x y a b =
+    let k = cell (g .width) x y in
+    let l : k < length (cutCells g st) = subst (λ (m : ℕ). k < m) (sym (picked-length 0 (g .height * g .width) (cellShown g) st)) (cell-lt (g .width) (g .height) x y a b) in
+    let q : (y * g .width + x) / g .width ≡ y = digits-div y a in
+    let r : (y * g .width + x) % g .width ≡ x = digits-mod y a in
+    let v = getD st (cellIn g x y) 0 in
+    let e : getD st' (cellIn g x y) 0 ≡ v + 8 * orderCode (texel (cutSamples g xs) (g .width) (g .channels) x y) =
+    sym (cell-cut g st' x y a b) ∙ ap (λ (z : List ℕ). getD z k 0) (p .inside) ∙ above-at (cutSamples g xs) (g .width) (g .channels) (cutCells g st) k l
+    ∙ rw (q, r, cell-cut g st x y a b) in
+    ap (λ (z : ℕ). z / 8) e ∙ high v (orderCode (texel (cutSamples g xs) (g .width) (g .channels) x y)) (small x y a b)
+  where
+    high : (v o : ℕ) → v < 8 → (v + 8 * o) / 8 ≡ o
+    high v o l = omega arith
+
 -- ---- a window that is cleared
 
 module _ (g : Window) (xs : List Float) (mode : ℕ) (s : Settings) (colours : List ℕ) (coords : List Float) (ends : List ℕ) where
@@ -156,18 +184,33 @@ module _ (g : Window) (xs : List Float) (mode : ℕ) (s : Settings) (colours : L
         ),
       )
 
-  -- the other modes: protection, finding and collapsing
-  pub corrected : Sampled g xs → {st₀ st₁ st₂ : List ℕ} {xs' : List Float} {t : ℕ} → (mode ≡ 0 → ⊥)
+  -- protection leaves no more than the three bits
+  pub shielded-plain : {st st' : List ℕ} → CellsPasted g st st' (shieldedCells given) → Plain g st'
+  shielded-plain {st} {st'} p x y a b =
+      let k = cell (g .width) x y in
+      subst (λ (v : ℕ). v < 8) (ap (λ (z : List ℕ). getD z k 0) (sym (p .inside)) ∙ cell-cut g st' x y a b) (shielded-small given k (cell-lt (g .width) (g .height) x y a b))
+
+  -- the other modes: protection, orders, finding, and collapsing, which takes the orders out
+  pub corrected : Sampled g xs → {st₀ st₁ st₂ st₃ st₄ : List ℕ} {xs' : List Float} {t : ℕ} → (mode ≡ 0 → ⊥)
       → CellsPasted g st₀ st₁ (shieldedCells given)
-      → CellsPasted g st₁ st₂ (found (cutSamples g xs) (g .width) (g .height) (g .channels) s (cutCells g st₁))
-      → t ≡ madeIn (cutSamples g xs) (g .width) (g .height) (g .channels) s (cutCells g st₁)
-      → SamplesPasted g xs xs' (collapsed (cutSamples g xs) (g .channels) (λ k. isError (getD (cutCells g st₂) k 0)))
-      → (t ≡ passTests given) × (CellsPasted g st₀ st₂ (passStencil given) × SamplesPasted g xs xs' (passSamples given))
-  corrected o {st₀} {st₁} {st₂} {xs'} {t} e p q r u =
-      let d = done given (cut-sized g o) e (cutCells g st₁) (p .inside) (cutCells g st₂) (q .inside) in (
-        r ∙ d .0,
+      → CellsPasted g st₁ st₂ (withOrders (cutSamples g xs) (g .width) (g .channels) (cutCells g st₁))
+      → CellsPasted g st₂ st₃ (found (cutSamples g xs) (g .width) (g .height) (g .channels) s (cutCells g st₂))
+      → t ≡ madeIn (cutSamples g xs) (g .width) (g .height) (g .channels) s (cutCells g st₂)
+      → CellsPasted g st₃ st₄ (withoutOrders (cutCells g st₃))
+      → SamplesPasted g xs xs' (collapsed (cutSamples g xs) (g .channels) (λ k. isError (getD (cutCells g st₃) k 0)))
+      → (t ≡ passTests given) × (CellsPasted g st₀ st₄ (passStencil given) × SamplesPasted g xs xs' (passSamples given))
+  corrected o {st₀} {st₁} {st₂} {st₃} {st₄} {xs'} {t} e p w q r u v =
+      let n : ℕ = g .height * g .width in
+      let ys : List Float = cutSamples g xs in
+      let c : List ℕ = cutCells g st₁ in
+      let d = done given (cut-sized g o) e c (p .inside) (found ys (g .width) (g .height) (g .channels) s c) refl in
+      let long : length c ≡ n = picked-length 0 n (cellShown g) st₁ in
+      let small : (k : ℕ) → k < length c → getD c k 0 < 8 =
+      λ k l. subst (λ (z : List ℕ). getD z k 0 < 8) (sym (p .inside)) (shielded-small given k (subst (λ (m : ℕ). k < m) long l)) in
+      let h : cutCells g st₃ ≡ found ys (g .width) (g .height) (g .channels) s (withOrders ys (g .width) (g .channels) c) = q .inside ∙ ap (found ys (g .width) (g .height) (g .channels) s) (w .inside) in (
+        r ∙ ap (madeIn ys (g .width) (g .height) (g .channels) s) (w .inside) ∙ made-above ys (g .width) (g .height) (g .channels) s c ∙ d .0,
         (
-          pasted-as 0 (g .height * g .width) (cellShown g) (pasted-then 0 (g .height * g .width) (cellShown g) p q) (sym (q .inside) ∙ d .1),
-          pasted-as nan (g .height * g .width * g .channels) (sampleShown g) u (d .2),
+          pasted-as 0 n (cellShown g) (pasted-then 0 n (cellShown g) (pasted-then 0 n (cellShown g) (pasted-then 0 n (cellShown g) p w) q) u) (found-below ys (g .width) (g .height) (g .channels) s c (cutCells g st₃) h small ∙ d .1),
+          pasted-as nan (n * g .channels) (sampleShown g) v (collapsed-same ys (g .channels) n _ _ (cut-sized g o .long) (λ k l. flags-below ys (g .width) (g .height) (g .channels) s c (cutCells g st₃) h k (subst (λ (m : ℕ). k < m) (sym long) l)) ∙ d .2),
         ),
       )

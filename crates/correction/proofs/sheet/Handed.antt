@@ -3,6 +3,7 @@
 --     cell-there       a cell's numbers and settings are there, and its area lies in the sheet
 --     runs-held        its runs end in their lists
 --     sampled-as, stencilled-as, cleared-as, outlined-as   what is known of the cell alone, of what is handed over
+--     room-enough      a room for the sheet's rows is one for the cell's
 --     judged           what its checks answer is what those of the cell alone do
 --     leaves, writes, tallied   what the engine leaves of it is what the pass leaves of the cell alone
 use mathlib.Core.Path.{_≡_, sym, _∙_, ap, subst}
@@ -54,6 +55,10 @@ module _ (s : Sheet) (c : ℕ) (k : Cell) (e : k ≡ cellAt (s .width) (s .chann
 
   pub windowed : k .window ≡ windowAt s c
   windowed = ap (λ (k : Cell). k .window) e
+
+  -- a room for the sheet's rows has room for the cell's
+  pub room-enough : Laid s → c < cellsOf s → {m : ℕ} → 2 * s .width ≤ m → 2 * k .window .width ≤ m
+  room-enough t l {m} r = subst (λ (g : Window). 2 * g .width ≤ m) (sym windowed) (omega (arith, r, t .inside c l .wide))
 
   -- ---- the checks
 

@@ -1,5 +1,5 @@
 -- Each public function's promise determines its answer: any two answers that it permits for the same arguments are the same. Assumes nothing.
--- `Post` is a function's promise as the checker makes it of the `ensures` in the source. No public function has a `requires`, and no argument is lent, so the answer is all that a call leaves behind.
+-- `Post` is a function's promise as the checker makes it of the `ensures` in the source. What a `requires` asks is not used, and no argument is lent, so the answer is all that a call leaves behind.
 use Rattle.ground.proofs.Laws.Alike.{Alike, alike}
 use Rattle.detectors.proofs.texel.median.Kinds as median-kinds
 use Rattle.detectors.proofs.texel.median.Reads as median
@@ -11,6 +11,10 @@ use Rattle.detectors.proofs.diagonal.has_guarded_artifact.Kinds as has-
 use Rattle.detectors.proofs.diagonal.has_guarded_artifact.Reads as has-guarded-artifact
 use Rattle.detectors.proofs.diagonal.has_diagonal_artifact.Kinds as has-diagonal-artifact-kinds
 use Rattle.detectors.proofs.diagonal.has_diagonal_artifact.Reads as has-diagonal-artifact
+use Rattle.detectors.proofs.orders.order_code.Kinds as order-code-kinds
+use Rattle.detectors.proofs.orders.order_code.Reads as order-code
+use Rattle.detectors.proofs.orders.doubt.Kinds as doubt-kinds
+use Rattle.detectors.proofs.orders.doubt.Reads as doubt
 use Rattle.detectors.proofs.edge.radius.Kinds as radius-kinds
 use Rattle.detectors.proofs.edge.radius.Reads as radius
 use Rattle.detectors.proofs.edge.away.Kinds as away-kinds
@@ -49,3 +53,11 @@ away-alike κs a r s e f = alike
 -- Whether a texel of a pair is protected.
 pub pair-protects-alike : Alike 0 pair-protects-kinds.ps pair-protects-kinds.r pair-protects.Post
 pair-protects-alike κs a r s e f = alike
+
+-- The code of a texel's order.
+pub order-code-alike : Alike 0 order-code-kinds.ps order-code-kinds.r order-code.Post
+order-code-alike κs a r s e f p q = alike (p .0) (q .0)
+
+-- The pairs that four orders leave in doubt.
+pub doubt-alike : Alike 0 doubt-kinds.ps doubt-kinds.r doubt.Post
+doubt-alike κs a r s e f p q = alike (p .0) (q .0)

@@ -5,7 +5,7 @@ use mathlib.Core.List.{List, []}
 use Prim.Native.Nat.{ℕ}
 use lib.ListN.{getD}
 use lib.Dec.{T}
-use lib.Ieee.{Float, nan, binary64, lt, le, ne, sub}
+use lib.Ieee.{Float, binary64, lt}
 use Rattle.numbers.specs.Constants.{zeroOf, oneOf}
 use Rattle.numbers.proofs.Laws.Order as Order
 use Rattle.numbers.proofs.Laws.Bounds.{within-no-nan}

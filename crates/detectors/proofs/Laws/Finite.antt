@@ -4,12 +4,11 @@ use mathlib.Core.Bool.{true}
 use mathlib.Core.List.{List, []}
 use Prim.Native.Nat.{ℕ}
 use native.Mathlib.Omega.{arith}
-use lib.Dec.{T}
 use lib.ListN.{getD}
 use lib.Ieee.{Float, binary32, binary64, le, lt, add, sub, mul, neg, ofBits}
 use Rattle.numbers.specs.Constants.{zeroOf, oneOf}
 use Rattle.ranges.specs.Constants.{epsilon, oneLessEpsilon}
-use Rattle.numbers.proofs.Laws.Order.{nought, one, finite, le-of-lt, le-trans}
+use Rattle.numbers.proofs.Laws.Order.{nought, one, le-of-lt, le-trans}
 use Rattle.numbers.proofs.Laws.Bounds.{Within, within-more, neg-within, median-within, narrow-within, mix-within, add-within, sub-within, mul-within}
 use Rattle.ground.proofs.Laws.Bools.{both-hold, holds}
 use Rattle.detectors.specs.Texel.{channel, texelMiddle, texelMedian}

@@ -11,6 +11,7 @@
 --     or-off, or-on        the same of what comes next behind a guard
 --     or-else              either way the verdict is that of both
 --     or-spent             so it is with one more turn of a search
+--     or-three             and with three turns that take few tests each
 use mathlib.Core.Path.{_≡_, refl, sym, _∙_, ap}
 use mathlib.Core.Bool.{Bool, true, false, cond, _&&_, _||_}
 use Prim.Native.Nat.{ℕ, suc, _+_, _%_, _<_, _≤_}
@@ -18,6 +19,7 @@ use native.Mathlib.Omega.{arith}
 use lib.Dec.{leb}
 use borrow.Author.Tests.{le-leb, lt-leb}
 use Rattle.ground.specs.Lists.{any, spent}
+use Rattle.ground.proofs.Laws.Spent.{spent-small}
 use Rattle.detectors.specs.Verdict.{verdict}
 use Rattle.detectors.specs.Inner.{orElse}
 
@@ -85,3 +87,11 @@ or-else false false n m l = sym (or-next n m m l refl)
 pub or-spent : (f : ℕ → Bool) (c : ℕ → ℕ) (k : ℕ) → spent k f c < 128 → orElse (verdict (any k f) (spent k f c)) (verdict (f k) (c k)) ≡ verdict (any (suc k) f) (spent (suc k) f c)
 unfolding any spent
 or-spent f c k l = or-else (any k f) (f k) (spent k f c) (c k) l
+
+pub or-three : (f : ℕ → Bool) (c : ℕ → ℕ) → ((k : ℕ) → c k ≤ 6) → orElse (orElse (orElse 0 (verdict (f 0) (c 0))) (verdict (f 1) (c 1))) (verdict (f 2) (c 2)) ≡ verdict (any 3 f) (spent 3 f c)
+unfolding verdict any spent
+or-three f c h =
+    let few : (n : ℕ) → n ≤ 3 → spent n f c < 128 = λ n l. omega (arith, spent-small 6 n f c h) in
+    ap (λ (v : ℕ). orElse (orElse v (verdict (f 1) (c 1))) (verdict (f 2) (c 2))) (or-spent f c 0 (few 0 (omega arith)))
+    ∙ ap (λ (v : ℕ). orElse v (verdict (f 2) (c 2))) (or-spent f c 1 (few 1 (omega arith)))
+    ∙ or-spent f c 2 (few 2 (omega arith))

@@ -1,12 +1,10 @@
 -- A list of at most two values as a count and the two of them, and a search through these in order. Assumes nothing.
---     rooted    a test holds of some entry of the list just where it holds of one of the values counted
---     no-root   the search ended at the count
---     a-root    the test holds of value k
---     rooted-spent    and a search through the list spends what one through the values counted does
-use mathlib.Core.Path.{_≡_, refl, sym, _∙_, subst}
+--     rooted         a test holds of some entry of the list just where it holds of one of the values counted
+--     rooted-spent   and a search through the list spends what one through the values counted does
+use mathlib.Core.Path.{_≡_, refl, sym, _∙_}
 use mathlib.Core.Bool.{Bool, true, false, cond, _||_}
 use mathlib.Core.List.{List, [], _∷_}
-use Prim.Native.Nat.{ℕ, _+_, _<_, _≤_}
+use Prim.Native.Nat.{ℕ, _+_, _≤_}
 use native.Mathlib.Nat.{not-suc-le-zero, le-of-suc-le-suc}
 use native.Mathlib.Omega.{arith}
 use lib.ListN.{length, getD}
@@ -15,7 +13,6 @@ use Rattle.numbers.specs.Constants.{zeroOf}
 use Rattle.numbers.specs.EquationSolver.{Listed}
 use Rattle.ground.specs.Lists.{any, some, spent, spentIn}
 use Rattle.detectors.specs.Inner.{rootAt}
-use Rattle.ground.proofs.Laws.Search.{any-at}
 
 or-false : (a : Bool) → (a || false) ≡ a
 or-false true = refl
@@ -52,12 +49,6 @@ own-spent f c (x ∷ y ∷ z ∷ xs) h = absurd (not-suc-le-zero (le-of-suc-le-s
 module _ (f : Float → Bool) (xs : List Float) (n : ℕ) (u v : Float) (h : length xs ≤ 2) (l : Listed xs n u v) where
   pub rooted : some f xs ≡ any n (λ j. f (rootAt u v j))
   rooted = own f xs h ∙ sym (λ i. any (l .counted i) (λ j. f (rootAt (l .one i) (l .two i) j)))
-
-  pub no-root : (k : ℕ) → k ≡ n → any k (λ j. f (rootAt u v j)) ≡ false → some f xs ≡ false
-  no-root k e p = rooted ∙ subst (λ (m : ℕ). any m (λ j. f (rootAt u v j)) ≡ false) e p
-
-  pub a-root : (k : ℕ) → k < n → f (rootAt u v k) ≡ true → some f xs ≡ true
-  a-root k b p = rooted ∙ any-at (λ j. f (rootAt u v j)) n k b p
 
   pub rooted-spent : (c : Float → ℕ) → spentIn f c xs ≡ spent n (λ j. f (rootAt u v j)) (λ j. c (rootAt u v j))
   rooted-spent c = own-spent f c xs h ∙ sym (λ i. spent (l .counted i) (λ j. f (rootAt (l .one i) (l .two i) j)) (λ j. c (rootAt (l .one i) (l .two i) j)))

@@ -1,91 +1,147 @@
--- `correction::edges::protect_edges` meets its contract: a sweep that leaves `byte`. Assumes nothing.
-use mathlib.Core.Path.{_≡_, sym, _∙_, ap}
-use mathlib.Core.Bool.{cond}
+-- `correction::edges::protect_edges` meets its contract: before row y the rows below it are given, and its medians are in the room. Assumes nothing.
+use mathlib.Core.Path.{_≡_, refl, sym, _∙_, subst}
 use mathlib.Core.List.{List}
-use Prim.Native.Nat.{ℕ, _-_, _*_, _/_, _%_}
+use mathlib.Core.Logic.{⊎-elim}
+use Prim.Native.Nat.{ℕ, _-_, _*_, _<_, _≤_}
 use native.Mathlib.Omega.{arith}
 use lib.ListN.{length}
 use lib.Ieee.{Float}
-use Rattle.ranges.specs.declared.config.Settings.{Settings}
-use Rattle.ranges.specs.Config.{radius}
-use Rattle.ground.specs.Lists.{tab, painted}
-use Rattle.ground.proofs.Laws.Picked.{picked-length, pasted-as}
+use denote.Ref.{now}
+use Rattle.ground.proofs.Laws.Picked.{pasted-as}
 use Rattle.inputs.specs.declared.sizes.Window.{Window}
-use Rattle.inputs.specs.Window.{cellShown, cutCells, cutSamples, CellsPasted}
-use Rattle.inputs.specs.Stencil.{setProtected}
-use Rattle.inputs.proofs.Laws.Places.{cell-lt}
+use Rattle.inputs.specs.Window.{cellShown, cutCells, cutSamples}
+use Rattle.inputs.proofs.Laws.Windows.{still-stencilled}
 use Rattle.correction.specs.declared.edges.Radii.{Radii}
-use Rattle.correction.specs.Bitmap.{cell, texel}
-use Rattle.correction.specs.Edges.{someEdge, edgesProtect}
-use Rattle.correction.proofs.bitmap.Sweep.{Swept, swept, swept-none, swept-long, swept-place, swept-next, swept-all}
+use Rattle.correction.specs.Inner.{Medians, Rows}
+use Rattle.correction.proofs.bitmap.Stretch.{Rowed, rows-none, rows-next, rows-all, upto-long}
+use Rattle.correction.proofs.edges.Room.{row-kept}
+use Rattle.correction.proofs.edges.Byte.{byte, row-painted, all-painted}
 use Rattle.correction.proofs.edges.protect_edges.Statement.{statement}
 use Rattle.correction.proofs.edges.protect_edges.Tie as tie
 
--- what a turn leaves in the cell of column x and row y that has the byte v, the window's samples being xs
-abbrev byte : List Float → Window → Radii → ℕ → ℕ → ℕ → ℕ
-byte xs b r v x y = cond (someEdge (texel xs (b .width) (b .channels)) (b .width) (b .height) (r .horizontal) (r .vertical) (r .diagonal) x y) (setProtected v) v
-
--- the sweep leaves the window's cells painted where an edge protects, rh, rv and rd being the radii of the three lengths
-module _ (xs : List Float) (b : Window) (s : Settings) (rh rv rd : Float) (p : rh ≡ radius (s .horizontal)) (q : rv ≡ radius (s .vertical)) (r : rd ≡ radius (s .diagonal)) where
-  same : (st : List ℕ) → tab (length st) (swept (byte xs b (record { horizontal = rh; vertical = rv; diagonal = rd })) (b .width) st) ≡ painted setProtected (λ k. edgesProtect (texel xs (b .width) (b .channels)) (b .width) (b .height) s (k % b .width) (k / b .width)) st
-  unfolding painted edgesProtect
-  same st = rw (p, q, r)
-
-  ends : {st₀ st : List ℕ} → CellsPasted b st₀ st (tab (b .height * b .width) (swept (byte xs b (record { horizontal = rh; vertical = rv; diagonal = rd })) (b .width) (cutCells b st₀))) → CellsPasted b st₀ st (painted setProtected (λ k. edgesProtect (texel xs (b .width) (b .channels)) (b .width) (b .height) s (k % b .width) (k / b .width)) (cutCells b st₀))
-  ends {st₀} {st} e =
-      let n : ℕ = b .height * b .width in
-      let f : ℕ → ℕ = swept (byte xs b (record { horizontal = rh; vertical = rv; diagonal = rd })) (b .width) (cutCells b st₀) in
-      pasted-as 0 n (cellShown b) e (ap (λ (m : ℕ). tab m f) (sym (picked-length 0 n (cellShown b) st₀)) ∙ same (cutCells b st₀))
+record Inv (st₀ : List ℕ) (xs room₀ : List Float) (g : Window) (r : Radii) (st : List ℕ) (room : List Float) (y : ℕ) : Type 0 where
+  few : y ≤ g .height
+  long : length room ≡ length room₀
+  there : y < g .height → Medians g xs room y
+  done : Rowed (byte (cutSamples g xs) g r) g st₀ y st
 
 abbrev Inv-loop : tie.InvT-loop
-Inv-loop stencil₀ xs b r at₀ stencil at = Swept (byte (cutSamples b xs) b r) b stencil₀ stencil at
+Inv-loop stencil₀ xs room₀ b r y₀ stencil room y = Inv stencil₀ xs room₀ b r stencil room y
 
 abbrev μ-loop : tie.MeasureT-loop
-μ-loop stencil₀ xs b r at₀ stencil at = b .height * b .width - cell (b .width) (at .x) (at .y)
+μ-loop stencil₀ xs room₀ b r y₀ stencil room y = b .height - y
+
+-- the radii of the three lengths
+abbrev radii : tie.After-radius3 Inv-loop μ-loop → Radii
+radii c = record { horizontal = c .before .before .radius .result; vertical = c .before .radius2 .result; diagonal = c .radius3 .result }
+
+write-medians-requires : tie.Need-write-medians-requires Inv-loop μ-loop
+write-medians-requires c κs =
+    let p = c .before .before .before .before .before .before .before .before .before .pre in
+    (p .0, c .before .if1 .taken)
+
+-- the room before the loop
+first : (c : tie.Joined1 Inv-loop μ-loop) → let a = c .before .before .before .before .before .before .before .before .args in (length (c .if1 .room) ≡ length (now (a .room))) × (0 < a .b .height → Medians (a .b) (now (a .xs)) (c .if1 .room) 0)
+first c =
+    let a = c .before .before .before .before .before .before .before .before .args in
+    let g : List Float → Type 0 = λ (room : List Float). (length room ≡ length (now (a .room))) × (0 < a .b .height → Medians (a .b) (now (a .xs)) room 0) in
+    ⊎-elim
+    (λ w. subst g (sym (w .5)) (w .2 .kept .0, λ h. w .2 .ensures .0))
+    (λ w. subst g (sym (w .1)) (refl, λ h. absurd (omega (arith, w .0 .left))))
+    (c .if1 .came)
 
 loop-holds : tie.Need-loop-holds Inv-loop μ-loop
-loop-holds c = swept-none _ _ _ (c .first .ensures)
+loop-holds c =
+    let a = c .before .before .before .before .before .before .before .before .args in
+    record { few = omega arith; long = refl; there = first c .1; done = rows-none (byte (cutSamples (a .b) (now (a .xs))) (a .b) (radii (c .before .before))) _ _ }
 
-slice-read-v : tie.Need-slice-read-v Inv-loop μ-loop
-slice-read-v c =
-    let l = c .before .before .before .before in
-    swept-place _ _ _ (l .before .before .before .before .before .before .before .pre .1) (l .loop .inv) (c .before .if1 .taken)
+-- the room is long enough all the time
+ample : (c : tie.At-loop Inv-loop μ-loop) → let a = c .before .before .before .before .before .before .before .before .before .args in 2 * a .b .width ≤ length (c .loop .room)
+ample c =
+    let s = c .before .before .before .before .before .before .before .before .before in
+    omega (arith, c .loop .inv .long, first (c .before) .0, s .pre .0 .1)
 
-protected-byte-requires : tie.Need-protected-byte-requires Inv-loop μ-loop
-protected-byte-requires c κs = let l = c .before .before .before .before in (l .before .before .before .before .before .before .before .pre .0, (l .loop .inv .on .column, c .before .if1 .taken))
-
-slice-write-stencil : tie.Need-slice-write-stencil Inv-loop μ-loop
-slice-write-stencil c =
+write-medians-requires-2 : tie.Need-write-medians-requires-2 Inv-loop μ-loop
+write-medians-requires-2 c κs =
     let l = c .before .before .before .before .before in
-    swept-place _ _ _ (l .before .before .before .before .before .before .before .pre .1) (l .loop .inv) (c .before .before .if1 .taken)
+    let p = l .before .before .before .before .before .before .before .before .before .pre in
+    ((p .0 .0, ample l), c .before .if3 .taken)
 
-next-requires : tie.Need-next-requires Inv-loop μ-loop
-next-requires c κs =
-    let l = c .before .before .before .before .before in
-    (l .before .before .before .before .before .before .before .pre .0 .fits, (l .loop .inv .on, c .before .before .if1 .taken))
+-- the room in a turn
+second : (c : tie.Joined3 Inv-loop μ-loop) → let l = c .before .before .before .before in let a = l .before .before .before .before .before .before .before .before .before .args in (length (c .if3 .room) ≡ length (l .loop .room)) × Rows (a .b) (now (a .xs)) (c .if3 .room) (l .loop .y)
+second c =
+    let t = c .before .before in
+    let l = t .before .before in
+    let a = l .before .before .before .before .before .before .before .before .before .args in
+    let g : List Float → Type 0 = λ (room : List Float). (length room ≡ length (l .loop .room)) × Rows (a .b) (now (a .xs)) room (l .loop .y) in
+    let own = l .loop .inv .there (t .if2 .taken) in
+    ⊎-elim
+    (λ w. subst g (sym (w .5)) (w .2 .kept .0, record { own = row-kept (a .b) (now (a .xs)) (l .loop .room) (w .2 .last .0) _ own (w .2 .ensures .1); next = λ h. w .2 .ensures .0 }))
+    (λ w. subst g (sym (w .1)) (refl, record { own = own; next = λ h. absurd (omega (arith, w .0 .left)) }))
+    (c .if3 .came)
 
-loop-less : tie.Need-loop-less Inv-loop μ-loop
-loop-less c =
-    let t = c .before .before .before in
-    let l = t .before .before .before in
-    omega (arith, c .next .ensures .0, cell-lt _ _ _ _ (l .loop .inv .on .column) (t .if1 .taken))
+protect-row-requires : tie.Need-protect-row-requires Inv-loop μ-loop
+protect-row-requires c κs =
+    let d = c .before .before in
+    let t = d .before .before in
+    let l = t .before .before in
+    let p = l .before .before .before .before .before .before .before .before .before .pre in
+    ((p .0 .0, omega (arith, ample l, second d .0)), (still-stencilled _ (p .1) _ (upto-long _ _ _ (l .loop .inv .done)), (t .if2 .taken, second d .1)))
+
+add-y : tie.Need-add-y Inv-loop μ-loop
+add-y c =
+    let t = c .before .before .before .before .before .before .before in
+    let s = t .before .before .before .before .before .before .before .before .before .before .before in
+    omega (arith, t .if2 .taken, s .pre .1 .fits .high)
 
 loop-again : tie.Need-loop-again Inv-loop μ-loop
 loop-again c =
-    let t = c .before .before .before in
-    let l = t .before .before .before in
-    swept-next _ _ _ (l .before .before .before .before .before .before .before .pre .1) (l .loop .inv) (t .if1 .taken) (c .before .protected-byte .ensures) (c .next .ensures)
+    let r = c .before .before in
+    let d = r .before .before .before in
+    let t = d .before .before in
+    let l = t .before .before in
+    let s = l .before .before .before .before .before .before .before .before .before in
+    let a = s .args in
+    let n : ℕ = a .b .height * a .b .width in
+    let v = l .loop .inv in
+    record {
+      few = omega (arith, t .if2 .taken);
+      long = second d .0 ∙ v .long;
+      there = second d .1 .next;
+      done = rows-next (byte (cutSamples (a .b) (now (a .xs))) (a .b) (radii (l .before .before .before))) _ _ (v .done) (s .pre .1) (t .if2 .taken) (pasted-as 0 n (cellShown (a .b)) (r .protect-row .ensures) (sym (row-painted (cutSamples (a .b) (now (a .xs))) (a .b) _ (l .loop .y) (cutCells (a .b) (l .loop .stencil)))));
+    }
 
-same-length : tie.Need-same-length Inv-loop μ-loop
-same-length c =
-    let l = c .before .before .before in
-    swept-long _ _ _ (l .before .before .before .before .before .before .before .pre .1) (l .loop .inv)
+same-length-2 : tie.Need-same-length-2 Inv-loop μ-loop
+same-length-2 c = let l = c .before .before in l .loop .inv .long ∙ first (l .before) .0
 
 returns : tie.Need-returns Inv-loop μ-loop
 returns c =
-    let l = c .before .before .before in
-    let d = l .before .before in
-    ends _ _ _ _ _ _ (d .before .before .radius .ensures) (d .before .radius2 .ensures) (d .radius3 .ensures) (swept-all _ _ _ (l .before .before .before .before .before .before .before .pre .1) (l .loop .inv) (c .if1 .left))
+    let l = c .before .before in
+    let d = l .before .before .before in
+    let s = d .before .before .before .before .before .before in
+    let a = s .args in
+    let n : ℕ = a .b .height * a .b .width in
+    pasted-as 0 n (cellShown (a .b)) (rows-all (byte (cutSamples (a .b) (now (a .xs))) (a .b) (radii d)) _ _ (l .loop .inv .done) (c .if2 .left))
+    (all-painted (cutSamples (a .b) (now (a .xs))) (a .b) (a .s) _ _ _ (d .before .before .radius .ensures) (d .before .radius2 .ensures) (d .radius3 .ensures) (cutCells (a .b) (now (a .stencil))))
 
 pub protect-edges-spec : {M : Type 1} → statement M
-protect-edges-spec = tie.close (tie.spec Inv-loop μ-loop (λ c κs. tt) (λ c κs. tt) (λ c κs. tt) (λ c κs. c .before .before .before .before .before .pre .0 .fits .any) loop-holds slice-read-v protected-byte-requires slice-write-stencil next-requires loop-less loop-again same-length returns)
+protect-edges-spec =
+    tie.close
+    (tie.spec
+    Inv-loop
+    μ-loop
+    (λ c κs. tt)
+    (λ c κs. tt)
+    (λ c κs. tt)
+    write-medians-requires
+    loop-holds
+    (λ c. omega (arith, c .if2 .taken, c .before .before .before .before .before .before .before .before .before .before .before .pre .1 .fits .high))
+    (λ c. omega (arith, c .before .before .before .if2 .taken, c .before .before .before .before .before .before .before .before .before .before .before .before .before .before .pre .1 .fits .high))
+    write-medians-requires-2
+    protect-row-requires
+    add-y
+    (λ c. omega (arith, c .before .before .before .before .before .before .before .if2 .taken))
+    loop-again
+    (λ c. upto-long _ _ _ (c .before .before .loop .inv .done))
+    same-length-2
+    returns)

@@ -1,11 +1,17 @@
 -- `correction::edges::some_of` meets its contract: it answers at the first pair that says so, and as the last does where no other says so. Assumes nothing.
 use mathlib.Core.Path.{sym, _∙_}
 use mathlib.Core.Bool.{or-true}
+use native.Mathlib.Omega.{arith}
 use borrow.Author.Needs.{needs}
 use Rattle.ground.proofs.Laws.Bools.{or-taken, or-left}
 use Rattle.correction.specs.Inner.{someOf}
 use Rattle.correction.proofs.edges.some_of.Statement.{statement}
 use Rattle.correction.proofs.edges.some_of.Tie as tie
+
+as-either-requires : tie.Need-as-either-requires
+as-either-requires c κs =
+    let p = c .before .before .before .pre in
+    (p .0, (p .1 .0, (p .1 .1 .0, omega arith)))
 
 returns : tie.Need-returns
 unfolding someOf
@@ -29,4 +35,4 @@ returns-4 c =
     (or-left (d .before .as-either2 .ensures) (d .if2 .left) (or-left (f .before .as-either3 .ensures) (f .if3 .left) (c .as-either4 .ensures)))
 
 pub some-of-spec : {M : Type 1} → statement M
-some-of-spec = tie.close (tie.spec (λ c. search needs) (λ c κs. search needs) (λ c. search needs) (λ c κs. search needs) (λ c κs. search needs) (λ c κs. search needs) returns returns-2 returns-3 returns-4)
+some-of-spec = tie.close (tie.spec (λ c. search needs) as-either-requires (λ c. search needs) (λ c κs. search needs) (λ c κs. search needs) (λ c κs. search needs) returns returns-2 returns-3 returns-4)

@@ -1,14 +1,12 @@
 -- `correction::errors::some_artifact` meets its contract: after each neighbour the verdict is that of all up to it. Assumes nothing.
-use mathlib.Core.Path.{_≡_, refl, _∙_, ap}
+use mathlib.Core.Path.{_≡_, _∙_}
 use mathlib.Core.Bool.{Bool, true, false}
 use mathlib.Core.List.{List}
 use Prim.Native.Nat.{ℕ, zero, suc, _+_, _≤_}
 use native.Mathlib.Omega.{arith}
-use lib.Dec.{eqb}
 use lib.Ieee.{Float}
 use denote.Ref.{now}
 use borrow.Author.Needs.{needs}
-use borrow.Author.Tests.{eq-eqb, ne-eqb}
 use Rattle.ranges.specs.declared.config.Settings.{Settings}
 use Rattle.ranges.specs.Config.{sideSpan, diagonalSpan}
 use Rattle.detectors.specs.Verdict.{verdict}
@@ -62,65 +60,55 @@ module _ (tex : ℕ → ℕ → List Float) (w h : ℕ) (s : Settings) (protecte
   unfolding someArtifact someSide someDiagonal someMade linearMade diagonalMade
   whole = eight artifact tests few (omega (arith, linear-made-le tex w h protected m a x y (sideSpan s false) (sideSpan s true)))
 
--- the span of a side neighbour, in its row or its column, as it is found from its own column
-span-first : (s : Settings) (x : ℕ) → sideSpan s (eqb x (x + 1)) ≡ sideSpan s false
-span-first s x = ap (sideSpan s) (ne-eqb x (x + 1) (omega arith))
-
-span-middle : (s : Settings) (x : ℕ) → sideSpan s (eqb (x + 1) (x + 1)) ≡ sideSpan s true
-span-middle s x = ap (sideSpan s) (eq-eqb (x + 1) (x + 1) refl)
-
-span-last : (s : Settings) (x : ℕ) → sideSpan s (eqb (x + 2) (x + 1)) ≡ sideSpan s false
-span-last s x = ap (sideSpan s) (ne-eqb (x + 2) (x + 1) (omega arith))
-
 -- the neighbours of the texel that is given
 abbrev of : tie.Start → ℕ → ℕ
 of c = let a = c .args in towards (texel (cutSamples (a .b) (now (a .xs))) (a .b .width) (a .b .channels)) (a .b .width) (a .b .height) (a .s) (a .protected) (a .t .median) (a .t .texel) (a .t .x) (a .t .y)
 
 -- the verdict after each of them
-after1 : (c : tie.After-side-artifact) → c .side-artifact .result ≡ upTo 1 (of (c .before .before))
-after1 c = up-to-first (of (c .before .before)) (rw (span-first _ _) at (c .side-artifact .ensures))
+after1 : (c : tie.After-row-artifact) → c .row-artifact .result ≡ upTo 1 (of (c .before .before .before))
+after1 c = up-to-first (of (c .before .before .before)) (c .row-artifact .ensures)
 
-after2 : (c : tie.After-side-artifact2) → c .before .before .side-artifact .result + c .side-artifact2 .result ≡ upTo 2 (of (c .before .before .before .before))
-after2 c = up-to-next 1 (of (c .before .before .before .before)) (after1 (c .before .before)) (c .before .if1 .left) (rw (span-middle _ _) at (c .side-artifact2 .ensures))
+after2 : (c : tie.After-column-artifact) → c .before .before .row-artifact .result + c .column-artifact .result ≡ upTo 2 (of (c .before .before .before .before .before))
+after2 c = up-to-next 1 (of (c .before .before .before .before .before)) (after1 (c .before .before)) (c .before .if1 .left) (c .column-artifact .ensures)
 
-after3 : (c : tie.After-side-artifact3) → c .before .before .before .before .side-artifact .result + c .before .before .side-artifact2 .result + c .side-artifact3 .result ≡ upTo 3 (of (c .before .before .before .before .before .before))
-after3 c = up-to-next 2 (of (c .before .before .before .before .before .before)) (after2 (c .before .before)) (c .before .if2 .left) (rw (span-last _ _) at (c .side-artifact3 .ensures))
+after3 : (c : tie.After-row-artifact2) → c .before .before .before .before .row-artifact .result + c .before .before .column-artifact .result + c .row-artifact2 .result ≡ upTo 3 (of (c .before .before .before .before .before .before .before))
+after3 c = up-to-next 2 (of (c .before .before .before .before .before .before .before)) (after2 (c .before .before)) (c .before .if2 .left) (c .row-artifact2 .ensures)
 
-after4 : (c : tie.After-side-artifact4) → c .before .before .before .before .before .before .side-artifact .result + c .before .before .before .before .side-artifact2 .result + c .before .before .side-artifact3 .result + c .side-artifact4 .result ≡ upTo 4 (of (c .before .before .before .before .before .before .before .before))
-after4 c = up-to-next 3 (of (c .before .before .before .before .before .before .before .before)) (after3 (c .before .before)) (c .before .if3 .left) (rw (span-middle _ _) at (c .side-artifact4 .ensures))
+after4 : (c : tie.After-column-artifact2) → c .before .before .before .before .before .before .row-artifact .result + c .before .before .before .before .column-artifact .result + c .before .before .row-artifact2 .result + c .column-artifact2 .result ≡ upTo 4 (of (c .before .before .before .before .before .before .before .before .before))
+after4 c = up-to-next 3 (of (c .before .before .before .before .before .before .before .before .before)) (after3 (c .before .before)) (c .before .if3 .left) (c .column-artifact2 .ensures)
 
-after5 : (c : tie.After-diagonal-artifact) → c .before .before .before .before .before .before .before .before .side-artifact .result + c .before .before .before .before .before .before .side-artifact2 .result + c .before .before .before .before .side-artifact3 .result + c .before .before .side-artifact4 .result + c .diagonal-artifact .result ≡ upTo 5 (of (c .before .before .before .before .before .before .before .before .before .before))
-after5 c = up-to-next 4 (of (c .before .before .before .before .before .before .before .before .before .before)) (after4 (c .before .before)) (c .before .if4 .left) (c .diagonal-artifact .ensures)
+after5 : (c : tie.After-lower-artifact) → c .before .before .before .before .before .before .before .before .row-artifact .result + c .before .before .before .before .before .before .column-artifact .result + c .before .before .before .before .row-artifact2 .result + c .before .before .column-artifact2 .result + c .lower-artifact .result ≡ upTo 5 (of (c .before .before .before .before .before .before .before .before .before .before .before))
+after5 c = up-to-next 4 (of (c .before .before .before .before .before .before .before .before .before .before .before)) (after4 (c .before .before)) (c .before .if4 .left) (c .lower-artifact .ensures)
 
-after6 : (c : tie.After-diagonal-artifact2) → c .before .before .before .before .before .before .before .before .before .before .side-artifact .result + c .before .before .before .before .before .before .before .before .side-artifact2 .result + c .before .before .before .before .before .before .side-artifact3 .result + c .before .before .before .before .side-artifact4 .result + c .before .before .diagonal-artifact .result + c .diagonal-artifact2 .result ≡ upTo 6 (of (c .before .before .before .before .before .before .before .before .before .before .before .before))
-after6 c = up-to-next 5 (of (c .before .before .before .before .before .before .before .before .before .before .before .before)) (after5 (c .before .before)) (c .before .if5 .left) (c .diagonal-artifact2 .ensures)
+after6 : (c : tie.After-lower-artifact2) → c .before .before .before .before .before .before .before .before .before .before .row-artifact .result + c .before .before .before .before .before .before .before .before .column-artifact .result + c .before .before .before .before .before .before .row-artifact2 .result + c .before .before .before .before .column-artifact2 .result + c .before .before .lower-artifact .result + c .lower-artifact2 .result ≡ upTo 6 (of (c .before .before .before .before .before .before .before .before .before .before .before .before .before))
+after6 c = up-to-next 5 (of (c .before .before .before .before .before .before .before .before .before .before .before .before .before)) (after5 (c .before .before)) (c .before .if5 .left) (c .lower-artifact2 .ensures)
 
-after7 : (c : tie.After-diagonal-artifact3) → c .before .before .before .before .before .before .before .before .before .before .before .before .side-artifact .result + c .before .before .before .before .before .before .before .before .before .before .side-artifact2 .result + c .before .before .before .before .before .before .before .before .side-artifact3 .result + c .before .before .before .before .before .before .side-artifact4 .result + c .before .before .before .before .diagonal-artifact .result + c .before .before .diagonal-artifact2 .result + c .diagonal-artifact3 .result ≡ upTo 7 (of (c .before .before .before .before .before .before .before .before .before .before .before .before .before .before))
-after7 c = up-to-next 6 (of (c .before .before .before .before .before .before .before .before .before .before .before .before .before .before)) (after6 (c .before .before)) (c .before .if6 .left) (c .diagonal-artifact3 .ensures)
+after7 : (c : tie.After-upper-artifact) → c .before .before .before .before .before .before .before .before .before .before .before .before .row-artifact .result + c .before .before .before .before .before .before .before .before .before .before .column-artifact .result + c .before .before .before .before .before .before .before .before .row-artifact2 .result + c .before .before .before .before .before .before .column-artifact2 .result + c .before .before .before .before .lower-artifact .result + c .before .before .lower-artifact2 .result + c .upper-artifact .result ≡ upTo 7 (of (c .before .before .before .before .before .before .before .before .before .before .before .before .before .before .before))
+after7 c = up-to-next 6 (of (c .before .before .before .before .before .before .before .before .before .before .before .before .before .before .before)) (after6 (c .before .before)) (c .before .if6 .left) (c .upper-artifact .ensures)
 
-after8 : (c : tie.After-diagonal-artifact4) → c .before .before .before .before .before .before .before .before .before .before .before .before .before .before .side-artifact .result + c .before .before .before .before .before .before .before .before .before .before .before .before .side-artifact2 .result + c .before .before .before .before .before .before .before .before .before .before .side-artifact3 .result + c .before .before .before .before .before .before .before .before .side-artifact4 .result + c .before .before .before .before .before .before .diagonal-artifact .result + c .before .before .before .before .diagonal-artifact2 .result + c .before .before .diagonal-artifact3 .result + c .diagonal-artifact4 .result ≡ upTo 8 (of (c .before .before .before .before .before .before .before .before .before .before .before .before .before .before .before .before))
-after8 c = up-to-next 7 (of (c .before .before .before .before .before .before .before .before .before .before .before .before .before .before .before .before)) (after7 (c .before .before)) (c .before .if7 .left) (c .diagonal-artifact4 .ensures)
+after8 : (c : tie.After-upper-artifact2) → c .before .before .before .before .before .before .before .before .before .before .before .before .before .before .row-artifact .result + c .before .before .before .before .before .before .before .before .before .before .before .before .column-artifact .result + c .before .before .before .before .before .before .before .before .before .before .row-artifact2 .result + c .before .before .before .before .before .before .before .before .column-artifact2 .result + c .before .before .before .before .before .before .lower-artifact .result + c .before .before .before .before .lower-artifact2 .result + c .before .before .upper-artifact .result + c .upper-artifact2 .result ≡ upTo 8 (of (c .before .before .before .before .before .before .before .before .before .before .before .before .before .before .before .before .before))
+after8 c = up-to-next 7 (of (c .before .before .before .before .before .before .before .before .before .before .before .before .before .before .before .before .before)) (after7 (c .before .before)) (c .before .if7 .left) (c .upper-artifact2 .ensures)
 
 returns : tie.Need-returns
-returns c = up-to-ended 1 7 (of (c .before .before .before)) (after1 (c .before)) (c .if1 .taken) ∙ whole _ _ _ _ _ _ _ _ _
+returns c = up-to-ended 1 7 (of (c .before .before .before .before)) (after1 (c .before)) (c .if1 .taken) ∙ whole _ _ _ _ _ _ _ _ _
 
 returns-2 : tie.Need-returns-2
-returns-2 c = up-to-ended 2 6 (of (c .before .before .before .before .before)) (after2 (c .before)) (c .if2 .taken) ∙ whole _ _ _ _ _ _ _ _ _
+returns-2 c = up-to-ended 2 6 (of (c .before .before .before .before .before .before)) (after2 (c .before)) (c .if2 .taken) ∙ whole _ _ _ _ _ _ _ _ _
 
 returns-3 : tie.Need-returns-3
-returns-3 c = up-to-ended 3 5 (of (c .before .before .before .before .before .before .before)) (after3 (c .before)) (c .if3 .taken) ∙ whole _ _ _ _ _ _ _ _ _
+returns-3 c = up-to-ended 3 5 (of (c .before .before .before .before .before .before .before .before)) (after3 (c .before)) (c .if3 .taken) ∙ whole _ _ _ _ _ _ _ _ _
 
 returns-4 : tie.Need-returns-4
-returns-4 c = up-to-ended 4 4 (of (c .before .before .before .before .before .before .before .before .before)) (after4 (c .before)) (c .if4 .taken) ∙ whole _ _ _ _ _ _ _ _ _
+returns-4 c = up-to-ended 4 4 (of (c .before .before .before .before .before .before .before .before .before .before)) (after4 (c .before)) (c .if4 .taken) ∙ whole _ _ _ _ _ _ _ _ _
 
 returns-5 : tie.Need-returns-5
-returns-5 c = up-to-ended 5 3 (of (c .before .before .before .before .before .before .before .before .before .before .before)) (after5 (c .before)) (c .if5 .taken) ∙ whole _ _ _ _ _ _ _ _ _
+returns-5 c = up-to-ended 5 3 (of (c .before .before .before .before .before .before .before .before .before .before .before .before)) (after5 (c .before)) (c .if5 .taken) ∙ whole _ _ _ _ _ _ _ _ _
 
 returns-6 : tie.Need-returns-6
-returns-6 c = up-to-ended 6 2 (of (c .before .before .before .before .before .before .before .before .before .before .before .before .before)) (after6 (c .before)) (c .if6 .taken) ∙ whole _ _ _ _ _ _ _ _ _
+returns-6 c = up-to-ended 6 2 (of (c .before .before .before .before .before .before .before .before .before .before .before .before .before .before)) (after6 (c .before)) (c .if6 .taken) ∙ whole _ _ _ _ _ _ _ _ _
 
 returns-7 : tie.Need-returns-7
-returns-7 c = up-to-ended 7 1 (of (c .before .before .before .before .before .before .before .before .before .before .before .before .before .before .before)) (after7 (c .before)) (c .if7 .taken) ∙ whole _ _ _ _ _ _ _ _ _
+returns-7 c = up-to-ended 7 1 (of (c .before .before .before .before .before .before .before .before .before .before .before .before .before .before .before .before)) (after7 (c .before)) (c .if7 .taken) ∙ whole _ _ _ _ _ _ _ _ _
 
 returns-8 : tie.Need-returns-8
 returns-8 c = after8 c ∙ whole _ _ _ _ _ _ _ _ _
@@ -128,11 +116,11 @@ returns-8 c = after8 c ∙ whole _ _ _ _ _ _ _ _ _
 pub some-artifact-spec : {M : Type 1} → statement M
 some-artifact-spec =
     tie.close
-    (tie.spec (λ c. search needs) (λ c. search needs) (λ c. search needs) (λ c. search needs) (λ c κs. search needs) returns
-    (λ c κs. search needs) (λ c. omega (arith, side-few _ _ _ _ _ _ _ _ _ (c .side-artifact2 .ensures))) returns-2
-    (λ c κs. search needs) (λ c. omega (arith, side-few _ _ _ _ _ _ _ _ _ (c .side-artifact3 .ensures))) returns-3
-    (λ c κs. search needs) (λ c. omega (arith, side-few _ _ _ _ _ _ _ _ _ (c .side-artifact4 .ensures))) returns-4
-    (λ c κs. search needs) (λ c. omega (arith, across-few _ _ _ _ _ _ _ _ _ _ _ (c .diagonal-artifact .ensures))) returns-5
-    (λ c κs. search needs) (λ c. omega (arith, across-few _ _ _ _ _ _ _ _ _ _ _ (c .diagonal-artifact2 .ensures))) returns-6
-    (λ c κs. search needs) (λ c. omega (arith, across-few _ _ _ _ _ _ _ _ _ _ _ (c .diagonal-artifact3 .ensures))) returns-7
-    (λ c κs. search needs) (λ c. omega (arith, across-few _ _ _ _ _ _ _ _ _ _ _ (c .diagonal-artifact4 .ensures))) returns-8)
+    (tie.spec (λ c. search needs) (λ c. search needs) (λ c κs. search needs) returns
+    (λ c κs. search needs) (λ c. omega (arith, side-few _ _ _ _ _ _ _ _ _ (c .column-artifact .ensures))) returns-2
+    (λ c κs. search needs) (λ c. omega (arith, side-few _ _ _ _ _ _ _ _ _ (c .row-artifact2 .ensures))) returns-3
+    (λ c κs. search needs) (λ c. omega (arith, side-few _ _ _ _ _ _ _ _ _ (c .column-artifact2 .ensures))) returns-4
+    (λ c κs. search needs) (λ c. omega (arith, across-few _ _ _ _ _ _ _ _ _ _ _ (c .lower-artifact .ensures))) returns-5
+    (λ c κs. search needs) (λ c. omega (arith, across-few _ _ _ _ _ _ _ _ _ _ _ (c .lower-artifact2 .ensures))) returns-6
+    (λ c κs. search needs) (λ c. omega (arith, across-few _ _ _ _ _ _ _ _ _ _ _ (c .upper-artifact .ensures))) returns-7
+    (λ c κs. search needs) (λ c. omega (arith, across-few _ _ _ _ _ _ _ _ _ _ _ (c .upper-artifact2 .ensures))) returns-8)

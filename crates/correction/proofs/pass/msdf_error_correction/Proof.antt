@@ -1,13 +1,17 @@
 -- `correction::pass::msdf_error_correction` meets its contract: the checks, then the engine on the window that is the whole. Assumes nothing.
-use mathlib.Core.Path.{_≡_, sym, _∙_}
+use mathlib.Core.Path.{_≡_, sym, _∙_, ap}
 use mathlib.Core.Bool.{false}
+use Prim.Native.Nat.{ℕ}
 use native.Mathlib.Omega.{arith}
 use lib.ListN.{length}
+use lib.Ieee.{binary32}
 use denote.Ref.{now}
 use borrow.Author.Needs.{needs}
+use Rattle.numbers.specs.Constants.{zeroOf}
+use Rattle.ground.specs.Lists.{tab}
 use Rattle.inputs.specs.Inner.{Sized}
 use Rattle.inputs.specs.Checks.{Input, input, badRoom, refusalNumber, refusalPlace}
-use Rattle.inputs.proofs.Laws.Checks.{sizes, sized, by-sizes, by-room, by-content, ready}
+use Rattle.inputs.proofs.Laws.Checks.{sizes, sized, by-sizes, by-room, by-content, good-room, ready}
 use Rattle.correction.proofs.pass.Whole.{held, windowed, started, finished, refused, answered}
 use Rattle.correction.proofs.pass.msdf_error_correction.Statement.{statement}
 use Rattle.correction.proofs.pass.msdf_error_correction.Tie as tie
@@ -68,23 +72,24 @@ returns-3 c =
 
 correct-requires : tie.Need-correct-requires
 correct-requires c κs =
-    let f = c .before .before .before .before in
+    let f = c .before .before .before .before .before in
     let w = f .before .before .before .before .before .before in
     let i = given (start (sized-up w .before)) in
     let r = ready i (all (f .before .before)) in
-    (held i (w .whole .ensures) (r .0), (started i (w .whole .ensures) (r .0) (r .1 .0) _ (f .fill .ensures), r .1 .1))
+    let g = good-room _ _ (roomy (w .before)) in
+    ((held i (w .whole .ensures) (r .0), rw (w .whole .ensures) g), (started i (w .whole .ensures) (r .0) (r .1 .0) _ (f .fill .ensures), r .1 .1))
 
 returns-4 : tie.Need-returns-4
 returns-4 c =
     let d = c .before .before .before .before in
-    let l = d .before .before .before .before .before .before in
-    let f = l .before .before .before .before .before in
+    let l = d .before .before .before .before .before .before .before .before in
+    let f = l .before .before .before .before .before .before in
     let w = f .before .before .before .before .before .before in
     let i = given (start (sized-up w .before)) in
     let z = all (f .before .before) in
     let r = ready i z in
     let h = finished i (w .whole .ensures) (r .0) (r .1 .0) _ (f .fill .ensures) (l .correct .ensures) in
-    answered i _ _ _ _ _ z (h .0) (h .1 .0) (h .1 .1) (d .clear .ensures) (c .count-cells .ensures)
+    answered i _ _ _ _ _ z (h .0) (h .1 .0) (h .1 .1) (d .clear .ensures ∙ ap (λ (n : ℕ). tab n (λ k. zeroOf binary32)) (l .correct .kept .1 .1 .0)) (c .count-cells .ensures)
 
 pub msdf-error-correction-spec : {M : Type 1} → statement M
 msdf-error-correction-spec =

@@ -1,10 +1,14 @@
 -- `detectors::diagonal::has_diagonal_artifact` meets its contract. Assumes nothing.
 use borrow.Author.Needs.{needs}
 use mathlib.Core.Path.{ap, sym, _∙_}
+use native.Mathlib.Omega.{arith}
 use Rattle.numbers.specs.declared.scalar.Middle.{Middle}
 use Rattle.detectors.proofs.Laws.Guard.{untested, tested}
 use Rattle.detectors.proofs.diagonal.has_diagonal_artifact.Statement.{statement}
 use Rattle.detectors.proofs.diagonal.has_diagonal_artifact.Tie as tie
+
+has-guarded-artifact-requires : tie.Need-has-guarded-artifact-requires
+has-guarded-artifact-requires c κs = record { first = λ e. absurd (omega (arith, e)); second = λ e. absurd (omega (arith, e)); third = λ e. absurd (omega (arith, e)) }
 
 returns : tie.Need-returns
 returns c =
@@ -16,4 +20,4 @@ returns-2 : tie.Need-returns-2
 returns-2 c = untested _ _ _ _ _ (ap (λ (m : Middle). m .value) (c .before .before .median .ensures)) (sym (c .before .guard .ensures) ∙ c .if1 .left)
 
 pub has-diagonal-artifact-spec : {M : Type 1} → statement M
-has-diagonal-artifact-spec = tie.close (tie.spec (λ c. search needs) (λ c κs. search needs) (λ c κs. search needs) (λ c κs. search needs) returns returns-2)
+has-diagonal-artifact-spec = tie.close (tie.spec (λ c. search needs) (λ c κs. search needs) (λ c κs. search needs) has-guarded-artifact-requires returns returns-2)

@@ -1,4 +1,4 @@
--- `detectors::diagonal::some_pair` meets its contract: no pair below p and no root of pair p below i is an artifact, and the tests are those of all of them. Assumes nothing.
+-- `detectors::diagonal::some_pair` meets its contract: no pair below p and no root tried of pair p below i is an artifact, and the tests are those of all of them. Assumes nothing.
 use mathlib.Core.Path.{_≡_, refl, sym, _∙_, ap}
 use mathlib.Core.Bool.{Bool, true, false}
 use mathlib.Core.List.{List}
@@ -6,22 +6,19 @@ use Prim.Native.Nat.{ℕ, _+_, _-_, _<_, _≤_}
 use native.Mathlib.Omega.{arith}
 use lib.Ieee.{Float}
 use borrow.Author.Needs.{needs}
-use Rattle.numbers.specs.EquationSolver.{Listed}
 use Rattle.ground.specs.Lists.{any, spent}
 use Rattle.ground.proofs.Laws.Search.{none-zero, none-more, any-at}
 use Rattle.ground.proofs.Laws.Spent.{spent-none, spent-more, spent-ended, spent-small}
-use Rattle.detectors.specs.Discriminant.{normalPairRoots}
-use Rattle.detectors.specs.Inner.{rootAt}
+use Rattle.detectors.specs.Inner.{rootAt, Tried}
 use Rattle.detectors.specs.Verdict.{verdict}
 use Rattle.detectors.specs.Diagonal.{diagonalAt, diagonalPair, diagonalTestsAt, diagonalPairTests}
 use Rattle.detectors.proofs.Laws.Verdict.{as-found, as-clear, verdict-le, found, clear}
 use Rattle.detectors.proofs.Laws.Tests.{diagonal-at-le, diagonal-pair-le}
-use Rattle.detectors.proofs.diagonal.Rooted.{no-root, a-root, rooted-spent}
-use Rattle.detectors.proofs.diagonal.Normal.{normal-length, normal-some, normal-spent}
+use Rattle.detectors.proofs.diagonal.Searched.{tried-few, tried-any, tried-spent}
 use Rattle.detectors.proofs.diagonal.some_pair.Statement.{statement}
 use Rattle.detectors.proofs.diagonal.some_pair.Tie as tie
 
--- the roots of pair p in order, u and v, and what each is and takes
+-- the roots of pair p that are tried in order, u and v, and what each is and takes
 module _ (span : Float) (protected : Bool) (am dm : Float) (m : List (List Float)) (p : ℕ) (u v : Float) where
   abbrev at : ℕ → Bool
   at j = diagonalAt span protected am dm m p (rootAt u v j)
@@ -29,26 +26,22 @@ module _ (span : Float) (protected : Bool) (am dm : Float) (m : List (List Float
   abbrev takes : ℕ → ℕ
   takes j = diagonalTestsAt m p (rootAt u v j)
 
-  -- what the inner loop leaves of a pair with n roots, at its end and where it breaks off
-  module _ (n : ℕ) (l : Listed (normalPairRoots m p) n u v) (i : ℕ) where
+  -- what the inner loop leaves of a pair of which n are tried, at its end and where it breaks off
+  module _ (n : ℕ) (l : Tried m p n u v) (i : ℕ) where
     pair-none : i ≡ n → any i at ≡ false → diagonalPair span protected am dm m p ≡ false
-    unfolding diagonalPair
-    pair-none e a = sym (normal-some span protected am dm m p) ∙ no-root (diagonalAt span protected am dm m p) (normalPairRoots m p) n u v (normal-length m p) l i e a
+    pair-none e a = sym (tried-any m p n u v l span protected am dm) ∙ ap (λ (j : ℕ). any j at) (sym e) ∙ a
 
     pair-some : i < n → at i ≡ true → diagonalPair span protected am dm m p ≡ true
-    unfolding diagonalPair
-    pair-some b e = sym (normal-some span protected am dm m p) ∙ a-root (diagonalAt span protected am dm m p) (normalPairRoots m p) n u v (normal-length m p) l i b e
+    pair-some b e = sym (tried-any m p n u v l span protected am dm) ∙ any-at at n i b e
 
     all-tests : i ≡ n → spent i at takes ≡ diagonalPairTests span protected am dm m p
-    unfolding diagonalPairTests
-    all-tests e = ap (λ (j : ℕ). spent j at takes) e ∙ sym (rooted-spent (diagonalAt span protected am dm m p) (normalPairRoots m p) n u v (normal-length m p) l (diagonalTestsAt m p)) ∙ normal-spent span protected am dm m p
+    all-tests e = ap (λ (j : ℕ). spent j at takes) e ∙ tried-spent m p n u v l span protected am dm
 
     few : i ≤ n → spent i at takes ≤ 6
-    few b = omega (arith, b, l .counted, normal-length m p, spent-small 3 i at takes (λ j. diagonal-at-le m p (rootAt u v j)))
+    few b = omega (arith, b, tried-few m p n u v l, spent-small 3 i at takes (λ j. diagonal-at-le m p (rootAt u v j)))
 
     up-to : i < n → at i ≡ true → spent (i + 1) at takes ≡ diagonalPairTests span protected am dm m p
-    unfolding diagonalPairTests
-    up-to b e = sym (spent-ended at takes n i b e) ∙ sym (rooted-spent (diagonalAt span protected am dm m p) (normalPairRoots m p) n u v (normal-length m p) l (diagonalTestsAt m p)) ∙ normal-spent span protected am dm m p
+    up-to b e = sym (spent-ended at takes n i b e) ∙ tried-spent m p n u v l span protected am dm
 
 within : (a : Bool) (t n v : ℕ) → v ≡ verdict a n → t + n < 128 → t + v < 256
 within a t n v e l = omega (arith, e, l, verdict-le a n)
@@ -81,24 +74,24 @@ module _ (span : Float) (protected : Bool) (am dm : Float) (m : List (List Float
   last-pair k tests b e a h o s = as-found tests (any-at ones 3 p b o) ∙ ap (verdict (any 3 ones)) (s ∙ next-pair k e a h ∙ sym (spent-ended ones cost 3 p b o))
 
   -- all tests up to a root x are too few for an artifact
-  room : (u v : Float) (n : ℕ) → Listed (normalPairRoots m p) n u v → (i tests : ℕ) (x : Float) → p ≤ 3 → t ≡ spent p ones cost → i ≤ n
+  room : (u v : Float) (n : ℕ) → Tried m p n u v → (i tests : ℕ) (x : Float) → p ≤ 3 → t ≡ spent p ones cost → i ≤ n
       → tests ≡ t + spent i (at span protected am dm m p u v) (takes span protected am dm m p u v) → tests + diagonalTestsAt m p x < 128
   room u v n l i tests x b e c f = omega (arith, few-pairs b e, few span protected am dm m p u v n l i c, diagonal-at-le m p x)
 
 abbrev Inv-loop : tie.InvT-loop
-Inv-loop k am dm m p tests₀ r n i₀ tests i =
+Inv-loop k am dm m doubt p tests₀ r n i₀ tests i =
     let f : ℕ → Bool = λ j. diagonalAt (k .span) (k .protected) am dm m p (rootAt (r .first) (r .second) j) in
     (i ≤ r .count) × (any i f ≡ false) × (tests ≡ tests₀ + spent i f (λ j. diagonalTestsAt m p (rootAt (r .first) (r .second) j)))
 
 abbrev μ-loop : tie.MeasureT-loop
-μ-loop k am dm m p tests₀ r n i₀ tests i = r .count - i
+μ-loop k am dm m doubt p tests₀ r n i₀ tests i = r .count - i
 
 abbrev Inv-pairs : tie.InvT-pairs
-Inv-pairs k am dm m p₀ tests₀ p tests =
+Inv-pairs k am dm m doubt p₀ tests₀ p tests =
     (p ≤ 3) × (any p (diagonalPair (k .span) (k .protected) am dm m) ≡ false) × (tests ≡ spent p (diagonalPair (k .span) (k .protected) am dm m) (diagonalPairTests (k .span) (k .protected) am dm m))
 
 abbrev μ-pairs : tie.MeasureT-pairs
-μ-pairs k am dm m p₀ tests₀ p tests = 3 - p
+μ-pairs k am dm m doubt p₀ tests₀ p tests = 3 - p
 
 pairs-holds : tie.Need-pairs-holds Inv-loop μ-loop Inv-pairs μ-pairs
 pairs-holds c = (omega arith, none-zero _, sym (spent-none _ _))
@@ -111,7 +104,7 @@ add-tests c =
     let l = c .before .before .before in
     let r = l .before in
     let o = r .before .before .pairs .inv in
-    omega (arith, within _ _ _ _ (rw (c .before .root-at .ensures) at (c .diagonal-at .ensures)) (room _ _ _ _ _ _ _ _ _ _ (r .pair-roots .ensures) _ _ _ (o .0) (o .2) (l .loop .inv .0) (l .loop .inv .2)))
+    omega (arith, within _ _ _ _ (rw (c .before .root-at .ensures) at (c .diagonal-at .ensures)) (room _ _ _ _ _ _ _ _ _ _ (r .roots-tried .ensures) _ _ _ (o .0) (o .2) (l .loop .inv .0) (l .loop .inv .2)))
 
 loop-again : tie.Need-loop-again Inv-loop μ-loop Inv-pairs μ-pairs
 loop-again c =
@@ -126,10 +119,10 @@ pairs-again c =
     let l = c .before .loop in
     let r = c .before .before in
     let o = r .before .before .pairs .inv in
-    let e : l .i ≡ r .pair-roots .result .count = omega (arith, l .inv .0) in (
+    let e : l .i ≡ r .roots-tried .result .count = omega (arith, l .inv .0) in (
       omega arith,
-      none-more _ _ (o .1) (pair-none _ _ _ _ _ _ _ _ _ (r .pair-roots .ensures) (l .i) e (l .inv .1)),
-      l .inv .2 ∙ next-pair _ _ _ _ _ _ _ _ (o .2) (o .1) (all-tests _ _ _ _ _ _ _ _ _ (r .pair-roots .ensures) (l .i) e),
+      none-more _ _ (o .1) (pair-none _ _ _ _ _ _ _ _ _ (r .roots-tried .ensures) (l .i) e (l .inv .1)),
+      l .inv .2 ∙ next-pair _ _ _ _ _ _ _ _ (o .2) (o .1) (all-tests _ _ _ _ _ _ _ _ _ (r .roots-tried .ensures) (l .i) e),
     )
 
 returns : tie.Need-returns Inv-loop μ-loop Inv-pairs μ-pairs
@@ -146,10 +139,10 @@ returns-2 c =
     let r = l .before in
     let o = r .before .before .pairs .inv in
     let x = rw (t .root-at .ensures) at (v .diagonal-at .ensures) in
-    let one = found _ _ _ _ x (room _ _ _ _ _ _ _ _ _ _ (r .pair-roots .ensures) _ _ _ (o .0) (o .2) (l .loop .inv .0) (l .loop .inv .2)) (c .if2 .taken) in
-    let pair = pair-some _ _ _ _ _ _ _ _ _ (r .pair-roots .ensures) (l .loop .i) (omega arith) (one .0) in
+    let one = found _ _ _ _ x (room _ _ _ _ _ _ _ _ _ _ (r .roots-tried .ensures) _ _ _ (o .0) (o .2) (l .loop .inv .0) (l .loop .inv .2)) (c .if2 .taken) in
+    let pair = pair-some _ _ _ _ _ _ _ _ _ (r .roots-tried .ensures) (l .loop .i) (omega arith) (one .0) in
     shift _ _ _ (one .1)
-    ∙ last-pair _ _ _ _ _ _ _ _ _ (omega arith) (o .2) (o .1) (up-to _ _ _ _ _ _ _ _ _ (r .pair-roots .ensures) (l .loop .i) (omega arith) (one .0)) pair (one-more _ _ _ _ _ _ (l .loop .inv .2) (l .loop .inv .1) refl)
+    ∙ last-pair _ _ _ _ _ _ _ _ _ (omega arith) (o .2) (o .1) (up-to _ _ _ _ _ _ _ _ _ (r .roots-tried .ensures) (l .loop .i) (omega arith) (one .0)) pair (one-more _ _ _ _ _ _ (l .loop .inv .2) (l .loop .inv .1) refl)
 
 pub some-pair-spec : {M : Type 1} → statement M
 some-pair-spec =

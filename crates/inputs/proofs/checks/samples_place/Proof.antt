@@ -1,4 +1,4 @@
--- `inputs::checks::samples_place` meets its contract: no sample before the loop's is bad. Assumes nothing.
+-- `inputs::checks::samples_place` meets its contract: where all are not good, no sample before the loop's is bad. Assumes nothing.
 use Prim.Native.Nat.{_-_}
 use native.Mathlib.Omega.{arith}
 use lib.ListN.{length, getD}
@@ -16,21 +16,24 @@ abbrev μ-loop : tie.MeasureT-loop
 μ-loop xs i₀ i = length xs - i
 
 returns : tie.Need-returns Inv-loop μ-loop
+returns c = c .before .all-good .ensures (c .if1 .taken)
+
+returns-2 : tie.Need-returns-2 Inv-loop μ-loop
 unfolding samplesPlace
-returns c =
+returns-2 c =
     let l = c .before .before .before in
-    search-found (l .before .loop .inv) (l .loop-test .taken) (c .before .bad-sample .ensures) (c .if1 .taken)
+    search-found (l .before .loop .inv) (l .loop-test .taken) (c .before .bad-sample .ensures) (c .if2 .taken)
 
 loop-again : tie.Need-loop-again Inv-loop μ-loop
 loop-again c =
     let l = c .before .before .before in
-    search-more (l .before .loop .inv) (l .loop-test .taken) (c .before .bad-sample .ensures) (c .if1 .left)
+    search-more (l .before .loop .inv) (l .loop-test .taken) (c .before .bad-sample .ensures) (c .if2 .left)
 
-returns-2 : tie.Need-returns-2 Inv-loop μ-loop
+returns-3 : tie.Need-returns-3 Inv-loop μ-loop
 unfolding samplesPlace
-returns-2 c = search-end (c .before .loop .inv) (c .loop-test .left)
+returns-3 c = search-end (c .before .loop .inv) (c .loop-test .left)
 
 pub samples-place-spec : {M : Type 1} → statement M
 samples-place-spec =
     tie.close
-    (tie.spec Inv-loop μ-loop (λ c. search-none _ _) (λ c. search needs) (λ c. search needs) (λ c κs. search needs) returns (λ c. search needs) (λ c. omega arith) loop-again returns-2)
+    (tie.spec Inv-loop μ-loop (λ c κs. search needs) returns (λ c. search-none _ _) (λ c. search needs) (λ c. search needs) (λ c κs. search needs) returns-2 (λ c. search needs) (λ c. omega arith) loop-again returns-3)

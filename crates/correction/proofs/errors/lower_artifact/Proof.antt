@@ -1,0 +1,84 @@
+-- `correction::errors::lower_artifact` meets its contract: where the orders leave no pair in doubt there is nothing to find. Assumes nothing.
+use mathlib.Core.Path.{_≡_, refl, sym, _∙_}
+use mathlib.Core.Bool.{_&&_}
+use mathlib.Core.Logic.{⊎-elim}
+use Prim.Native.Nat.{_-_, _<_, _≤_}
+use native.Mathlib.Omega.{arith}
+use lib.Dec.{leb, ltb}
+use denote.Ref.{now}
+use borrow.Author.Tests.{ltb-true, leb-true, lt-ltb, le-ltb}
+use Rattle.ground.proofs.Laws.Bools.{and-taken, and-left, both-hold}
+use Rattle.detectors.specs.Orders.{doubt, Doubts, orderCode}
+use Rattle.inputs.specs.Window.{cutSamples}
+use Rattle.correction.specs.Bitmap.{texel}
+use Rattle.correction.specs.Inner.{fourOf}
+use Rattle.correction.proofs.errors.Beside.{in-bounds, before-row, outside-column, known-doubt, across-on, across-off, across-clear}
+use Rattle.correction.proofs.errors.lower_artifact.Statement.{statement}
+use Rattle.correction.proofs.errors.lower_artifact.Tie as tie
+
+abbrev start : tie.Then3 → tie.Start
+start c = c .before .before .before .before .before .before
+
+-- the test of the column
+flag : (c : tie.Joined2) → let a = c .before .before .before .before .before .args in c .if2 .if3 ≡ (ltb 0 (a .nx) && leb (a .nx) (a .b .width))
+flag c = ⊎-elim (λ w. and-taken refl (lt-ltb _ _ (w .0 .taken)) (w .2)) (λ w. w .1 ∙ and-left _ refl (le-ltb _ _ (w .0 .left))) (c .if2 .came)
+
+-- where the neighbour lies that is inside
+first : (c : tie.Then3) → 0 < start c .args .nx
+first c = ltb-true _ _ (both-hold _ _ (sym (flag (c .before)) ∙ c .if3 .taken) .0)
+
+last : (c : tie.Then3) → start c .args .nx ≤ start c .args .b .width
+last c = leb-true _ _ (both-hold (ltb 0 (start c .args .nx)) _ (sym (flag (c .before)) ∙ c .if3 .taken) .1)
+
+across : (c : tie.Then3) → start c .args .nx - 1 < start c .args .b .width
+across c = omega (arith, first c, last c)
+
+low : (c : tie.Then3) → 0 < start c .args .t .y
+low c = c .before .before .if1 .taken
+
+row : (c : tie.Then3) → start c .args .t .y - 1 < start c .args .b .height
+row c = omega (arith, start c .pre .1 .1 .1)
+
+-- the pairs in doubt
+known : (c : tie.After-doubt-towards) → let a = start (c .before .before) .args in let tex = texel (cutSamples (a .b) (now (a .xs))) (a .b .width) (a .b .channels) in
+    (c .doubt-towards .result ≡ doubt (orderCode (a .t .texel)) (orderCode (tex (a .nx - 1) (a .t .y))) (orderCode (tex (a .t .x) (a .t .y - 1))) (orderCode (tex (a .nx - 1) (a .t .y - 1))))
+    × Doubts (c .doubt-towards .result) (fourOf tex (a .t .texel) (a .t .x) (a .t .y) (a .nx - 1) (a .t .y - 1))
+known c =
+    let d = c .before .before in
+    let p = start d .pre .1 in
+    let a = start d .args in
+    known-doubt (a .b) (now (a .xs)) (now (a .stencil)) (p .0 .1) (a .t .texel) (a .o) (a .t .x) (a .t .y) (a .nx - 1) (a .t .y - 1) (p .1 .2) (p .1 .0) (p .1 .1) (across d) (row d) (c .doubt-towards .ensures)
+
+doubt-towards-requires : tie.Need-doubt-towards-requires
+doubt-towards-requires c κs =
+    let d = c .before in
+    let p = start d .pre .1 in
+    (p .0 .0, (across d, row d, p .1 .0, p .1 .1))
+
+diagonal-artifact-requires : tie.Need-diagonal-artifact-requires
+diagonal-artifact-requires c κs =
+    let k = c .before .before in
+    let d = k .before .before in
+    let p = start d .pre in
+    (p .0, ((across d, row d, p .1 .1 .0, p .1 .1 .1), known k .1))
+
+returns : tie.Need-returns
+returns c =
+    let d = c .before .before .before .before .before in
+    c .diagonal-artifact .ensures ∙ across-on _ _ _ _ _ _ _ _ _ _ _ _ _ (in-bounds _ _ _ _ (first d) (last d) (low d) (omega (arith, start d .pre .1 .1 .1))) refl refl
+
+returns-2 : tie.Need-returns-2
+returns-2 c =
+    let d = c .before .before .before in
+    let z : c .before .doubt-towards .result ≡ 0 = omega (arith, c .if4 .left) in
+    across-clear _ _ _ _ _ _ _ _ _ _ _ _ _ (in-bounds _ _ _ _ (first d) (last d) (low d) (omega (arith, start d .pre .1 .1 .1))) refl refl (sym (known (c .before) .0) ∙ z)
+
+returns-3 : tie.Need-returns-3
+returns-3 c =
+    ⊎-elim
+    (λ w. across-off _ _ _ _ _ _ _ _ _ _ _ (outside-column _ _ _ _ (sym (flag (record { before = record { before = c .before; if1 = w .0 }; if2 = w .1 })) ∙ w .2 .left)))
+    (λ w. across-off _ _ _ _ _ _ _ _ _ _ _ (before-row _ _ _ _ (w .left)))
+    (c .if1 .came)
+
+pub lower-artifact-spec : {M : Type 1} → statement M
+lower-artifact-spec = tie.close (tie.spec first (λ c. low (c .before)) doubt-towards-requires (λ c. first (c .before .before .before)) (λ c. low (c .before .before .before .before)) diagonal-artifact-requires returns returns-2 returns-3)

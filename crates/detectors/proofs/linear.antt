@@ -1,0 +1,2 @@
+-- Where a pair is judged without its crossing.
+pub mod Signs
