@@ -4,7 +4,7 @@ use crate::glyphs;
 use crate::rng::Rng;
 
 pub struct Field {
-    pub name: &'static str,
+    pub name: String,
     pub size: usize,
     pub samples: Vec<f32>,
     pub lengths: [f64; 3],
@@ -22,7 +22,7 @@ fn glyph_field(size: usize) -> Field {
     let samples = glyphs::field(&glyph, size, size, 3, range);
     let step = 1.0 / range;
     let mut field = Field {
-        name: "glyph",
+        name: "glyph".into(),
         size,
         samples,
         lengths: [step, step, std::f64::consts::SQRT_2 * step],
@@ -40,16 +40,16 @@ fn glyph_field(size: usize) -> Field {
     field
 }
 
-fn noise_field(size: usize) -> Field {
+pub fn noise_field(size: usize) -> Field {
     let mut rng = Rng::new(12, size as u64);
     let samples = (0..size * size * 3).map(|_| rng.unit() as f32).collect();
-    Field { name: "noise", size, samples, lengths: [0.25, 0.25, 0.35], colours: vec![], coords: vec![], ends: vec![] }
+    Field { name: "noise".into(), size, samples, lengths: [0.25, 0.25, 0.35], colours: vec![], coords: vec![], ends: vec![] }
 }
 
 /// Figure C13 in every direction: each second texel takes all the range tests that a texel can, but at the border.
 fn checkered_field(size: usize) -> Field {
     let samples = (0..size * size).flat_map(|k| if (k % size + k / size) % 2 == 0 { [0.5, 1.0, 1.5] } else { [2.5, 0.75, -0.5] }).collect();
-    Field { name: "checkered", size, samples, lengths: [16.0; 3], colours: vec![], coords: vec![], ends: vec![] }
+    Field { name: "checkered".into(), size, samples, lengths: [16.0; 3], colours: vec![], coords: vec![], ends: vec![] }
 }
 
 pub fn fields(size: usize) -> [Field; 3] {
