@@ -97,6 +97,14 @@ cutOut g xs mode s colours coords ends = input (g .width) (g .height) (g .channe
 unfoldable pub shieldedCells : Input → List ℕ
 shieldedCells i = tab (i .height * i .width) (λ k. stencilByte (cornered i (k % i .width) (k / i .width)) (protects i (k % i .width) (k / i .width)) false)
 
+-- the three samples from a place on
+abbrev pub samplesAt : List Float → ℕ → List Float
+samplesAt xs at = getD xs at nan ∷ getD xs (at + 1) nan ∷ getD xs (at + 2) nan ∷ []
+
+-- the four texels of a diagonal test: a, and those whose samples stand from three places on
+abbrev pub fourAt : List Float → List Float → ℕ → ℕ → ℕ → List (List Float)
+fourAt xs a row column across = a ∷ samplesAt xs row ∷ samplesAt xs column ∷ samplesAt xs across ∷ []
+
 -- the four texels of the diagonal test of texel a at x, y against the one at u, v
 abbrev pub fourOf : (ℕ → ℕ → List Float) → List Float → ℕ → ℕ → ℕ → ℕ → List (List Float)
 fourOf tex a x y u v = a ∷ tex u y ∷ tex x v ∷ tex u v ∷ []

@@ -2,8 +2,9 @@
 ghost use mathlib.Core.Path.{_≡_};
 ghost use Prim.Native.Nat.{_+_, _-_, _*_, _<_, _≤_};
 ghost use mathlib.Core.Bool.{true};
+ghost use lib.ListN.{length};
 ghost use Rattle.correction.specs.Bitmap as Rules;
-ghost use Rattle.correction.specs.Inner.{Reached, centreOf};
+ghost use Rattle.correction.specs.Inner.{samplesAt, Reached, centreOf};
 ghost use Rattle.inputs.specs.Inner.{Fits, Sampled};
 ghost use Rattle.inputs.specs.Window as Windows;
 use detectors::texel;
@@ -56,14 +57,21 @@ pub fn place(b: Window, x: usize, y: usize) -> usize
     cell(b, x, y) * b.channels
 }
 
+// The three samples from a place on.
+pub fn samples_at(xs: &[f32], at: usize) -> [f32; 3]
+    requires { ⌜ at + 2 < length (now xs) ⌝ }
+    ensures { λ r. ⌜ r ≡ samplesAt (now (xs .entry)) at ⌝ }
+{
+    [xs[at], xs[at + 1], xs[at + 2]]
+}
+
 // The first three channels of texel x, y.
 pub fn texel(xs: &[f32], b: Window, x: usize, y: usize) -> [f32; 3]
     requires { ⌜ Sampled b (now xs) ⌝ }
     requires { ⌜ (x < b .width) × (y < b .height) ⌝ }
     ensures { λ r. ⌜ r ≡ Rules.texel (Windows.cutSamples b (now (xs .entry))) (b .width) (b .channels) x y ⌝ }
 {
-    let at = place(b, x, y);
-    [xs[at], xs[at + 1], xs[at + 2]]
+    samples_at(xs, place(b, x, y))
 }
 
 // Texel x, y as the centre of its neighbours.

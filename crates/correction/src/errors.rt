@@ -4,7 +4,7 @@ ghost use mathlib.Core.Path.{_≡_};
 ghost use Prim.Native.Nat.{ℕ, _+_, _-_, _<_, _≤_};
 ghost use mathlib.Core.Bool.{true, false, cond, _&&_};
 ghost use lib.Dec.{eqb, leb, ltb};
-ghost use lib.ListN.{getD};
+ghost use lib.ListN.{getD, length};
 ghost use Rattle.ranges.specs.Config.{sideSpan, diagonalSpan};
 ghost use Rattle.detectors.specs.Diagonal.{hasDiagonalArtifact, diagonalTests};
 ghost use Rattle.detectors.specs.Linear.{hasLinearArtifact, linearTests};
@@ -13,7 +13,7 @@ ghost use Rattle.detectors.specs.Verdict.{verdict};
 ghost use Rattle.inputs.specs.Stencil.{isProtected, setError};
 ghost use Rattle.correction.specs.Bitmap.{texel};
 ghost use Rattle.correction.specs.Errors as Errors;
-ghost use Rattle.correction.specs.Inner.{fourOf, found, madeFor, madeIn, orderIn, Ordered, Settled, nextIn, columnIn, Scanned, rowFound, rowMade};
+ghost use Rattle.correction.specs.Inner.{samplesAt, fourAt, fourOf, found, madeFor, madeIn, orderIn, Ordered, Settled, nextIn, columnIn, Scanned, rowFound, rowMade};
 ghost use Rattle.inputs.specs.Inner.{Sampled, Stencilled};
 ghost use Rattle.inputs.specs.Window.{cellIn, cutCells, cutSamples, CellsPasted};
 use crate::bitmap;
@@ -25,6 +25,7 @@ use detectors::texel;
 use detectors::verdict;
 use inputs::sizes::Window;
 use inputs::stencil;
+use ranges::config;
 use ranges::config::Settings;
 
 // A scan along a row: the column that it has come to, and the orders of the column before and of that one, each over three rows.
@@ -111,24 +112,12 @@ fn alike(stencil: &[u8], b: Window, o: u8, x: usize, y: usize) -> bool
     (o > 0) & (order_at(stencil, b, x, y) == o)
 }
 
-// Texel a of t against the side neighbour at x, y, in its column where `upright`, else in its row.
-fn side_artifact(
-    xs: &[f32],
-    b: Window,
-    s: Settings,
-    upright: bool,
-    protected: bool,
-    t: Centre,
-    x: usize,
-    y: usize,
-) -> usize
-    requires { ⌜ Sampled b (now xs) ⌝ }
-    requires { ⌜ (x < b .width) × (y < b .height) ⌝ }
-    ensures { λ r. ⌜ r ≡ verdict (hasLinearArtifact (sideSpan s upright) protected (t .median) (t .texel) (texel (cutSamples b (now (xs .entry))) (b .width) (b .channels) x y)) (linearTests (sideSpan s upright) protected (t .median) (t .texel) (texel (cutSamples b (now (xs .entry))) (b .width) (b .channels) x y)) ⌝ }
+// Texel a, whose median is am, against the side neighbour whose samples stand from a place on. No record is handed on: each would be copied for every neighbour.
+fn side_artifact(xs: &[f32], at: usize, span: f64, protected: bool, am: f32, a: [f32; 3]) -> usize
+    requires { ⌜ at + 2 < length (now xs) ⌝ }
+    ensures { λ r. ⌜ r ≡ verdict (hasLinearArtifact span protected am a (samplesAt (now (xs .entry)) at)) (linearTests span protected am a (samplesAt (now (xs .entry)) at)) ⌝ }
 {
-    let a = t.texel;
-    let n = bitmap::texel(xs, b, x, y);
-    linear::has_linear_artifact(s, upright, protected, t.median, a, n)
+    linear::has_linear_artifact(span, protected, am, a, bitmap::samples_at(xs, at))
 }
 
 // Texel a of t, of the order o, against its neighbour in the row at column nx, counted from 1.
@@ -149,7 +138,10 @@ fn row_artifact(
 {
     if 0 < nx && nx <= b.width {
         if !alike(stencil, b, o, nx - 1, t.y) {
-            return side_artifact(xs, b, s, false, protected, t, nx - 1, t.y);
+            let a = t.texel;
+            let at = bitmap::place(b, nx - 1, t.y);
+            let span = config::side_span(s, false);
+            return side_artifact(xs, at, span, protected, t.median, a);
         }
     }
     0
@@ -173,7 +165,10 @@ fn column_artifact(
 {
     if 0 < ny && ny <= b.height {
         if !alike(stencil, b, o, t.x, ny - 1) {
-            return side_artifact(xs, b, s, true, protected, t, t.x, ny - 1);
+            let a = t.texel;
+            let at = bitmap::place(b, t.x, ny - 1);
+            let span = config::side_span(s, true);
+            return side_artifact(xs, at, span, protected, t.median, a);
         }
     }
     0
@@ -193,34 +188,34 @@ fn doubt_towards(stencil: &[u8], b: Window, o: u8, t: Centre, x: usize, y: usize
     )
 }
 
-// Texel a of t against the diagonal neighbour at x, y, in the pairs that are in doubt. The two beside it are read only once the guard has passed.
+// Texel a, whose median is am, against the one across, in the pairs that are in doubt: the samples of the one in its row, of the one in its column and of the one
+// across stand from these places on. The two beside it are read only once the guard has passed.
 fn diagonal_artifact(
     xs: &[f32],
-    b: Window,
-    s: Settings,
+    row: usize,
+    column: usize,
+    across: usize,
+    span: f64,
     protected: bool,
-    t: Centre,
-    x: usize,
-    y: usize,
+    am: f32,
+    a: [f32; 3],
     doubt: u8,
 ) -> usize
-    requires { ⌜ Sampled b (now xs) ⌝ }
-    requires { ⌜ (x < b .width) × (y < b .height) × (t .x < b .width) × (t .y < b .height) ⌝ }
-    requires { ⌜ Doubts doubt (fourOf (texel (cutSamples b (now xs)) (b .width) (b .channels)) (t .texel) (t .x) (t .y) x y) ⌝ }
-    ensures { λ r. ⌜ r ≡ verdict (hasDiagonalArtifact (diagonalSpan s) protected (t .median) (fourOf (texel (cutSamples b (now (xs .entry))) (b .width) (b .channels)) (t .texel) (t .x) (t .y) x y)) (diagonalTests (diagonalSpan s) protected (t .median) (fourOf (texel (cutSamples b (now (xs .entry))) (b .width) (b .channels)) (t .texel) (t .x) (t .y) x y)) ⌝ }
+    requires { ⌜ (row + 2 < length (now xs)) × (column + 2 < length (now xs)) × (across + 2 < length (now xs)) ⌝ }
+    requires { ⌜ Doubts doubt (fourAt (now xs) a row column across) ⌝ }
+    ensures { λ r. ⌜ r ≡ verdict (hasDiagonalArtifact span protected am (fourAt (now (xs .entry)) a row column across)) (diagonalTests span protected am (fourAt (now (xs .entry)) a row column across)) ⌝ }
 {
-    let d = bitmap::texel(xs, b, x, y);
+    let d = bitmap::samples_at(xs, across);
     let far = texel::median(d);
     let dm = far.value;
-    if texel::guard(t.median, dm) {
-        let a = t.texel;
+    if texel::guard(am, dm) {
         let m = [
             a,
-            bitmap::texel(xs, b, x, t.y),
-            bitmap::texel(xs, b, t.x, y),
+            bitmap::samples_at(xs, row),
+            bitmap::samples_at(xs, column),
             d,
         ];
-        return diagonal::has_guarded_artifact(s, protected, t.median, dm, m, doubt);
+        return diagonal::has_guarded_artifact(span, protected, am, dm, m, doubt);
     }
     0
 }
@@ -244,7 +239,12 @@ fn lower_artifact(
     if 0 < t.y && (0 < nx && nx <= b.width) {
         let q = doubt_towards(stencil, b, o, t, nx - 1, t.y - 1);
         if q > 0 {
-            return diagonal_artifact(xs, b, s, protected, t, nx - 1, t.y - 1, q);
+            let a = t.texel;
+            let row = bitmap::place(b, nx - 1, t.y);
+            let column = bitmap::place(b, t.x, t.y - 1);
+            let across = bitmap::place(b, nx - 1, t.y - 1);
+            let span = config::diagonal_span(s);
+            return diagonal_artifact(xs, row, column, across, span, protected, t.median, a, q);
         }
     }
     0
@@ -269,7 +269,12 @@ fn upper_artifact(
     if t.y + 1 < b.height && (0 < nx && nx <= b.width) {
         let q = doubt_towards(stencil, b, o, t, nx - 1, t.y + 1);
         if q > 0 {
-            return diagonal_artifact(xs, b, s, protected, t, nx - 1, t.y + 1, q);
+            let a = t.texel;
+            let row = bitmap::place(b, nx - 1, t.y);
+            let column = bitmap::place(b, t.x, t.y + 1);
+            let across = bitmap::place(b, nx - 1, t.y + 1);
+            let span = config::diagonal_span(s);
+            return diagonal_artifact(xs, row, column, across, span, protected, t.median, a, q);
         }
     }
     0

@@ -1,8 +1,8 @@
 -- What the inner functions ask of each other and leave for each other. No public function's promise rests on this page. Definitions only.
 use mathlib.Core.Path.{_≡_}
 use mathlib.Core.Logic.{_⊎_}
-use Prim.Native.Nat.{ℕ, _+_, _/_, _%_}
-use mathlib.Core.Bool.{Bool, false, cond, _&&_, _||_}
+use Prim.Native.Nat.{ℕ, _+_}
+use mathlib.Core.Bool.{Bool, true, false, cond, _&&_, _||_}
 use mathlib.Core.List.{List}
 use lib.Dec.{eqb, leb}
 use lib.IntN.{pos, negsuc}
@@ -15,7 +15,7 @@ use Rattle.detectors.specs.Pairs.{mixedChannel, mixedMedian}
 use Rattle.detectors.specs.Edge.{edgePoint}
 use Rattle.detectors.specs.Diagonal.{turns, turningTest}
 use Rattle.detectors.specs.Discriminant.{normalPairRoots}
-use Rattle.detectors.specs.Orders.{NoRoot}
+use Rattle.detectors.specs.Orders.{NoRoot, doubted}
 
 -- a difference that is zero or from 2^-7 to 2^12
 abbrev pub ample : Float → Bool
@@ -25,13 +25,13 @@ ample d = (eq d (zeroOf binary32) || le (fin false 1 (negsuc 6)) d) && le d (fin
 abbrev pub rootAt : Float → Float → ℕ → Float
 rootAt first second k = cond (eqb k 0) first second
 
--- the bit of pair p among those in doubt
-abbrev pub doubtBit : ℕ → ℕ → ℕ
-doubtBit bits p = cond (eqb p 0) (bits % 2) (cond (eqb p 1) (bits / 2 % 2) (bits / 4 % 2))
+-- the roots of pair p, as a count and two values: those by the root without branches, or none where none is inside
+abbrev pub Sought : List (List Float) → ℕ → ℕ → Float → Float → Type 0
+Sought m p n u v = Listed (normalPairRoots m p) n u v ⊎ (n ≡ 0) × NoRoot m p
 
--- the roots of pair p that are tried, as a count and two values: those by the root without branches, or none where none is inside
-abbrev pub Tried : List (List Float) → ℕ → ℕ → Float → Float → Type 0
-Tried m p n u v = Listed (normalPairRoots m p) n u v ⊎ (n ≡ 0) × NoRoot m p
+-- those that are tried: none where the pair is not in doubt
+abbrev pub Tried : ℕ → List (List Float) → ℕ → ℕ → Float → Float → Type 0
+Tried bits m p n u v = ((doubted bits p ≡ true) × Sought m p n u v) ⊎ ((doubted bits p ≡ false) × (n ≡ 0))
 
 -- the verdict of what was tried before and what comes next, which is not tried where there is an artifact
 abbrev pub orElse : ℕ → ℕ → ℕ

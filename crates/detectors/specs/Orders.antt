@@ -4,7 +4,7 @@ use mathlib.Core.Path.{_≡_}
 use Prim.Native.Nat.{ℕ, _+_, _/_, _%_}
 use mathlib.Core.Bool.{Bool, false, cond, _&&_, _||_}
 use mathlib.Core.List.{List}
-use lib.Dec.{ltb}
+use lib.Dec.{eqb, ltb}
 use lib.Bits.{bitOr, bitXor}
 use lib.IntN.{pos, negsuc}
 use lib.Ieee.{Float, binary32, fin, neg, lt, le, eq, fits}
@@ -12,7 +12,7 @@ use Rattle.numbers.specs.Constants.{zeroOf}
 use Rattle.ground.specs.Lists.{some}
 use Rattle.detectors.specs.Texel.{channel}
 use Rattle.detectors.specs.Pairs.{inside, difference}
-use Rattle.detectors.specs.Diagonal.{pairRoots}
+use Rattle.detectors.specs.Diagonal.{pairRoots, diagonalPair, diagonalPairTests}
 
 -- the least size of a difference whose sign is beyond doubt, 2^-6, and the largest of a channel, 2^11
 abbrev pub leastDifference : Float
@@ -46,6 +46,21 @@ orderCode a = cond (ordered a) (8 + sign (difference a 0) 1 + sign (difference a
 -- the pairs of channels, as bits, whose signs four texels of these orders do not share: all three where an order is not beyond doubt
 unfoldable pub doubt : ℕ → ℕ → ℕ → ℕ → ℕ
 doubt a b c d = let x = bitOr (bitXor a b) (bitOr (bitXor a c) (bitXor a d)) in cond (ltb 0 a && ltb x 8) x 7
+
+-- the bit of pair p among three
+abbrev pub doubtBit : ℕ → ℕ → ℕ
+doubtBit bits p = cond (eqb p 0) (bits % 2) (cond (eqb p 1) (bits / 2 % 2) (bits / 4 % 2))
+
+-- pair p is among those that these bits name
+unfoldable pub doubted : ℕ → ℕ → Bool
+doubted bits p = eqb (doubtBit bits p) 1
+
+-- pair p of four texels, tried where these bits name it: whether it is an artifact, and the tests that it takes
+unfoldable pub doubtedPair : ℕ → Float → Bool → Float → Float → List (List Float) → ℕ → Bool
+doubtedPair bits span protected am dm m p = doubted bits p && diagonalPair span protected am dm m p
+
+unfoldable pub doubtedTests : ℕ → Float → Bool → Float → Float → List (List Float) → ℕ → ℕ
+doubtedTests bits span protected am dm m p = cond (doubted bits p) (diagonalPairTests span protected am dm m p) 0
 
 -- no root of pair p of four texels is inside
 abbrev pub NoRoot : List (List Float) → ℕ → Type 0

@@ -1,7 +1,6 @@
 // The diagonal detector: a texel, its two side neighbours and the one across.
 ghost use mathlib.Core.Path.{_≡_};
 ghost use mathlib.Core.List.{[]};
-ghost use lib.Dec.{eqb};
 ghost use lib.ListN.{getD};
 ghost use Prim.Native.Nat.{_<_, _≤_};
 ghost use mathlib.Core.Bool.{true, false, cond};
@@ -9,9 +8,8 @@ ghost use Rattle.numbers.specs.EquationSolver.{Listed};
 ghost use Rattle.detectors.specs.Verdict.{verdict};
 ghost use Rattle.detectors.specs.Diagonal as Diagonal;
 ghost use Rattle.ground.specs.Lists.{any, some, spent};
-ghost use Rattle.ranges.specs.Config as Config;
 ghost use Rattle.detectors.specs.Pairs.{inside, difference};
-ghost use Rattle.detectors.specs.Orders.{Doubts};
+ghost use Rattle.detectors.specs.Orders as Orders;
 ghost use Rattle.detectors.specs.Discriminant.{normalQuadraticRoots};
 ghost use Rattle.detectors.specs.Inner as Inner;
 ghost use Rattle.detectors.specs.Inner.{rootVerdict, rootCount};
@@ -24,8 +22,6 @@ use numbers::rounding;
 use numbers::scalar;
 use ranges::classifier;
 use ranges::classifier::Classifier;
-use ranges::config;
-use ranges::config::Settings;
 use ranges::constants;
 
 // The least and the largest of a pair's differences at which it is judged without its roots; the largest of the two in the middle together.
@@ -237,7 +233,7 @@ fn root_at(r: Roots, i: usize) -> f64
 
 // Pair p is among those that are in doubt.
 fn in_doubt(doubt: u8, p: usize) -> bool
-    ensures { λ r. ⌜ r ≡ eqb (Inner.doubtBit doubt p) 1 ⌝ }
+    ensures { λ r. ⌜ r ≡ Orders.doubted doubt p ⌝ }
 {
     if p == 0 {
         return doubt % 2 == 1;
@@ -250,8 +246,8 @@ fn in_doubt(doubt: u8, p: usize) -> bool
 
 // The roots of pair p that are tried: none where it is beyond doubt, or where its differences are of one sign.
 fn roots_tried(m: &[[f32; 3]; 4], p: usize, doubt: u8) -> Roots
-    requires { ⌜ (p < 3) × Doubts doubt (now m) ⌝ }
-    ensures { λ r. ⌜ Inner.Tried (now (m .entry)) p (r .count) (r .first) (r .second) ⌝ }
+    requires { ⌜ p < 3 ⌝ }
+    ensures { λ r. ⌜ Inner.Tried doubt (now (m .entry)) p (r .count) (r .first) (r .second) ⌝ }
 {
     let none = Roots {
         count: 0,
@@ -272,8 +268,7 @@ fn roots_tried(m: &[[f32; 3]; 4], p: usize, doubt: u8) -> Roots
 
 // The pairs in order, and of each the roots in order; the search stops at the first artifact.
 fn some_pair(k: Classifier, am: f32, dm: f32, m: &[[f32; 3]; 4], doubt: u8) -> usize
-    requires { ⌜ Doubts doubt (now m) ⌝ }
-    ensures { λ r. ⌜ r ≡ verdict (any 3 (Diagonal.diagonalPair (k .span) (k .protected) am dm (now (m .entry)))) (spent 3 (Diagonal.diagonalPair (k .span) (k .protected) am dm (now (m .entry))) (Diagonal.diagonalPairTests (k .span) (k .protected) am dm (now (m .entry)))) ⌝ }
+    ensures { λ r. ⌜ r ≡ verdict (any 3 (Orders.doubtedPair doubt (k .span) (k .protected) am dm (now (m .entry)))) (spent 3 (Orders.doubtedPair doubt (k .span) (k .protected) am dm (now (m .entry))) (Orders.doubtedTests doubt (k .span) (k .protected) am dm (now (m .entry)))) ⌝ }
 {
     let mut p = 0usize;
     let mut tests = 0usize;
@@ -296,33 +291,29 @@ fn some_pair(k: Classifier, am: f32, dm: f32, m: &[[f32; 3]; 4], doubt: u8) -> u
     found
 }
 
-// The verdict of texel m[0], whose median is am, against the one across, m[3], whose median is dm, where the guard lets it be tested and each pair that `doubt` leaves out has no root inside.
+// The verdict of texel m[0], whose median is am, against the one across, m[3], whose median is dm, in the pairs that `doubt` names: for a caller that has asked the guard.
 pub fn has_guarded_artifact(
-    s: Settings,
+    span: f64,
     protected: bool,
     am: f32,
     dm: f32,
     m: [[f32; 3]; 4],
     doubt: u8,
 ) -> usize
-    requires { ⌜ Doubts doubt m ⌝ }
-    ensures { λ r. ⌜ r ≡ verdict (any 3 (Diagonal.diagonalPair (Config.diagonalSpan s) protected am dm m)) (spent 3 (Diagonal.diagonalPair (Config.diagonalSpan s) protected am dm m) (Diagonal.diagonalPairTests (Config.diagonalSpan s) protected am dm m)) ⌝ }
+    ensures { λ r. ⌜ r ≡ verdict (any 3 (Orders.doubtedPair doubt span protected am dm m)) (spent 3 (Orders.doubtedPair doubt span protected am dm m) (Orders.doubtedTests doubt span protected am dm m)) ⌝ }
 {
-    let k = Classifier {
-        span: config::diagonal_span(s),
-        protected,
-    };
+    let k = Classifier { span, protected };
     some_pair(k, am, dm, &m, doubt)
 }
 
 // The verdict of texel m[0], whose median is am, against the one across, m[3].
-pub fn has_diagonal_artifact(s: Settings, protected: bool, am: f32, m: [[f32; 3]; 4]) -> usize
-    ensures { λ r. ⌜ r ≡ verdict (Diagonal.hasDiagonalArtifact (Config.diagonalSpan s) protected am m) (Diagonal.diagonalTests (Config.diagonalSpan s) protected am m) ⌝ }
+pub fn has_diagonal_artifact(span: f64, protected: bool, am: f32, m: [[f32; 3]; 4]) -> usize
+    ensures { λ r. ⌜ r ≡ verdict (Diagonal.hasDiagonalArtifact span protected am m) (Diagonal.diagonalTests span protected am m) ⌝ }
 {
     let far = texel::median(m[3]);
     let dm = far.value;
     if texel::guard(am, dm) {
-        return has_guarded_artifact(s, protected, am, dm, m, 7);
+        return has_guarded_artifact(span, protected, am, dm, m, 7);
     }
     0
 }

@@ -1,6 +1,7 @@
 -- Texels of one order, which is beyond doubt, are no artifact to each other, and no test is made between them. Assumes nothing.
 --     linear-settled     two texels
 --     doubts             a pair of channels that `doubt` leaves out has no root inside
+--     doubted-all        and so the pairs that it names are as good as all
 --     undoubted          four texels of which it leaves out every pair
 --     diagonal-settled   four of one order
 use mathlib.Core.Path.{_≡_, refl, sym, ap, subst}
@@ -8,11 +9,11 @@ use mathlib.Core.Bool.{Bool, true, false, false≢true, cond, _&&_, _||_}
 use mathlib.Core.List.{List, []}
 use Prim.Native.Nat.{ℕ, _/_, _%_, _≤_}
 use native.Mathlib.Omega.{arith}
-use lib.Dec.{ltb}
+use lib.Dec.{eqb, ltb}
 use lib.Bits.{xor-self}
 use lib.ListN.{getD}
 use lib.Ieee.{Float, binary64}
-use borrow.Author.Tests.{ltb-true, lt-ltb}
+use borrow.Author.Tests.{ltb-true, lt-ltb, eqb-false}
 use Rattle.numbers.specs.Constants.{zeroOf, oneOf}
 use Rattle.ground.specs.Lists.{any, spent}
 use Rattle.ranges.specs.Classifier.{rangeTest}
@@ -20,7 +21,8 @@ use Rattle.detectors.specs.Texel.{texelMedian}
 use Rattle.detectors.specs.Pairs.{guard, mixedMedian, difference}
 use Rattle.detectors.specs.Linear.{crossing, linearAt, linearPair, linearPairs, hasLinearArtifact, linearTestsAt, linearPairTests, linearPairsTests, linearTests}
 use Rattle.detectors.specs.Diagonal.{diagonalPair, diagonalPairs, hasDiagonalArtifact, diagonalPairTests, diagonalPairsTests, diagonalTests}
-use Rattle.detectors.specs.Orders.{orderCode, doubt, Doubts}
+use Rattle.detectors.specs.Orders.{orderCode, doubt, doubted, doubtedPair, doubtedTests, NoRoot, Doubts}
+use Rattle.detectors.specs.Verdict.{verdict}
 use Rattle.detectors.proofs.orders.Digits.{joint, shared, shared-first}
 use Rattle.detectors.proofs.orders.Codes.{Each, Alike, shares, alike, code-sized, no-crossing, no-root}
 use Rattle.detectors.proofs.orders.Filter.{no-artifact, no-tests}
@@ -106,6 +108,37 @@ module _ (m : List (List Float)) where
 pub doubts : (m : List (List Float)) → Doubts (doubt (orderCode (getD m 0 [])) (orderCode (getD m 1 [])) (orderCode (getD m 2 [])) (orderCode (getD m 3 []))) m
 unfolding doubt
 doubts m = chosen m (ltb 0 (code m 0) && ltb (apart m) 8) (apart m) (left-out m)
+
+-- a bit that is not 1 is 0
+no-bit : (n : ℕ) → eqb (n % 2) 1 ≡ false → n % 2 ≡ 0
+no-bit n e = omega (arith, eqb-false (n % 2) 1 e)
+
+-- what a name leaves out counts for nothing
+named : (n v : Bool) → (n ≡ false → v ≡ false) → (n && v) ≡ v
+named true v h = refl
+named false v h = sym (h refl)
+
+named-tests : (n : Bool) (k : ℕ) → (n ≡ false → k ≡ 0) → cond n k 0 ≡ k
+named-tests true k h = refl
+named-tests false k h = sym (h refl)
+
+module _ (bits : ℕ) (m : List (List Float)) (d : Doubts bits m) where
+  outside : Each (λ p. doubted bits p ≡ false → NoRoot m p)
+  unfolding doubted
+  outside = record { first = λ e. d .first (no-bit bits e); second = λ e. d .second (no-bit (bits / 2) e); third = λ e. d .third (no-bit (bits / 4) e) }
+
+  module _ (span : Float) (protected : Bool) (am dm : Float) where
+    pair : (p : ℕ) → (doubted bits p ≡ false → NoRoot m p) → doubtedPair bits span protected am dm m p ≡ diagonalPair span protected am dm m p
+    unfolding doubtedPair
+    pair p h = named (doubted bits p) _ (λ e. no-artifact span protected am dm m p (h e))
+
+    tests : (p : ℕ) → (doubted bits p ≡ false → NoRoot m p) → doubtedTests bits span protected am dm m p ≡ diagonalPairTests span protected am dm m p
+    unfolding doubtedTests
+    tests p h = named-tests (doubted bits p) _ (λ e. no-tests span protected am dm m p (h e))
+
+    pub doubted-all : verdict (any 3 (doubtedPair bits span protected am dm m)) (spent 3 (doubtedPair bits span protected am dm m) (doubtedTests bits span protected am dm m)) ≡ verdict (any 3 (diagonalPair span protected am dm m)) (spent 3 (diagonalPair span protected am dm m) (diagonalPairTests span protected am dm m))
+    unfolding any spent
+    doubted-all = rw (pair 0 (outside .first), pair 1 (outside .second), pair 2 (outside .third), tests 0 (outside .first), tests 1 (outside .second), tests 2 (outside .third))
 
 pub undoubted : (span : Float) (protected : Bool) (am : Float) (m : List (List Float)) → doubt (orderCode (getD m 0 [])) (orderCode (getD m 1 [])) (orderCode (getD m 2 [])) (orderCode (getD m 3 [])) ≡ 0
     → (hasDiagonalArtifact span protected am m ≡ false) × (diagonalTests span protected am m ≡ 0)

@@ -4,6 +4,7 @@
 --     linear-tests-some     and one where there is an artifact
 --     diagonal-at-le        three at a root
 --     diagonal-pair-le      six for a pair
+--     doubted-le            and for one that may be left out
 --     diagonal-tests-le     eighteen of a diagonal neighbour
 --     diagonal-tests-some   and one where there is an artifact
 use mathlib.Core.Path.{_≡_}
@@ -19,6 +20,7 @@ use Rattle.detectors.specs.Texel.{texelMedian}
 use Rattle.detectors.specs.Pairs.{guard, inside, next, difference}
 use Rattle.detectors.specs.Linear.{crossing, linearAt, linearPair, linearPairs, hasLinearArtifact, linearTestsAt, linearPairTests, linearPairsTests, linearTests}
 use Rattle.detectors.specs.Diagonal.{turningPoint, quadraticRoots, pairRoots, turns, diagonalAt, diagonalPair, diagonalPairs, hasDiagonalArtifact, rootTestCount, diagonalTestsAt, diagonalPairTests, diagonalPairsTests, diagonalTests}
+use Rattle.detectors.specs.Orders.{doubted, doubtedTests}
 
 pub linear-at-le : (t : Float) → linearTestsAt t ≤ 1
 unfolding linearTestsAt
@@ -46,6 +48,10 @@ module _ (span : Float) (protected : Bool) (am : Float) (m : List (List Float)) 
   pub diagonal-pair-le : (dm : Float) (p : ℕ) → diagonalPairTests span protected am dm m p ≤ 6
   unfolding diagonalPairTests
   diagonal-pair-le dm p = omega (arith, pair-length m p, spent-in-small (diagonalAt span protected am dm m p) (diagonalTestsAt m p) 3 (diagonal-at-le m p) (pairRoots m p))
+
+  pub doubted-le : (bits : ℕ) (dm : Float) (p : ℕ) → doubtedTests bits span protected am dm m p ≤ 6
+  unfolding doubtedTests
+  doubted-le bits dm p = guard-small (doubted bits p) _ 6 (diagonal-pair-le dm p)
 
   pub diagonal-tests-le : diagonalTests span protected am m ≤ 18
   unfolding diagonalTests diagonalPairsTests

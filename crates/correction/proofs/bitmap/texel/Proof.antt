@@ -1,42 +1,24 @@
 -- `correction::bitmap::texel` meets its contract: the last of the three places is in the list. Assumes nothing.
-use mathlib.Core.Path.{sym}
-use Prim.Native.Nat.{_+_, _<_}
-use native.Mathlib.Nat.{add-zero}
-use native.Mathlib.Omega.{arith}
-use lib.ListN.{length}
-use denote.Ref.{now}
-use Rattle.correction.proofs.bitmap.Centres.{texel-cut}
+use mathlib.Core.Path.{_∙_}
+use Rattle.correction.proofs.bitmap.Centres.{texel-at, texel-held}
 use Rattle.correction.proofs.bitmap.texel.Statement.{statement}
 use Rattle.correction.proofs.bitmap.texel.Tie as tie
-
--- the three samples are there
-held : (c : tie.After-place) → c .place .result + 2 < length (now (c .before .before .args .xs))
-held c =
-    let s = c .before .before in
-    omega (arith, s .pre .0 .held _ _ (s .pre .1 .0) (s .pre .1 .1), s .pre .0 .some, c .place .ensures)
 
 place-requires : tie.Need-place-requires
 place-requires c κs =
     let s = c .before in
     (s .pre .0 .fits, (s .pre .1 .0, s .pre .1 .1, s .pre .0 .few))
 
+samples-at-requires : tie.Need-samples-at-requires
+samples-at-requires c κs =
+    let s = c .before .before in
+    rw (c .place .ensures) (texel-held _ _ _ (s .pre .1 .0) (s .pre .1 .1) _ (s .pre .0))
+
 returns : tie.Need-returns
 returns c =
-    let d = c .before .before .before in
-    let s = d .before .before in
-    rw (d .place .ensures) (rw add-zero at (sym (texel-cut _ _ _ (s .pre .1 .0) (s .pre .1 .1) _ (s .pre .0))))
+    let p = c .before in
+    let s = p .before .before in
+    (rw (p .place .ensures) at (c .samples-at .ensures)) ∙ texel-at _ _ _ (s .pre .1 .0) (s .pre .1 .1) _ (s .pre .0)
 
 pub texel-spec : {M : Type 1} → statement M
-texel-spec =
-    tie.close
-    (tie.spec
-    place-requires
-    (λ c. omega (arith, held c, c .before .before .good))
-    (λ c. omega (arith, held (c .before)))
-    (λ c. omega (arith, held (c .before), c .before .before .before .good))
-    (λ c. omega (arith, held (c .before), c .before .before .before .good))
-    (λ c. omega (arith, held (c .before .before)))
-    (λ c. omega (arith, held (c .before .before), c .before .before .before .before .good))
-    (λ c. omega (arith, held (c .before .before), c .before .before .before .before .good))
-    (λ c. omega (arith, held (c .before .before .before)))
-    returns)
+texel-spec = tie.close (tie.spec place-requires samples-at-requires returns)

@@ -11,15 +11,16 @@ use Rattle.ground.proofs.Laws.Search.{none-zero, none-more, any-at}
 use Rattle.ground.proofs.Laws.Spent.{spent-none, spent-more, spent-ended, spent-small}
 use Rattle.detectors.specs.Inner.{rootAt, Tried}
 use Rattle.detectors.specs.Verdict.{verdict}
-use Rattle.detectors.specs.Diagonal.{diagonalAt, diagonalPair, diagonalTestsAt, diagonalPairTests}
+use Rattle.detectors.specs.Diagonal.{diagonalAt, diagonalTestsAt}
+use Rattle.detectors.specs.Orders.{doubtedPair, doubtedTests}
 use Rattle.detectors.proofs.Laws.Verdict.{as-found, as-clear, verdict-le, found, clear}
-use Rattle.detectors.proofs.Laws.Tests.{diagonal-at-le, diagonal-pair-le}
+use Rattle.detectors.proofs.Laws.Tests.{diagonal-at-le, doubted-le}
 use Rattle.detectors.proofs.diagonal.Searched.{tried-few, tried-any, tried-spent}
 use Rattle.detectors.proofs.diagonal.some_pair.Statement.{statement}
 use Rattle.detectors.proofs.diagonal.some_pair.Tie as tie
 
 -- the roots of pair p that are tried in order, u and v, and what each is and takes
-module _ (span : Float) (protected : Bool) (am dm : Float) (m : List (List Float)) (p : ℕ) (u v : Float) where
+module _ (bits : ℕ) (span : Float) (protected : Bool) (am dm : Float) (m : List (List Float)) (p : ℕ) (u v : Float) where
   abbrev at : ℕ → Bool
   at j = diagonalAt span protected am dm m p (rootAt u v j)
 
@@ -27,21 +28,21 @@ module _ (span : Float) (protected : Bool) (am dm : Float) (m : List (List Float
   takes j = diagonalTestsAt m p (rootAt u v j)
 
   -- what the inner loop leaves of a pair of which n are tried, at its end and where it breaks off
-  module _ (n : ℕ) (l : Tried m p n u v) (i : ℕ) where
-    pair-none : i ≡ n → any i at ≡ false → diagonalPair span protected am dm m p ≡ false
-    pair-none e a = sym (tried-any m p n u v l span protected am dm) ∙ ap (λ (j : ℕ). any j at) (sym e) ∙ a
+  module _ (n : ℕ) (l : Tried bits m p n u v) (i : ℕ) where
+    pair-none : i ≡ n → any i at ≡ false → doubtedPair bits span protected am dm m p ≡ false
+    pair-none e a = sym (tried-any bits m p n u v l span protected am dm) ∙ ap (λ (j : ℕ). any j at) (sym e) ∙ a
 
-    pair-some : i < n → at i ≡ true → diagonalPair span protected am dm m p ≡ true
-    pair-some b e = sym (tried-any m p n u v l span protected am dm) ∙ any-at at n i b e
+    pair-some : i < n → at i ≡ true → doubtedPair bits span protected am dm m p ≡ true
+    pair-some b e = sym (tried-any bits m p n u v l span protected am dm) ∙ any-at at n i b e
 
-    all-tests : i ≡ n → spent i at takes ≡ diagonalPairTests span protected am dm m p
-    all-tests e = ap (λ (j : ℕ). spent j at takes) e ∙ tried-spent m p n u v l span protected am dm
+    all-tests : i ≡ n → spent i at takes ≡ doubtedTests bits span protected am dm m p
+    all-tests e = ap (λ (j : ℕ). spent j at takes) e ∙ tried-spent bits m p n u v l span protected am dm
 
     few : i ≤ n → spent i at takes ≤ 6
-    few b = omega (arith, b, tried-few m p n u v l, spent-small 3 i at takes (λ j. diagonal-at-le m p (rootAt u v j)))
+    few b = omega (arith, b, tried-few bits m p n u v l, spent-small 3 i at takes (λ j. diagonal-at-le m p (rootAt u v j)))
 
-    up-to : i < n → at i ≡ true → spent (i + 1) at takes ≡ diagonalPairTests span protected am dm m p
-    up-to b e = sym (spent-ended at takes n i b e) ∙ tried-spent m p n u v l span protected am dm
+    up-to : i < n → at i ≡ true → spent (i + 1) at takes ≡ doubtedTests bits span protected am dm m p
+    up-to b e = sym (spent-ended at takes n i b e) ∙ tried-spent bits m p n u v l span protected am dm
 
 within : (a : Bool) (t n v : ℕ) → v ≡ verdict a n → t + n < 128 → t + v < 256
 within a t n v e l = omega (arith, e, l, verdict-le a n)
@@ -57,15 +58,15 @@ one-more : (t k : ℕ) (f : ℕ → Bool) (c : ℕ → ℕ) (i : ℕ) (tests : �
 one-more t k f c i tests e a h = omega (arith, spent-more f c i (spent i f c) k refl a h)
 
 -- the pairs in order, of which t tests are those before pair p
-module _ (span : Float) (protected : Bool) (am dm : Float) (m : List (List Float)) (p t : ℕ) where
+module _ (bits : ℕ) (span : Float) (protected : Bool) (am dm : Float) (m : List (List Float)) (p t : ℕ) where
   abbrev ones : ℕ → Bool
-  ones = diagonalPair span protected am dm m
+  ones = doubtedPair bits span protected am dm m
 
   abbrev cost : ℕ → ℕ
-  cost = diagonalPairTests span protected am dm m
+  cost = doubtedTests bits span protected am dm m
 
   few-pairs : p ≤ 3 → t ≡ spent p ones cost → t ≤ 18
-  few-pairs b e = omega (arith, spent-small 6 p ones cost (diagonal-pair-le span protected am m dm))
+  few-pairs b e = omega (arith, spent-small 6 p ones cost (doubted-le span protected am m bits dm))
 
   next-pair : (k : ℕ) → t ≡ spent p ones cost → any p ones ≡ false → k ≡ cost p → t + k ≡ spent (p + 1) ones cost
   next-pair k e a h = spent-more ones cost p t k e a h
@@ -74,9 +75,9 @@ module _ (span : Float) (protected : Bool) (am dm : Float) (m : List (List Float
   last-pair k tests b e a h o s = as-found tests (any-at ones 3 p b o) ∙ ap (verdict (any 3 ones)) (s ∙ next-pair k e a h ∙ sym (spent-ended ones cost 3 p b o))
 
   -- all tests up to a root x are too few for an artifact
-  room : (u v : Float) (n : ℕ) → Tried m p n u v → (i tests : ℕ) (x : Float) → p ≤ 3 → t ≡ spent p ones cost → i ≤ n
-      → tests ≡ t + spent i (at span protected am dm m p u v) (takes span protected am dm m p u v) → tests + diagonalTestsAt m p x < 128
-  room u v n l i tests x b e c f = omega (arith, few-pairs b e, few span protected am dm m p u v n l i c, diagonal-at-le m p x)
+  room : (u v : Float) (n : ℕ) → Tried bits m p n u v → (i tests : ℕ) (x : Float) → p ≤ 3 → t ≡ spent p ones cost → i ≤ n
+      → tests ≡ t + spent i (at bits span protected am dm m p u v) (takes bits span protected am dm m p u v) → tests + diagonalTestsAt m p x < 128
+  room u v n l i tests x b e c f = omega (arith, few-pairs b e, few bits span protected am dm m p u v n l i c, diagonal-at-le m p x)
 
 abbrev Inv-loop : tie.InvT-loop
 Inv-loop k am dm m doubt p tests₀ r n i₀ tests i =
@@ -88,7 +89,7 @@ abbrev μ-loop : tie.MeasureT-loop
 
 abbrev Inv-pairs : tie.InvT-pairs
 Inv-pairs k am dm m doubt p₀ tests₀ p tests =
-    (p ≤ 3) × (any p (diagonalPair (k .span) (k .protected) am dm m) ≡ false) × (tests ≡ spent p (diagonalPair (k .span) (k .protected) am dm m) (diagonalPairTests (k .span) (k .protected) am dm m))
+    (p ≤ 3) × (any p (doubtedPair doubt (k .span) (k .protected) am dm m) ≡ false) × (tests ≡ spent p (doubtedPair doubt (k .span) (k .protected) am dm m) (doubtedTests doubt (k .span) (k .protected) am dm m))
 
 abbrev μ-pairs : tie.MeasureT-pairs
 μ-pairs k am dm m doubt p₀ tests₀ p tests = 3 - p
@@ -104,7 +105,7 @@ add-tests c =
     let l = c .before .before .before in
     let r = l .before in
     let o = r .before .before .pairs .inv in
-    omega (arith, within _ _ _ _ (rw (c .before .root-at .ensures) at (c .diagonal-at .ensures)) (room _ _ _ _ _ _ _ _ _ _ (r .roots-tried .ensures) _ _ _ (o .0) (o .2) (l .loop .inv .0) (l .loop .inv .2)))
+    omega (arith, within _ _ _ _ (rw (c .before .root-at .ensures) at (c .diagonal-at .ensures)) (room _ _ _ _ _ _ _ _ _ _ _ (r .roots-tried .ensures) _ _ _ (o .0) (o .2) (l .loop .inv .0) (l .loop .inv .2)))
 
 loop-again : tie.Need-loop-again Inv-loop μ-loop Inv-pairs μ-pairs
 loop-again c =
@@ -121,8 +122,8 @@ pairs-again c =
     let o = r .before .before .pairs .inv in
     let e : l .i ≡ r .roots-tried .result .count = omega (arith, l .inv .0) in (
       omega arith,
-      none-more _ _ (o .1) (pair-none _ _ _ _ _ _ _ _ _ (r .roots-tried .ensures) (l .i) e (l .inv .1)),
-      l .inv .2 ∙ next-pair _ _ _ _ _ _ _ _ (o .2) (o .1) (all-tests _ _ _ _ _ _ _ _ _ (r .roots-tried .ensures) (l .i) e),
+      none-more _ _ (o .1) (pair-none _ _ _ _ _ _ _ _ _ _ (r .roots-tried .ensures) (l .i) e (l .inv .1)),
+      l .inv .2 ∙ next-pair _ _ _ _ _ _ _ _ _ (o .2) (o .1) (all-tests _ _ _ _ _ _ _ _ _ _ (r .roots-tried .ensures) (l .i) e),
     )
 
 returns : tie.Need-returns Inv-loop μ-loop Inv-pairs μ-pairs
@@ -139,10 +140,10 @@ returns-2 c =
     let r = l .before in
     let o = r .before .before .pairs .inv in
     let x = rw (t .root-at .ensures) at (v .diagonal-at .ensures) in
-    let one = found _ _ _ _ x (room _ _ _ _ _ _ _ _ _ _ (r .roots-tried .ensures) _ _ _ (o .0) (o .2) (l .loop .inv .0) (l .loop .inv .2)) (c .if2 .taken) in
-    let pair = pair-some _ _ _ _ _ _ _ _ _ (r .roots-tried .ensures) (l .loop .i) (omega arith) (one .0) in
+    let one = found _ _ _ _ x (room _ _ _ _ _ _ _ _ _ _ _ (r .roots-tried .ensures) _ _ _ (o .0) (o .2) (l .loop .inv .0) (l .loop .inv .2)) (c .if2 .taken) in
+    let pair = pair-some _ _ _ _ _ _ _ _ _ _ (r .roots-tried .ensures) (l .loop .i) (omega arith) (one .0) in
     shift _ _ _ (one .1)
-    ∙ last-pair _ _ _ _ _ _ _ _ _ (omega arith) (o .2) (o .1) (up-to _ _ _ _ _ _ _ _ _ (r .roots-tried .ensures) (l .loop .i) (omega arith) (one .0)) pair (one-more _ _ _ _ _ _ (l .loop .inv .2) (l .loop .inv .1) refl)
+    ∙ last-pair _ _ _ _ _ _ _ _ _ _ (omega arith) (o .2) (o .1) (up-to _ _ _ _ _ _ _ _ _ _ (r .roots-tried .ensures) (l .loop .i) (omega arith) (one .0)) pair (one-more _ _ _ _ _ _ (l .loop .inv .2) (l .loop .inv .1) refl)
 
 pub some-pair-spec : {M : Type 1} → statement M
 some-pair-spec =
