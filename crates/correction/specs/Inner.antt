@@ -115,6 +115,10 @@ fourOf tex a x y u v = a ∷ tex u y ∷ tex x v ∷ tex u v ∷ []
 abbrev pub Plain : Window → List ℕ → Type 0
 Plain g st = (x y : ℕ) → x < g .width → y < g .height → getD st (cellIn g x y) 0 < 8
 
+-- each cell of row y of a window has no more than the three bits
+abbrev pub PlainRow : Window → List ℕ → ℕ → Type 0
+PlainRow g st y = (x : ℕ) → x < g .width → getD st (cellIn g x y) 0 < 8
+
 -- the order that stands above the three bits in the cell of texel x, y of a window
 abbrev pub orderIn : Window → List ℕ → ℕ → ℕ → ℕ
 orderIn g st x y = getD st (cellIn g x y) 0 / 8
@@ -129,6 +133,10 @@ withOrders xs w ch st = tab (length st) (λ k. getD st k 0 + 8 * orderCode (texe
 
 unfoldable pub withoutOrders : List ℕ → List ℕ
 withoutOrders st = tab (length st) (λ k. getD st k 0 % 8)
+
+-- cells with the orders of the texels of row y above the three bits
+unfoldable pub rowOrders : List Float → ℕ → ℕ → ℕ → List ℕ → List ℕ
+rowOrders xs w ch y st = tab (length st) (λ k. cond (eqb (k / w) y) (getD st k 0 + 8 * orderCode (texel xs w ch (k % w) (k / w))) (getD st k 0))
 
 -- texel x, y and all around it have one order, which is beyond doubt
 pub record Settled (g : Window) (st : List ℕ) (x y : ℕ) : Type 0 where
