@@ -1,2 +1,2 @@
--- A sweep that collapses.
+-- Texels that are collapsed one after another, and row by row.
 pub mod Turns

@@ -1,8 +1,10 @@
 // Collapsing the flagged texels to a single channel's value.
 ghost use mathlib.Core.Path.{_≡_};
-ghost use Prim.Native.Nat.{_+_, _*_, _<_};
-ghost use mathlib.Core.Bool.{cond};
+ghost use Prim.Native.Nat.{_+_, _*_, _/_, _%_, _<_};
+ghost use mathlib.Core.Bool.{cond, _&&_};
+ghost use lib.Dec.{eqb};
 ghost use lib.ListN.{length, getD};
+ghost use Rattle.ground.specs.Lists.{painted};
 ghost use Rattle.correction.specs.Collapse as Collapse;
 ghost use Rattle.correction.specs.Inner.{withoutOrders};
 ghost use Rattle.correction.specs.Numbered.{collapsedAt};
@@ -36,6 +38,36 @@ fn collapse_flagged(xs: &mut [f32], b: Window, v: u8, x: usize, y: usize)
     }
 }
 
+// Collapses each texel of row y whose cell has the error bit.
+fn collapse_row(stencil: &[u8], xs: &mut [f32], b: Window, y: usize)
+    requires { ⌜ Sampled b (now xs) ⌝ }
+    requires { ⌜ Stencilled b (now stencil) ⌝ }
+    requires { ⌜ y < b .height ⌝ }
+    ensures { λ _. ⌜ SamplesPasted b (now (xs .entry)) (now (xs .exit)) (Collapse.collapsed (cutSamples b (now (xs .entry))) (b .channels) (λ k. eqb (k / b .width) y && isError (getD (cutCells b (now (stencil .entry))) k 0))) ⌝ }
+{
+    let mut x = 0usize;
+    while x < b.width {
+        let v = stencil[bitmap::cell(b, x, y)];
+        collapse_flagged(xs, b, v, x, y);
+        x += 1;
+    }
+}
+
+// Leaves no order in a cell of row y.
+fn clear_row(stencil: &mut [u8], b: Window, y: usize)
+    requires { ⌜ Stencilled b (now stencil) ⌝ }
+    requires { ⌜ y < b .height ⌝ }
+    ensures { λ _. ⌜ CellsPasted b (now (stencil .entry)) (now (stencil .exit)) (painted (λ v. v % 8) (λ k. eqb (k / b .width) y) (cutCells b (now (stencil .entry)))) ⌝ }
+{
+    let mut x = 0usize;
+    while x < b.width {
+        let k = bitmap::cell(b, x, y);
+        let v = stencil[k];
+        stencil[k] = v % stencil::ORDER;
+        x += 1;
+    }
+}
+
 // Collapses each texel whose cell has the error bit, and leaves no order in a cell.
 pub fn apply(stencil: &mut [u8], xs: &mut [f32], b: Window)
     requires { ⌜ Sampled b (now xs) ⌝ }
@@ -43,12 +75,10 @@ pub fn apply(stencil: &mut [u8], xs: &mut [f32], b: Window)
     ensures leaves { λ _. ⌜ CellsPasted b (now (stencil .entry)) (now (stencil .exit)) (withoutOrders (cutCells b (now (stencil .entry)))) ⌝ }
     ensures writes { λ _. ⌜ SamplesPasted b (now (xs .entry)) (now (xs .exit)) (Collapse.collapsed (cutSamples b (now (xs .entry))) (b .channels) (λ k. isError (getD (cutCells b (now (stencil .entry))) k 0))) ⌝ }
 {
-    let mut at = bitmap::first(b);
-    while at.y < b.height {
-        let k = at.number;
-        let v = stencil[k];
-        stencil[k] = v % stencil::ORDER;
-        collapse_flagged(xs, b, v, at.x, at.y);
-        at = bitmap::next(b, at);
+    let mut y = 0usize;
+    while y < b.height {
+        collapse_row(stencil, xs, b, y);
+        clear_row(stencil, b, y);
+        y += 1;
     }
 }

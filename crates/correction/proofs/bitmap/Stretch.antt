@@ -3,6 +3,7 @@
 --     upto-long      the stencil is as long as it was
 --     upto-at        what stands in a cell from k on is what stood there
 --     upto-keeps     what `made` keeps of each byte is as it was in all cells
+--     in-row         where the cells of row y lie
 --     stretch-none   `Stretched f g st₀ y x st`, the cells of row y before column x have been given: before the first
 --     stretch-next   after a store
 --     stretch-kept   after no store, where f changes nothing
@@ -90,8 +91,7 @@ rowed f w y st₀ k = cond (eqb (k / w) y) (swept f w st₀ k) (getD st₀ k 0)
 abbrev pub Stretched : (ℕ → ℕ → ℕ → ℕ) → Window → List ℕ → ℕ → ℕ → List ℕ → Type 0
 Stretched f g st₀ y x st = Upto (rowed f (g .width) y (cutCells g st₀)) g st₀ (cell (g .width) x y) st
 
--- where the cells of row y lie
-in-row : (w y k : ℕ) → 1 ≤ w → k / w ≡ y → (y * w ≤ k) × (k < y * w + w)
+pub in-row : (w y k : ℕ) → 1 ≤ w → k / w ≡ y → (y * w ≤ k) × (k < y * w + w)
 in-row w y k o e =
     let d : y * w + k % w ≡ k = ap (λ (n : ℕ). n * w + k % w) (sym e) ∙ div-add-mod' k w in
     let m : k % w < w = mod-lt k o in

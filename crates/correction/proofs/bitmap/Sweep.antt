@@ -3,7 +3,6 @@
 --     swept-none    at the first cell
 --     swept-place   a cell that is inside is one of the stencil's
 --     swept-long    the stencil is as long as it was
---     swept-from    what is worked out there from the byte that stands there is what is worked out from the old one
 --     swept-next    after a store and a step
 --     swept-past    past the last row no cell is left
 --     swept-all     past the last row the window's cells are `tab (height * width) (swept f width (cutCells g st₀))`
@@ -74,7 +73,8 @@ module _ (f : ℕ → ℕ → ℕ → ℕ) (g : Window) (st₀ : List ℕ) where
     here : at .y < g .height → getD st (at .number) 0 ≡ getD (cutCells g st₀) k 0
     here l = sym (picked-at 0 (g .height * g .width) (cellShown g) st k (below l) ∙ ap (λ (n : ℕ). getD st n 0) lies) ∙ i .filled .rest k (le-refl k)
 
-    pub swept-from : at .y < g .height → (m : ℕ → ℕ → ℕ → ℕ) → m (getD st (at .number) 0) (at .x) (at .y) ≡ swept m (g .width) (cutCells g st₀) (cell (g .width) (at .x) (at .y))
+    -- what is worked out there from the byte that stands there is what is worked out from the old one
+    swept-from : at .y < g .height → (m : ℕ → ℕ → ℕ → ℕ) → m (getD st (at .number) 0) (at .x) (at .y) ≡ swept m (g .width) (cutCells g st₀) (cell (g .width) (at .x) (at .y))
     swept-from l m =
         let q : (at .y * g .width + at .x) / g .width ≡ at .y = digits-div (at .y) (i .on .column) in
         let r : (at .y * g .width + at .x) % g .width ≡ at .x = digits-mod (at .y) (i .on .column) in

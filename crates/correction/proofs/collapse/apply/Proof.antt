@@ -1,92 +1,70 @@
--- `correction::collapse::apply` meets its contract, by the laws of a sweep that collapses and of one that takes the orders out of the cells. Assumes nothing.
-use mathlib.Core.Path.{refl, sym, ap}
-use mathlib.Core.List.{List}
-use Prim.Native.Nat.{ℕ, _-_, _*_, _%_}
+-- `correction::collapse::apply` meets its contract: row by row. Assumes nothing.
+use mathlib.Core.Path.{ap}
+use Prim.Native.Nat.{_-_, _*_}
+use native.Mathlib.Nat.{mul-le-mul-right}
 use native.Mathlib.Omega.{arith}
-use Rattle.ground.specs.Lists.{tab}
-use Rattle.ground.proofs.Laws.Picked.{picked-length, pasted-as}
-use Rattle.inputs.specs.declared.sizes.Window.{Window}
+use Rattle.ground.specs.Lists.{painted}
 use Rattle.inputs.specs.Stencil.{isError}
-use Rattle.inputs.specs.Window.{cellShown, cutCells, CellsPasted}
-use Rattle.inputs.proofs.Laws.Places.{cell-lt}
-use Rattle.correction.specs.Bitmap.{cell}
+use Rattle.inputs.specs.Window.{cutCells}
+use Rattle.inputs.specs.Inner.{Stencilled}
+use Rattle.inputs.proofs.Laws.Windows.{still-stencilled}
 use Rattle.correction.specs.Inner.{withoutOrders}
-use Rattle.correction.proofs.bitmap.Sweep.{swept, Swept, swept-none, swept-long, swept-place, swept-from, swept-next, swept-all}
-use Rattle.correction.proofs.collapse.Turns.{flags, Turning, turning-none, turning-sampled, turning-next, turning-all}
+use Rattle.correction.proofs.bitmap.Stretch.{Rowed, rows-none, rows-next, rows-all, upto-long}
+use Rattle.correction.proofs.collapse.Turns.{flags, bare, Turning, turning-none, turning-sampled, turning-row, turning-all}
 use Rattle.correction.proofs.collapse.apply.Statement.{statement}
 use Rattle.correction.proofs.collapse.apply.Tie as tie
 
--- what is left of a byte
-abbrev bare : ℕ → ℕ → ℕ → ℕ
-bare v x y = v % 8
-
--- at the end: the cells that are cut out are as many as those of the window
-all-bare : (b : Window) (st₀ : List ℕ) {st : List ℕ} → CellsPasted b st₀ st (tab (b .height * b .width) (swept bare (b .width) (cutCells b st₀))) → CellsPasted b st₀ st (withoutOrders (cutCells b st₀))
-unfolding withoutOrders
-all-bare b st₀ p =
-    pasted-as 0 (b .height * b .width) (cellShown b) p (ap (λ (m : ℕ). tab m (swept bare (b .width) (cutCells b st₀))) (sym (picked-length 0 (b .height * b .width) (cellShown b) st₀)))
-
 abbrev Inv-loop : tie.InvT-loop
-Inv-loop stencil₀ xs₀ b at₀ stencil xs at = Turning (flags (cutCells b stencil₀)) b xs₀ xs at × Swept bare b stencil₀ stencil at
+Inv-loop stencil₀ xs₀ b y₀ stencil xs y = Turning (flags (cutCells b stencil₀)) b xs₀ (y * b .width) xs × Rowed bare b stencil₀ y stencil
 
 abbrev μ-loop : tie.MeasureT-loop
-μ-loop stencil₀ xs₀ b at₀ stencil xs at = b .height * b .width - cell (b .width) (at .x) (at .y)
+μ-loop stencil₀ xs₀ b y₀ stencil xs y = b .height - y
 
--- from a turn to the loop, and from there to the start
-abbrev loop : tie.Then1 Inv-loop μ-loop → tie.At-loop Inv-loop μ-loop
-loop t = t .before .before .before
-
+-- from the loop to the start
 abbrev start : tie.At-loop Inv-loop μ-loop → tie.Start Inv-loop μ-loop
-start l = l .before .before .before .before
+start l = l .before .before .before
 
-loop-holds : tie.Need-loop-holds Inv-loop μ-loop
-loop-holds c = (turning-none _ _ _ (c .first .ensures), swept-none _ _ _ (c .first .ensures))
+stencilled : (l : tie.At-loop Inv-loop μ-loop) → Stencilled (start l .args .b) (l .loop .stencil)
+stencilled l = still-stencilled _ (start l .pre .1) _ (upto-long _ _ _ (l .loop .inv .1))
 
-slice-read-v : tie.Need-slice-read-v Inv-loop μ-loop
-slice-read-v c =
-    let t = c .before in
-    let l = loop t in
-    swept-place _ _ _ (start l .pre .1) (l .loop .inv .1) (t .if1 .taken)
-
-collapse-flagged-requires : tie.Need-collapse-flagged-requires Inv-loop μ-loop
-collapse-flagged-requires c κs =
+collapse-row-requires : tie.Need-collapse-row-requires Inv-loop μ-loop
+collapse-row-requires c κs =
     let t = c .before .before in
-    let l = loop t in
-    (turning-sampled _ _ _ (start l .pre .0) (l .loop .inv .0), (l .loop .inv .0 .on .column, t .if1 .taken))
+    let l = t .before .before in
+    (turning-sampled _ _ _ (start l .pre .0) (l .loop .inv .0), (stencilled l, t .if1 .taken))
 
-next-requires : tie.Need-next-requires Inv-loop μ-loop
-next-requires c κs =
-    let t = c .before .before .before .before .before in
-    let l = loop t in
-    (start l .pre .0 .fits, (l .loop .inv .0 .on, t .if1 .taken))
+clear-row-requires : tie.Need-clear-row-requires Inv-loop μ-loop
+clear-row-requires c κs = let t = c .before .before .before .before .before .before in (stencilled (t .before .before), t .if1 .taken)
 
-loop-less : tie.Need-loop-less Inv-loop μ-loop
-loop-less c =
-    let t = c .before .before .before .before .before .before in
-    omega (arith, c .next .ensures .0, cell-lt _ _ _ _ (loop t .loop .inv .0 .on .column) (t .if1 .taken))
+-- from the end of a turn to its collapsing, and from there to its test
+abbrev collapsing : tie.After-slice-known4 Inv-loop μ-loop → tie.After-collapse-row Inv-loop μ-loop
+collapsing c = c .before .before .before .before .before .before
+
+abbrev turn : tie.After-slice-known4 Inv-loop μ-loop → tie.Then1 Inv-loop μ-loop
+turn c = collapsing c .before .before .before
+
+add-y : tie.Need-add-y Inv-loop μ-loop
+add-y c = omega (arith, turn c .if1 .taken, start (turn c .before .before) .pre .0 .fits .high)
 
 loop-again : tie.Need-loop-again Inv-loop μ-loop
+unfolding painted
 loop-again c =
-    let k = c .before .before .before in
-    let t = k .before .before .before in
-    let l = loop t in
+    let t = turn c in
+    let l = t .before .before in
+    let p = start l .pre in
     let i = l .loop .inv in (
-      turning-next _ _ _ (start l .pre .0) (i .0) (t .if1 .taken) (ap isError (swept-from _ _ _ (start l .pre .1) (i .1) (t .if1 .taken) (λ v x y. v))) (k .collapse-flagged .ensures) (c .next .ensures),
-      swept-next _ _ _ (start l .pre .1) (i .1) (t .if1 .taken) refl (c .next .ensures),
+      turning-row _ _ _ (p .0) (flags (cutCells (start l .args .b) (l .loop .stencil))) (i .0) (t .if1 .taken) (λ k m. ap isError (i .1 .filled .rest k m)) (collapsing c .collapse-row .ensures),
+      rows-next bare _ _ (i .1) (p .1) (t .if1 .taken) (c .before .before .clear-row .ensures),
     )
 
-same-length : tie.Need-same-length Inv-loop μ-loop
-same-length c = let l = c .before .before .before in swept-long _ _ _ (start l .pre .1) (l .loop .inv .1)
-
-same-length-2 : tie.Need-same-length-2 Inv-loop μ-loop
-same-length-2 c = c .before .before .before .loop .inv .0 .rest .long
-
 returns : tie.Need-returns Inv-loop μ-loop
+unfolding withoutOrders
 returns c =
-    let l = c .before .before .before in
-    (all-bare _ _ (swept-all _ _ _ (start l .pre .1) (l .loop .inv .1) (c .if1 .left)), turning-all _ _ _ (start l .pre .0) (l .loop .inv .0) (c .if1 .left))
+    let l = c .before .before in
+    let i = l .loop .inv in
+    (rows-all bare _ _ (i .1) (c .if1 .left), turning-all _ _ _ (start l .pre .0) (i .0) (mul-le-mul-right _ (c .if1 .left)))
 
 pub apply-spec : {M : Type 1} → statement M
 apply-spec =
     tie.close
-    (tie.spec Inv-loop μ-loop (λ c κs. c .before .before .pre .0 .fits .any) loop-holds slice-read-v slice-read-v collapse-flagged-requires next-requires loop-less loop-again same-length same-length-2 returns)
+    (tie.spec Inv-loop μ-loop (λ c. (turning-none _ _ _, rows-none bare _ _)) collapse-row-requires clear-row-requires add-y (λ c. omega (arith, turn c .if1 .taken)) loop-again (λ c. upto-long _ _ _ (c .before .before .loop .inv .1)) (λ c. c .before .before .loop .inv .0 .rest .long) returns)
