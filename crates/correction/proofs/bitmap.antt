@@ -1,6 +1,5 @@
--- Where texels and cells lie, and the sweeps over them.
+-- Where texels and cells lie, and the rows that are gone along.
 pub mod Centres
 pub mod Places
-pub mod Sweep
 pub mod Stretch
 pub mod Sizes

@@ -14,7 +14,6 @@ use Rattle.detectors.specs.Edge.{protectsLower, protectsUpper}
 use Rattle.inputs.specs.declared.sizes.Window.{Window}
 use Rattle.inputs.specs.Window.{cellIn, cutCells, cutSamples}
 use Rattle.inputs.specs.Checks.{Input, input}
-use Rattle.correction.specs.declared.bitmap.Visit.{Visit}
 use Rattle.correction.specs.declared.bitmap.Centre.{Centre}
 use Rattle.correction.specs.declared.errors.Scan.{Scan}
 use Rattle.ground.specs.Lists.{tab, total}
@@ -22,12 +21,6 @@ use Rattle.correction.specs.Bitmap.{cell, texel, inBounds}
 use Rattle.inputs.specs.Stencil.{stencilByte, isProtected, setCorner, setProtected, setError}
 use Rattle.correction.specs.Errors.{hasArtifact, testsMade}
 use Rattle.correction.specs.Pass.{cornered, protects}
-
--- A sweep over the cells of a window, row by row, has come to this one, or past the last row.
-pub record Reached (g : Window) (at : Visit) : Type 0 where
-  pub here : at .number ≡ cellIn g (at .x) (at .y)
-  pub column : at .x < g .width
-  pub row : at .y ≤ g .height
 
 -- texel x, y as the centre of its neighbours
 abbrev pub centreOf : List Float → ℕ → ℕ → ℕ → ℕ → Centre

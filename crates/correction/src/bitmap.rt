@@ -4,19 +4,12 @@ ghost use Prim.Native.Nat.{_+_, _-_, _*_, _<_, _≤_};
 ghost use mathlib.Core.Bool.{true};
 ghost use lib.ListN.{length};
 ghost use Rattle.correction.specs.Bitmap as Rules;
-ghost use Rattle.correction.specs.Inner.{samplesAt, Reached, centreOf};
+ghost use Rattle.correction.specs.Inner.{samplesAt, centreOf};
 ghost use Rattle.inputs.specs.Inner.{Fits, Sampled};
 ghost use Rattle.inputs.specs.Window as Windows;
 use detectors::texel;
 use inputs::sizes::Bitmap;
 use inputs::sizes::Window;
-
-// A cell as a sweep over a window comes to it: its column and its row in the window, and its number in the sheet, which is its place in the stencil.
-pub struct Visit {
-    pub x: usize,
-    pub y: usize,
-    pub number: usize,
-}
 
 // A texel among its neighbours: its first three channels, their median's value, its column and its row.
 pub struct Centre {
@@ -104,36 +97,4 @@ pub fn neighbour(xs: &[f32], b: Window, nx: usize, ny: usize) -> [f32; 3]
     ensures { λ r. ⌜ r ≡ Rules.texel (Windows.cutSamples b (now (xs .entry))) (b .width) (b .channels) (nx - 1) (ny - 1) ⌝ }
 {
     texel(xs, b, nx - 1, ny - 1)
-}
-
-// The first cell of a sweep over all cells, row by row, which ends past the last row.
-pub fn first(b: Window) -> Visit
-    requires { ⌜ 1 ≤ b .width ⌝ }
-    ensures { λ r. ⌜ (Rules.cell (b .width) (r .x) (r .y) ≡ 0) × Reached b r ⌝ }
-{
-    Visit {
-        x: 0,
-        y: 0,
-        number: b.origin,
-    }
-}
-
-// The cell after one: the next in its row, or the first of the next row.
-pub fn next(b: Window, at: Visit) -> Visit
-    requires { ⌜ Fits b ⌝ }
-    requires { ⌜ Reached b at × (at .y < b .height) ⌝ }
-    ensures { λ r. ⌜ (Rules.cell (b .width) (r .x) (r .y) ≡ Rules.cell (b .width) (at .x) (at .y) + 1) × Reached b r ⌝ }
-{
-    if at.x + 1 == b.width {
-        return Visit {
-            x: 0,
-            y: at.y + 1,
-            number: at.number + (b.stride - at.x),
-        };
-    }
-    Visit {
-        x: at.x + 1,
-        y: at.y,
-        number: at.number + 1,
-    }
 }

@@ -1,8 +1,9 @@
 // What is done to a window row by row: a row's cells and samples lie side by side.
 ghost use mathlib.Core.Path.{_≡_};
 ghost use mathlib.Core.List.{[]};
-ghost use Prim.Native.Nat.{_*_};
-ghost use Rattle.ground.specs.Lists.{tab};
+ghost use Prim.Native.Nat.{_*_, _/_, _<_};
+ghost use lib.Dec.{eqb};
+ghost use Rattle.ground.specs.Lists.{painted, tab};
 ghost use Rattle.inputs.specs.Checks as Checks;
 ghost use Rattle.inputs.specs.Checks.{input};
 ghost use Rattle.inputs.specs.Inner.{Sampled, Stencilled};
@@ -16,16 +17,29 @@ use inputs::stencil;
 use inputs::stencil::Counts;
 use ranges::config::Settings;
 
+// The protected bit and no other in each cell of row y.
+fn protect_row(stencil: &mut [u8], b: Window, y: usize)
+    requires { ⌜ Stencilled b (now stencil) ⌝ }
+    requires { ⌜ y < b .height ⌝ }
+    ensures { λ _. ⌜ CellsPasted b (now (stencil .entry)) (now (stencil .exit)) (painted (λ v. 2) (λ k. eqb (k / b .width) y) (cutCells b (now (stencil .entry)))) ⌝ }
+{
+    let mut x = 0usize;
+    while x < b.width {
+        let k = bitmap::cell(b, x, y);
+        stencil[k] = stencil::PROTECTED;
+        x += 1;
+    }
+}
+
 // The protected bit and no other in each cell.
 pub fn protect_all(stencil: &mut [u8], b: Window)
     requires { ⌜ Stencilled b (now stencil) ⌝ }
     ensures { λ _. ⌜ CellsPasted b (now (stencil .entry)) (now (stencil .exit)) (tab (b .height * b .width) (λ k. 2)) ⌝ }
 {
-    let mut at = bitmap::first(b);
-    while at.y < b.height {
-        let k = at.number;
-        stencil[k] = stencil::PROTECTED;
-        at = bitmap::next(b, at);
+    let mut y = 0usize;
+    while y < b.height {
+        protect_row(stencil, b, y);
+        y += 1;
     }
 }
 

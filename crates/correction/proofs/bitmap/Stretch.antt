@@ -1,4 +1,5 @@
 -- A stencil of which the cells of a window up to one have been given, as a loop leaves it that goes along a row and stores `f v x y` in the cell of column x and row y, v being its old byte; and as one leaves it that goes from row to row. Assumes nothing.
+--     cell-cut       a cell of the window as it is cut out
 --     Upto           the cells of a window before cell k are given by `made`, and all else is as it was
 --     upto-long      the stencil is as long as it was
 --     upto-at        what stands in a cell from k on is what stood there
@@ -33,7 +34,16 @@ use Rattle.inputs.specs.Inner.{Stencilled}
 use Rattle.inputs.proofs.Laws.Places.{cell-lt, next-row}
 use Rattle.inputs.proofs.Laws.Windows.{cell-shown, cells-apart}
 use Rattle.correction.specs.Bitmap.{cell}
-use Rattle.correction.proofs.bitmap.Sweep.{cell-cut, swept}
+
+-- a cell of the window as it is cut out
+pub cell-cut : (g : Window) (st : List ℕ) (x y : ℕ) → x < g .width → y < g .height → getD (cutCells g st) (cell (g .width) x y) 0 ≡ getD st (cellIn g x y) 0
+cell-cut g st x y p q =
+    picked-at 0 (g .height * g .width) (cellShown g) st (cell (g .width) x y) (cell-lt (g .width) (g .height) x y p q)
+    ∙ ap (λ (k : ℕ). getD st k 0) (cell-shown g x y p)
+
+-- what stands in cell k of the window in the end, whose cells were st₀
+abbrev pub swept : (ℕ → ℕ → ℕ → ℕ) → ℕ → List ℕ → ℕ → ℕ
+swept f w st₀ k = f (getD st₀ k 0) (k % w) (k / w)
 
 pub record Upto (made : ℕ → ℕ) (g : Window) (st₀ : List ℕ) (k : ℕ) (st : List ℕ) : Type 0 where
   pub filled : Filled 0 made (cutCells g st₀) k (cutCells g st)

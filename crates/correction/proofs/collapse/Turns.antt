@@ -33,8 +33,7 @@ use Rattle.correction.specs.Bitmap.{cell}
 use Rattle.correction.specs.Collapse.{collapsedSample, collapsed}
 use Rattle.correction.specs.Numbered.{collapsedAt}
 use Rattle.correction.proofs.Laws.Collapse.{kept, flat}
-use Rattle.correction.proofs.bitmap.Sweep.{cell-cut}
-use Rattle.correction.proofs.bitmap.Stretch.{in-row}
+use Rattle.correction.proofs.bitmap.Stretch.{cell-cut, in-row}
 
 -- the cells with the error bit
 abbrev pub flags : List ℕ → ℕ → Bool

@@ -17,8 +17,7 @@ use Rattle.inputs.specs.Stencil.{setProtected}
 use Rattle.correction.specs.declared.edges.Radii.{Radii}
 use Rattle.correction.specs.Bitmap.{texel}
 use Rattle.correction.specs.Edges.{someEdge, edgesProtect}
-use Rattle.correction.proofs.bitmap.Sweep.{swept}
-use Rattle.correction.proofs.bitmap.Stretch.{rowed}
+use Rattle.correction.proofs.bitmap.Stretch.{swept, rowed}
 
 -- a pair protects texel x, y of the window whose samples are xs
 abbrev pub edge : List Float → Window → Radii → ℕ → ℕ → Bool

@@ -37,7 +37,7 @@ use Rattle.correction.specs.Collapse.{collapsed}
 use Rattle.correction.specs.Inner.{atCorner, found, madeIn, Cleared, cutOut, shieldedCells, Plain, Ordered, withOrders, withoutOrders}
 use Rattle.correction.specs.Pass.{texels, cornered, edgePriorityProtects, protects, flags, byteAt, passStencil, passSamples, testsAt, passTests}
 use Rattle.correction.proofs.Laws.Collapse.{collapsed-same, collapsed-none}
-use Rattle.correction.proofs.bitmap.Sweep.{cell-cut}
+use Rattle.correction.proofs.bitmap.Stretch.{cell-cut}
 use Rattle.correction.proofs.engine.Orders.{byte-small, above-at, made-above, found-below, flags-below}
 use Rattle.correction.proofs.engine.Staged.{found-staged, made-staged, byte-at-says, byte-at-disabled}
 

@@ -41,8 +41,7 @@ use Rattle.correction.specs.Bitmap.{cell, texel}
 use Rattle.correction.specs.Errors.{hasArtifact}
 use Rattle.correction.specs.Inner.{marked, found, madeFor, madeIn, orderIn, Ordered, Settled, nextIn, columnIn, Scanned, rowFound, rowMade}
 use Rattle.correction.proofs.Laws.Tests.{tests-made-le}
-use Rattle.correction.proofs.bitmap.Sweep.{cell-cut, swept}
-use Rattle.correction.proofs.bitmap.Stretch.{Stretched, Rowed, rowed, upto-long, upto-at, upto-keeps, stretch-none, stretch-next, stretch-run, stretch-all, rows-none, rows-next, rows-all}
+use Rattle.correction.proofs.bitmap.Stretch.{cell-cut, swept, Stretched, Rowed, rowed, upto-long, upto-at, upto-keeps, stretch-none, stretch-next, stretch-run, stretch-all, rows-none, rows-next, rows-all}
 use Rattle.correction.proofs.errors.Nearby.{next-inside}
 use Rattle.correction.proofs.errors.Passed.{passed-kept, passed-free}
 

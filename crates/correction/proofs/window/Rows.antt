@@ -1,4 +1,5 @@
 -- A row of a window, whose cells and whose samples lie side by side in the sheet. Assumes nothing.
+--     alone                      the byte with the protected bit and no other
 --     CellRow, SampleRow         that it lies in the list, and that its numbers are small
 --     cell-row, sample-row       it does
 --     samples-few, samples-all   a row has few samples, and so have all
@@ -27,6 +28,10 @@ use Rattle.inputs.specs.Stencil.{hasCorner, isProtected, isError, cellCount, pr
 use Rattle.inputs.specs.Checks.{oversize, samplesPlace}
 use Rattle.inputs.proofs.Laws.Places.{cell-inside, next-row}
 use Rattle.inputs.proofs.Laws.Windows.{cell-shown, sample-shown, near-small}
+
+-- the byte with the protected bit and no other, whatever stood there
+abbrev pub alone : ℕ → ℕ → ℕ → ℕ
+alone v x y = 2
 
 -- a row of w cells from `from` on, in a list of m
 pub record CellRow (w from m : ℕ) : Type 0 where

@@ -1,57 +1,47 @@
--- `correction::window::protect_all` meets its contract, by the laws of a sweep that stores one byte. Assumes nothing.
-use mathlib.Core.Path.{refl}
+-- `correction::window::protect_all` meets its contract: row by row. Assumes nothing.
+use mathlib.Core.Path.{ap}
 use Prim.Native.Nat.{ℕ, _-_, _*_}
 use native.Mathlib.Omega.{arith}
-use Rattle.inputs.proofs.Laws.Places.{cell-lt}
-use Rattle.correction.specs.Bitmap.{cell}
-use Rattle.correction.proofs.bitmap.Sweep.{Swept, swept-none, swept-place, swept-long, swept-next, swept-all}
+use Rattle.ground.specs.Lists.{painted, tab}
+use Rattle.ground.proofs.Laws.Picked.{picked-length, pasted-as}
+use Rattle.inputs.specs.Window.{cellShown}
+use Rattle.inputs.proofs.Laws.Windows.{still-stencilled}
+use Rattle.correction.proofs.bitmap.Stretch.{Rowed, rows-none, rows-next, rows-all, upto-long}
+use Rattle.correction.proofs.window.Rows.{alone}
 use Rattle.correction.proofs.window.protect_all.Statement.{statement}
 use Rattle.correction.proofs.window.protect_all.Tie as tie
 
--- the byte with the protected bit and no other
-abbrev alone : ℕ → ℕ → ℕ → ℕ
-alone v x y = 2
-
 abbrev Inv-loop : tie.InvT-loop
-Inv-loop stencil₀ b at₀ stencil at = Swept alone b stencil₀ stencil at
+Inv-loop stencil₀ b y₀ stencil y = Rowed alone b stencil₀ y stencil
 
 abbrev μ-loop : tie.MeasureT-loop
-μ-loop stencil₀ b at₀ stencil at = b .height * b .width - cell (b .width) (at .x) (at .y)
+μ-loop stencil₀ b y₀ stencil y = b .height - y
 
-loop-holds : tie.Need-loop-holds Inv-loop μ-loop
-loop-holds c = swept-none _ _ _ (c .first .ensures)
+-- from the loop to the start
+abbrev start : tie.At-loop Inv-loop μ-loop → tie.Start Inv-loop μ-loop
+start l = l .before .before
 
-slice-write-stencil : tie.Need-slice-write-stencil Inv-loop μ-loop
-slice-write-stencil c =
+protect-row-requires : tie.Need-protect-row-requires Inv-loop μ-loop
+protect-row-requires c κs =
     let l = c .before .before .before in
-    swept-place _ _ _ (l .before .before .before .pre) (l .loop .inv) (c .if1 .taken)
-
-next-requires : tie.Need-next-requires Inv-loop μ-loop
-next-requires c κs =
-    let l = c .before .before .before in
-    (l .before .before .before .pre .fits, (l .loop .inv .on, c .if1 .taken))
-
-loop-less : tie.Need-loop-less Inv-loop μ-loop
-loop-less c =
-    let t = c .before in
-    let l = t .before .before .before in
-    omega (arith, c .next .ensures .0, cell-lt _ _ _ _ (l .loop .inv .on .column) (t .if1 .taken))
+    (still-stencilled _ (start l .pre) _ (upto-long _ _ _ (l .loop .inv)), c .before .if1 .taken)
 
 loop-again : tie.Need-loop-again Inv-loop μ-loop
+unfolding painted
 loop-again c =
-    let t = c .before in
-    let l = t .before .before .before in
-    swept-next _ _ _ (l .before .before .before .pre) (l .loop .inv) (t .if1 .taken) refl (c .next .ensures)
-
-same-length : tie.Need-same-length Inv-loop μ-loop
-same-length c = let l = c .before .before .before in swept-long _ _ _ (l .before .before .before .pre) (l .loop .inv)
+    let r = c .before .before in
+    let t = r .before .before in
+    let l = t .before .before in
+    rows-next alone _ _ (l .loop .inv) (start l .pre) (t .if1 .taken) (r .protect-row .ensures)
 
 returns : tie.Need-returns Inv-loop μ-loop
 returns c =
-    let l = c .before .before .before in
-    swept-all _ _ _ (l .before .before .before .pre) (l .loop .inv) (c .if1 .left)
+    let l = c .before .before in
+    let b = start l .args .b in
+    let n : ℕ = b .height * b .width in
+    pasted-as 0 n (cellShown b) (rows-all alone _ _ (l .loop .inv) (c .if1 .left)) (ap (λ (m : ℕ). tab m (λ k. 2)) (picked-length 0 n (cellShown b) _))
 
 pub protect-all-spec : {M : Type 1} → statement M
 protect-all-spec =
     tie.close
-    (tie.spec Inv-loop μ-loop (λ c κs. c .before .pre .fits .any) loop-holds slice-write-stencil next-requires loop-less loop-again same-length returns)
+    (tie.spec Inv-loop μ-loop (λ c. rows-none alone _ _) protect-row-requires (λ c. omega arith) (λ c. omega arith) loop-again (λ c. upto-long _ _ _ (c .before .before .loop .inv)) returns)
