@@ -1,6 +1,5 @@
 -- What is known of the texels around one, of the verdicts on them, and of the rows that have been gone through.
 pub mod Beside
-pub mod Fetched
 pub mod Nearby
 pub mod Passed
 pub mod Rows

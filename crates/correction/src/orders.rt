@@ -19,9 +19,8 @@ fn write_run(stencil: &mut [u8], xs: &[f32], b: Window, y: usize, step: usize)
     let mut x = 0usize;
     while x < b.width {
         let k = bitmap::cell(b, x, y);
-        let p = k * step;
         let v = stencil[k];
-        stencil[k] = v + stencil::ORDER * orders::order_code([xs[p], xs[p + 1], xs[p + 2]]);
+        stencil[k] = v + stencil::ORDER * orders::order_code(bitmap::samples_at(xs, k * step));
         x += 1;
     }
 }

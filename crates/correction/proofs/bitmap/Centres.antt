@@ -2,7 +2,7 @@
 --     place-cut     a sample of texel x, y is one of the window's
 --     sample-cut    it is what stands in the sheet at the place of that texel
 --     texel-cut     so its first three channels are
---     texel-at      which are the three samples from its place on
+--     texel-read    which are the three samples from its place on
 --     texel-held    and these are there
 --     centred       a centre, as it is read
 use mathlib.Core.Path.{_≡_, refl, sym, _∙_, ap}
@@ -36,11 +36,12 @@ module _ (g : Window) (x y : ℕ) (p : x < g .width) (q : y < g .height) where
   unfolding texel
   texel-cut xs s = rw (sample-cut xs 0 (omega (arith, s .some)), sample-cut xs 1 (omega (arith, s .some)), sample-cut xs 2 (omega (arith, s .some)))
 
-  pub texel-at : (xs : List Float) → Sampled g xs → samplesAt xs (cellIn g x y * g .channels) ≡ texel (cutSamples g xs) (g .width) (g .channels) x y
-  texel-at xs s = rw add-zero at (sym (texel-cut xs s))
+  module _ (xs : List Float) (s : Sampled g xs) {at : ℕ} (e : at ≡ cellIn g x y * g .channels) where
+    pub texel-read : samplesAt xs at ≡ texel (cutSamples g xs) (g .width) (g .channels) x y
+    texel-read = rw e (rw add-zero at (sym (texel-cut xs s)))
 
-  pub texel-held : (xs : List Float) → Sampled g xs → cellIn g x y * g .channels + 2 < length xs
-  texel-held xs s = omega (arith, s .held x y p q, s .some)
+    pub texel-held : at + 2 < length xs
+    texel-held = omega (arith, e, s .held x y p q, s .some)
 
 pub centred : (xs : List Float) (w h ch x y : ℕ) (t : Centre) → t ≡ centreOf xs w ch x y → x < w → y < h → Centred xs w h ch t
 centred xs w h ch x y t e p q = rw e (record { column = p; row = q; samples = refl; median = refl })

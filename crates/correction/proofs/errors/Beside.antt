@@ -3,6 +3,7 @@
 --     before-column, past-column, before-row, past-row, outside-column   one that is not
 --     known-alike                a neighbour that is found to be alike is of the same order, by `Ordered`
 --     known-doubt                the pairs that are found to be in doubt are those of the orders of the four
+--     four-read                  the four texels of a diagonal test are those that are read
 --     side-on, side-off          a side neighbour that is inside, and one that is not
 --     side-alike                 one of the same order
 --     across-on, across-off      the same of a diagonal neighbour
@@ -10,7 +11,7 @@
 use mathlib.Core.Path.{_≡_, refl, sym, _∙_, subst}
 use mathlib.Core.Bool.{Bool, true, false, _&&_, true≢false}
 use mathlib.Core.List.{List}
-use Prim.Native.Nat.{ℕ, _-_, _<_, _≤_}
+use Prim.Native.Nat.{ℕ, _-_, _*_, _<_, _≤_}
 use lib.Dec.{eqb, leb, ltb}
 use lib.Ieee.{Float}
 use borrow.Author.Tests.{ltb-true, eqb-true, lt-ltb, le-ltb, le-leb, lt-leb}
@@ -22,10 +23,12 @@ use Rattle.detectors.specs.Verdict.{verdict}
 use Rattle.detectors.proofs.Laws.Orders.{linear-settled, doubts, undoubted}
 use Rattle.detectors.proofs.Laws.Verdict.{guarded-off, guarded-on, as-clear}
 use Rattle.inputs.specs.declared.sizes.Window.{Window}
-use Rattle.inputs.specs.Window.{cutSamples}
+use Rattle.inputs.specs.Inner.{Sampled}
+use Rattle.inputs.specs.Window.{cellIn, cutSamples}
 use Rattle.correction.specs.Bitmap.{texel, inBounds}
 use Rattle.correction.specs.Errors.{sideArtifact, sideTests, diagonalArtifact, acrossTests}
-use Rattle.correction.specs.Inner.{fourOf, orderIn, Ordered}
+use Rattle.correction.specs.Inner.{fourAt, fourOf, orderIn, Ordered}
+use Rattle.correction.proofs.bitmap.Centres.{texel-read}
 
 pub in-bounds : (w h nx ny : ℕ) → 0 < nx → nx ≤ w → 0 < ny → ny ≤ h → inBounds w h nx ny ≡ true
 unfolding inBounds
@@ -78,6 +81,11 @@ module _ (g : Window) (xs : List Float) (st : List ℕ) (d : Ordered g xs st) (a
   known-doubt {q} f =
       let h : q ≡ doubt (orderCode a) (orderCode (tex u y)) (orderCode (tex x v)) (orderCode (tex u v)) = rw (← e, ← d u y k j, ← d x v i l, ← d u v k l) f in
       (h, subst (λ (n : ℕ). Doubts n (fourOf tex a x y u v)) (sym h) (doubts (fourOf tex a x y u v)))
+
+pub four-read : (g : Window) (xs : List Float) → Sampled g xs → {row column across : ℕ} (a : List Float) (x y u v : ℕ) → x < g .width → y < g .height → u < g .width → v < g .height
+    → row ≡ cellIn g u y * g .channels → column ≡ cellIn g x v * g .channels → across ≡ cellIn g u v * g .channels
+    → fourAt xs a row column across ≡ fourOf (texel (cutSamples g xs) (g .width) (g .channels)) a x y u v
+four-read g xs s a x y u v p q o l e f h = rw (texel-read g u y o q xs s e, texel-read g x v p l xs s f, texel-read g u v o l xs s h)
 
 module _ (tex : ℕ → ℕ → List Float) (w h : ℕ) (span : Float) (protected : Bool) (m : Float) (a : List Float) where
   pub side-on : (nx ny x y : ℕ) → inBounds w h nx ny ≡ true → nx - 1 ≡ x → ny - 1 ≡ y → verdict (hasLinearArtifact span protected m a (tex x y)) (linearTests span protected m a (tex x y)) ≡ verdict (sideArtifact tex w h span protected m a nx ny) (sideTests tex w h span protected m a nx ny)

@@ -1,6 +1,6 @@
 -- `correction::bitmap::texel` meets its contract: the last of the three places is in the list. Assumes nothing.
 use mathlib.Core.Path.{_∙_}
-use Rattle.correction.proofs.bitmap.Centres.{texel-at, texel-held}
+use Rattle.correction.proofs.bitmap.Centres.{texel-read, texel-held}
 use Rattle.correction.proofs.bitmap.texel.Statement.{statement}
 use Rattle.correction.proofs.bitmap.texel.Tie as tie
 
@@ -12,13 +12,13 @@ place-requires c κs =
 samples-at-requires : tie.Need-samples-at-requires
 samples-at-requires c κs =
     let s = c .before .before in
-    rw (c .place .ensures) (texel-held _ _ _ (s .pre .1 .0) (s .pre .1 .1) _ (s .pre .0))
+    texel-held _ _ _ (s .pre .1 .0) (s .pre .1 .1) _ (s .pre .0) (c .place .ensures)
 
 returns : tie.Need-returns
 returns c =
     let p = c .before in
     let s = p .before .before in
-    (rw (p .place .ensures) at (c .samples-at .ensures)) ∙ texel-at _ _ _ (s .pre .1 .0) (s .pre .1 .1) _ (s .pre .0)
+    c .samples-at .ensures ∙ texel-read _ _ _ (s .pre .1 .0) (s .pre .1 .1) _ (s .pre .0) (p .place .ensures)
 
 pub texel-spec : {M : Type 1} → statement M
 texel-spec = tie.close (tie.spec place-requires samples-at-requires returns)

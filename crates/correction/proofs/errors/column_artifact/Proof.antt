@@ -7,7 +7,7 @@ use denote.Ref.{now}
 use borrow.Author.Needs.{needs}
 use borrow.Author.Tests.{leb-true, leb-false, not-false}
 use Rattle.inputs.specs.Window.{cellIn}
-use Rattle.correction.proofs.errors.Fetched.{texel-read, place-held}
+use Rattle.correction.proofs.bitmap.Centres.{texel-read, texel-held}
 use Rattle.correction.proofs.errors.Beside.{in-bounds, before-row, past-row, known-alike, side-on, side-off, side-alike}
 use Rattle.correction.proofs.errors.column_artifact.Statement.{statement}
 use Rattle.correction.proofs.errors.column_artifact.Tie as tie
@@ -42,14 +42,14 @@ side-artifact-requires : tie.Need-side-artifact-requires
 side-artifact-requires c κs =
     let d = c .before .before .before .before .before in
     let p = start d .pre in
-    place-held _ _ (p .0) _ _ (p .1 .1 .0) (inside d) (placed (c .before))
+    texel-held _ _ _ (p .1 .1 .0) (inside d) _ (p .0) (placed (c .before))
 
 returns : tie.Need-returns
 returns c =
     let o = c .before in
     let d = o .before .before .before .before .before in
     let p = start d .pre in
-    (rw (texel-read _ _ (p .0) _ _ (p .1 .1 .0) (inside d) (placed (o .before)), o .side-span .ensures) at (c .side-artifact .ensures))
+    (rw (texel-read _ _ _ (p .1 .1 .0) (inside d) _ (p .0) (placed (o .before)), o .side-span .ensures) at (c .side-artifact .ensures))
     ∙ side-on _ _ _ _ _ _ _ _ _ _ _ (in-bounds _ _ _ _ (omega arith) (omega (arith, p .1 .1 .0)) (first d) (last d)) (omega arith) refl
 
 returns-2 : tie.Need-returns-2

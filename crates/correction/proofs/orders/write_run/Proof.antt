@@ -1,11 +1,12 @@
 -- `correction::orders::write_run` meets its contract: the row is given up to column x. Assumes nothing.
-use mathlib.Core.Path.{_≡_}
+use mathlib.Core.Path.{_≡_, _∙_, ap}
 use Prim.Native.Nat.{ℕ, _+_, _-_, _*_, _<_}
 use native.Mathlib.Nat.{le-refl}
 use native.Mathlib.Omega.{arith}
 use lib.ListN.{length, getD}
 use denote.Ref.{now}
 use borrow.Author.Needs.{needs}
+use Rattle.detectors.specs.Orders.{orderCode}
 use Rattle.inputs.specs.Window.{cellIn}
 use Rattle.correction.specs.Inner.{rowOrders}
 use Rattle.correction.proofs.bitmap.Stretch.{Stretched, stretch-none, stretch-all, upto-long, upto-at}
@@ -55,14 +56,14 @@ last c =
 
 -- from the end of a turn to the cell
 abbrev found : tie.After-order-code Inv-loop μ-loop → tie.After-cell Inv-loop μ-loop
-found c = c .before .before .before .before .before
+found c = c .before .before .before
 
 loop-again : tie.Need-loop-again Inv-loop μ-loop
 loop-again c =
     let k = found c in
     let t = k .before in
     let p = start t .pre in
-    order-next _ _ (p .0) (t .if1 .taken) (p .1 .1 .0) _ (p .1 .0 .0) (at t .loop .inv) (k .cell .ensures) (p .1 .1 .1) (c .order-code .ensures .0)
+    order-next _ _ (p .0) (t .if1 .taken) (p .1 .1 .0) (k .cell .ensures) (p .1 .1 .1) _ (p .1 .0 .0) (at t .loop .inv) (c .order-code .ensures .0 ∙ ap orderCode (c .before .samples-at .ensures))
 
 returns : tie.Need-returns Inv-loop μ-loop
 unfolding rowOrders
@@ -79,16 +80,9 @@ write-run-spec =
     μ-loop
     loop-holds
     cell-requires
-    (λ c. omega (arith, last c, start (c .before) .good))
     (λ c. let k = c .before in there (k .before) (k .cell .ensures))
     (λ c. let k = c .before in omega (arith, last k, start (k .before) .good))
-    (λ c. omega (arith, last (c .before .before)))
-    (λ c. let k = c .before .before in omega (arith, last k, start (k .before) .good))
-    (λ c. let k = c .before .before in omega (arith, last k, start (k .before) .good))
-    (λ c. omega (arith, last (c .before .before .before)))
-    (λ c. let k = c .before .before .before in omega (arith, last k, start (k .before) .good))
-    (λ c. let k = c .before .before .before in omega (arith, last k, start (k .before) .good))
-    (λ c. last (c .before .before .before .before))
+    (λ c κs. last (c .before))
     (λ c κs. search needs)
     (λ c. omega (arith, c .order-code .ensures .1))
     (λ c. let k = found c in omega (arith, c .order-code .ensures .1, few (k .before) (k .cell .ensures)))
