@@ -39,13 +39,18 @@ static READ: Mutex<Vec<(Place, Vec<Place>)>> = Mutex::new(Vec::new());
 /// No texel: what is read before the first is read for none.
 const NOWHERE: Place = (usize::MAX, usize::MAX);
 
+/// The width and the channels of the bitmap that is read.
+static SIZES: Mutex<(usize, usize)> = Mutex::new((1, 1));
+
 #[no_mangle]
-extern "C" fn rungtwine_reads(x: usize, y: usize) {
+extern "C" fn rungtwine_reads(at: usize) {
+    let (width, channels) = *SIZES.lock().unwrap();
+    let cell = at / channels;
     let mut read = READ.lock().unwrap();
     if read.is_empty() {
         read.push((NOWHERE, vec![]));
     }
-    read.last_mut().expect("a texel").1.push((x, y));
+    read.last_mut().expect("a texel").1.push((cell % width, cell / width));
 }
 
 #[no_mangle]
@@ -66,6 +71,7 @@ fn recorded(input: &Input, samples: &[f32]) -> Vec<(Place, Vec<Place>)> {
     let settings = Settings { ratio: input.ratio, horizontal, vertical, diagonal };
     let outlines = Outlines { colours: &input.colours, coords: &input.coords, ends: &input.ends };
     let (mut stencil, mut room) = (vec![0; input.width * input.height], vec![0.0; 2 * input.width]);
+    *SIZES.lock().unwrap() = (input.width, input.channels);
     READ.lock().unwrap().clear();
     error_correction((input.width, input.height, input.channels), &mut samples.to_vec(), &mut stencil, &mut room, mode, settings, outlines).expect("refused");
     std::mem::take(&mut *READ.lock().unwrap())
