@@ -14,35 +14,35 @@ pub struct Classifier {
 fn falls_below(am: f32, bm: f32, xm: f32) -> bool
     ensures { λ r. ⌜ r ≡ fallsBelow am bm xm ⌝ }
 {
-    am > constants::HALF && (bm > constants::HALF && xm <= constants::HALF)
+    (am > constants::HALF) & ((bm > constants::HALF) & (xm <= constants::HALF))
 }
 
 // Both ends lie below the outline, and xm does not.
 fn rises_above(am: f32, bm: f32, xm: f32) -> bool
     ensures { λ r. ⌜ r ≡ risesAbove am bm xm ⌝ }
 {
-    am < constants::HALF && (bm < constants::HALF && xm >= constants::HALF)
+    (am < constants::HALF) & ((bm < constants::HALF) & (xm >= constants::HALF))
 }
 
 // A texel that is not protected is a candidate also where xm lies outside of am and bm.
 fn lies_outside(protected: bool, am: f32, bm: f32, xm: f32) -> bool
     ensures { λ r. ⌜ r ≡ liesOutside protected am bm xm ⌝ }
 {
-    !protected && scalar::median_value(am, bm, xm) != xm
+    !protected & (scalar::median_value(am, bm, xm) != xm)
 }
 
-// Any of the three makes a candidate.
+// Any of the three makes a candidate. No test waits for another: which of them hold is hard to foretell.
 fn candidate(protected: bool, am: f32, bm: f32, xm: f32) -> bool
     ensures { λ r. ⌜ r ≡ candidate protected am bm xm ⌝ }
 {
-    falls_below(am, bm, xm) || (rises_above(am, bm, xm) || lies_outside(protected, am, bm, xm))
+    falls_below(am, bm, xm) | (rises_above(am, bm, xm) | lies_outside(protected, am, bm, xm))
 }
 
 // x lies in m ± d, ends included.
 fn within(x: f64, m: f64, d: f64) -> bool
     ensures { λ r. ⌜ r ≡ within x m d ⌝ }
 {
-    x >= m - d && x <= m + d
+    (x >= m - d) & (x <= m + d)
 }
 
 // xm lies within the span of both ends, each by its share of the way.
@@ -52,7 +52,7 @@ fn in_range(span: f64, at: f64, bt: f64, xt: f64, am: f32, bm: f32, xm: f32) -> 
     let x = std::num::f32_to_f64_with_nan(xm);
     let a = std::num::f32_to_f64_with_nan(am);
     let b = std::num::f32_to_f64_with_nan(bm);
-    within(x, a, (xt - at) * span) && within(x, b, (bt - xt) * span)
+    within(x, a, (xt - at) * span) & within(x, b, (bt - xt) * span)
 }
 
 // A candidate is an artifact unless it lies in range.
