@@ -25,7 +25,6 @@ use detectors::texel;
 use detectors::verdict;
 use inputs::sizes::Window;
 use inputs::stencil;
-use ranges::config;
 use ranges::config::Settings;
 
 // A scan along a row: the column that it has come to, and the orders of the column before and of that one, each over three rows.
@@ -112,12 +111,21 @@ fn alike(stencil: &[u8], b: Window, o: u8, x: usize, y: usize) -> bool
     (o > 0) & (order_at(stencil, b, x, y) == o)
 }
 
-// Texel a, whose median is am, against the side neighbour whose samples stand from a place on. No record is handed on: each would be copied for every neighbour.
-fn side_artifact(xs: &[f32], at: usize, span: f64, protected: bool, am: f32, a: [f32; 3]) -> usize
+// Texel a, whose median is am, against the side neighbour whose samples stand from a place on, in its column where `upright`, else in its row.
+// The window and the centre are not handed on: either would be copied for every neighbour.
+fn side_artifact(
+    xs: &[f32],
+    at: usize,
+    s: Settings,
+    upright: bool,
+    protected: bool,
+    am: f32,
+    a: [f32; 3],
+) -> usize
     requires { ⌜ at + 2 < length (now xs) ⌝ }
-    ensures { λ r. ⌜ r ≡ verdict (hasLinearArtifact span protected am a (samplesAt (now (xs .entry)) at)) (linearTests span protected am a (samplesAt (now (xs .entry)) at)) ⌝ }
+    ensures { λ r. ⌜ r ≡ verdict (hasLinearArtifact (sideSpan s upright) protected am a (samplesAt (now (xs .entry)) at)) (linearTests (sideSpan s upright) protected am a (samplesAt (now (xs .entry)) at)) ⌝ }
 {
-    linear::has_linear_artifact(span, protected, am, a, bitmap::samples_at(xs, at))
+    linear::has_linear_artifact(s, upright, protected, am, a, bitmap::samples_at(xs, at))
 }
 
 // Texel a of t, of the order o, against its neighbour in the row at column nx, counted from 1.
@@ -140,8 +148,7 @@ fn row_artifact(
         if !alike(stencil, b, o, nx - 1, t.y) {
             let a = t.texel;
             let at = bitmap::place(b, nx - 1, t.y);
-            let span = config::side_span(s, false);
-            return side_artifact(xs, at, span, protected, t.median, a);
+            return side_artifact(xs, at, s, false, protected, t.median, a);
         }
     }
     0
@@ -167,8 +174,7 @@ fn column_artifact(
         if !alike(stencil, b, o, t.x, ny - 1) {
             let a = t.texel;
             let at = bitmap::place(b, t.x, ny - 1);
-            let span = config::side_span(s, true);
-            return side_artifact(xs, at, span, protected, t.median, a);
+            return side_artifact(xs, at, s, true, protected, t.median, a);
         }
     }
     0
@@ -195,7 +201,7 @@ fn diagonal_artifact(
     row: usize,
     column: usize,
     across: usize,
-    span: f64,
+    s: Settings,
     protected: bool,
     am: f32,
     a: [f32; 3],
@@ -203,7 +209,7 @@ fn diagonal_artifact(
 ) -> usize
     requires { ⌜ (row + 2 < length (now xs)) × (column + 2 < length (now xs)) × (across + 2 < length (now xs)) ⌝ }
     requires { ⌜ Doubts doubt (fourAt (now xs) a row column across) ⌝ }
-    ensures { λ r. ⌜ r ≡ verdict (hasDiagonalArtifact span protected am (fourAt (now (xs .entry)) a row column across)) (diagonalTests span protected am (fourAt (now (xs .entry)) a row column across)) ⌝ }
+    ensures { λ r. ⌜ r ≡ verdict (hasDiagonalArtifact (diagonalSpan s) protected am (fourAt (now (xs .entry)) a row column across)) (diagonalTests (diagonalSpan s) protected am (fourAt (now (xs .entry)) a row column across)) ⌝ }
 {
     let d = bitmap::samples_at(xs, across);
     let far = texel::median(d);
@@ -215,7 +221,7 @@ fn diagonal_artifact(
             bitmap::samples_at(xs, column),
             d,
         ];
-        return diagonal::has_guarded_artifact(span, protected, am, dm, m, doubt);
+        return diagonal::has_guarded_artifact(s, protected, am, dm, m, doubt);
     }
     0
 }
@@ -243,8 +249,7 @@ fn lower_artifact(
             let row = bitmap::place(b, nx - 1, t.y);
             let column = bitmap::place(b, t.x, t.y - 1);
             let across = bitmap::place(b, nx - 1, t.y - 1);
-            let span = config::diagonal_span(s);
-            return diagonal_artifact(xs, row, column, across, span, protected, t.median, a, q);
+            return diagonal_artifact(xs, row, column, across, s, protected, t.median, a, q);
         }
     }
     0
@@ -273,8 +278,7 @@ fn upper_artifact(
             let row = bitmap::place(b, nx - 1, t.y);
             let column = bitmap::place(b, t.x, t.y + 1);
             let across = bitmap::place(b, nx - 1, t.y + 1);
-            let span = config::diagonal_span(s);
-            return diagonal_artifact(xs, row, column, across, span, protected, t.median, a, q);
+            return diagonal_artifact(xs, row, column, across, s, protected, t.median, a, q);
         }
     }
     0

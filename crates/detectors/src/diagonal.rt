@@ -8,6 +8,7 @@ ghost use Rattle.numbers.specs.EquationSolver.{Listed};
 ghost use Rattle.detectors.specs.Verdict.{verdict};
 ghost use Rattle.detectors.specs.Diagonal as Diagonal;
 ghost use Rattle.ground.specs.Lists.{any, some, spent};
+ghost use Rattle.ranges.specs.Config as Config;
 ghost use Rattle.detectors.specs.Pairs.{inside, difference};
 ghost use Rattle.detectors.specs.Orders as Orders;
 ghost use Rattle.detectors.specs.Discriminant.{normalQuadraticRoots};
@@ -22,6 +23,8 @@ use numbers::rounding;
 use numbers::scalar;
 use ranges::classifier;
 use ranges::classifier::Classifier;
+use ranges::config;
+use ranges::config::Settings;
 use ranges::constants;
 
 // The least and the largest of a pair's differences at which it is judged without its roots; the largest of the two in the middle together.
@@ -293,27 +296,30 @@ fn some_pair(k: Classifier, am: f32, dm: f32, m: &[[f32; 3]; 4], doubt: u8) -> u
 
 // The verdict of texel m[0], whose median is am, against the one across, m[3], whose median is dm, in the pairs that `doubt` names: for a caller that has asked the guard.
 pub fn has_guarded_artifact(
-    span: f64,
+    s: Settings,
     protected: bool,
     am: f32,
     dm: f32,
     m: [[f32; 3]; 4],
     doubt: u8,
 ) -> usize
-    ensures { λ r. ⌜ r ≡ verdict (any 3 (Orders.doubtedPair doubt span protected am dm m)) (spent 3 (Orders.doubtedPair doubt span protected am dm m) (Orders.doubtedTests doubt span protected am dm m)) ⌝ }
+    ensures { λ r. ⌜ r ≡ verdict (any 3 (Orders.doubtedPair doubt (Config.diagonalSpan s) protected am dm m)) (spent 3 (Orders.doubtedPair doubt (Config.diagonalSpan s) protected am dm m) (Orders.doubtedTests doubt (Config.diagonalSpan s) protected am dm m)) ⌝ }
 {
-    let k = Classifier { span, protected };
+    let k = Classifier {
+        span: config::diagonal_span(s),
+        protected,
+    };
     some_pair(k, am, dm, &m, doubt)
 }
 
 // The verdict of texel m[0], whose median is am, against the one across, m[3].
-pub fn has_diagonal_artifact(span: f64, protected: bool, am: f32, m: [[f32; 3]; 4]) -> usize
-    ensures { λ r. ⌜ r ≡ verdict (Diagonal.hasDiagonalArtifact span protected am m) (Diagonal.diagonalTests span protected am m) ⌝ }
+pub fn has_diagonal_artifact(s: Settings, protected: bool, am: f32, m: [[f32; 3]; 4]) -> usize
+    ensures { λ r. ⌜ r ≡ verdict (Diagonal.hasDiagonalArtifact (Config.diagonalSpan s) protected am m) (Diagonal.diagonalTests (Config.diagonalSpan s) protected am m) ⌝ }
 {
     let far = texel::median(m[3]);
     let dm = far.value;
     if texel::guard(am, dm) {
-        return has_guarded_artifact(span, protected, am, dm, m, 7);
+        return has_guarded_artifact(s, protected, am, dm, m, 7);
     }
     0
 }

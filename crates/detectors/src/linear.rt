@@ -2,6 +2,7 @@
 ghost use mathlib.Core.Path.{_≡_};
 ghost use mathlib.Core.Bool.{false};
 ghost use Rattle.ground.specs.Lists.{any, spent};
+ghost use Rattle.ranges.specs.Config as Config;
 ghost use Rattle.detectors.specs.Verdict.{verdict};
 ghost use Rattle.detectors.specs.Linear as Linear;
 ghost use Rattle.detectors.specs.Inner.{orElse};
@@ -12,6 +13,8 @@ use crate::texel;
 use crate::verdict;
 use ranges::classifier;
 use ranges::classifier::Classifier;
+use ranges::config;
+use ranges::config::Settings;
 
 // Where a difference that is da at a and db at b is zero between them.
 fn crossing(da: f32, db: f32) -> f64
@@ -66,14 +69,24 @@ fn some_pair(k: Classifier, am: f32, bm: f32, a: [f32; 3], b: [f32; 3]) -> usize
     has_linear_artifact_inner(v, k, am, bm, a, b, difference(a, 2), difference(b, 2))
 }
 
-// The verdict of texel a, whose median is am, against its side neighbour b.
-pub fn has_linear_artifact(span: f64, protected: bool, am: f32, a: [f32; 3], b: [f32; 3]) -> usize
-    ensures { λ r. ⌜ r ≡ verdict (Linear.hasLinearArtifact span protected am a b) (Linear.linearTests span protected am a b) ⌝ }
+// The verdict of texel a, whose median is am, against its neighbour b in the row, or upright in the column.
+pub fn has_linear_artifact(
+    s: Settings,
+    upright: bool,
+    protected: bool,
+    am: f32,
+    a: [f32; 3],
+    b: [f32; 3],
+) -> usize
+    ensures { λ r. ⌜ r ≡ verdict (Linear.hasLinearArtifact (Config.sideSpan s upright) protected am a b) (Linear.linearTests (Config.sideSpan s upright) protected am a b) ⌝ }
 {
     let m = texel::median(b);
     let bm = m.value;
     if texel::guard(am, bm) {
-        let k = Classifier { span, protected };
+        let k = Classifier {
+            span: config::side_span(s, upright),
+            protected,
+        };
         return some_pair(k, am, bm, a, b);
     }
     0

@@ -68,31 +68,29 @@ place-requires-3 : tie.Need-place-requires-3
 place-requires-3 c κs = let d = then (c .before .before .before .before) in let p = start d .pre in (p .0 .fits, (across d, row d, p .0 .few))
 
 -- the four texels are those that are read
-read : (c : tie.After-diagonal-span) → let a = start (then (c .before .before .before .before .before .before)) .args in
-    fourAt (now (a .xs)) (a .t .texel) (c .before .before .before .before .before .place .result) (c .before .before .before .place2 .result) (c .before .place3 .result)
+read : (c : tie.After-place3) → let a = start (then (c .before .before .before .before .before)) .args in
+    fourAt (now (a .xs)) (a .t .texel) (c .before .before .before .before .place .result) (c .before .before .place2 .result) (c .place3 .result)
     ≡ fourOf (texel (cutSamples (a .b) (now (a .xs))) (a .b .width) (a .b .channels)) (a .t .texel) (a .t .x) (a .t .y) (a .nx - 1) (a .t .y + 1)
 read c =
-    let t = c .before in
-    let m = t .before .before in
+    let m = c .before .before in
     let r = m .before .before in
     let d = then (r .before) in
     let p = start d .pre in
-    four-read _ _ (p .0) _ _ _ _ _ (p .1 .1 .0) (p .1 .1 .1) (across d) (row d) (r .place .ensures) (m .place2 .ensures) (t .place3 .ensures)
+    four-read _ _ (p .0) _ _ _ _ _ (p .1 .1 .0) (p .1 .1 .1) (across d) (row d) (r .place .ensures) (m .place2 .ensures) (c .place3 .ensures)
 
 diagonal-artifact-requires : tie.Need-diagonal-artifact-requires
 diagonal-artifact-requires c κs =
-    let t = c .before in
-    let m = t .before .before in
+    let m = c .before .before in
     let r = m .before .before in
     let d = then (r .before) in
     let p = start d .pre in
-    ((texel-held _ _ _ (across d) (p .1 .1 .1) _ (p .0) (r .place .ensures), texel-held _ _ _ (p .1 .1 .0) (row d) _ (p .0) (m .place2 .ensures), texel-held _ _ _ (across d) (row d) _ (p .0) (t .place3 .ensures)), rw (read c) (known (r .before .before .before) .1))
+    ((texel-held _ _ _ (across d) (p .1 .1 .1) _ (p .0) (r .place .ensures), texel-held _ _ _ (p .1 .1 .0) (row d) _ (p .0) (m .place2 .ensures), texel-held _ _ _ (across d) (row d) _ (p .0) (c .place3 .ensures)), rw (read c) (known (r .before .before .before) .1))
 
 returns : tie.Need-returns
 returns c =
     let s = c .before in
-    let d = then (s .before .before .before .before .before .before) in
-    (rw (read s, s .diagonal-span .ensures) at (c .diagonal-artifact .ensures))
+    let d = then (s .before .before .before .before .before) in
+    (rw (read s) at (c .diagonal-artifact .ensures))
     ∙ across-on _ _ _ _ _ _ _ _ _ _ _ _ _ (in-bounds _ _ _ _ (first d) (last d) (omega arith) (omega (arith, row d))) refl (omega arith)
 
 returns-2 : tie.Need-returns-2
@@ -111,5 +109,5 @@ returns-3 c =
 pub upper-artifact-spec : {M : Type 1} → statement M
 upper-artifact-spec =
     tie.close
-    (tie.spec (λ c. search needs) first (λ c. search needs) doubt-towards-requires (λ c. first (then c)) place-requires (λ c. search needs) place-requires-2 (λ c. first (then (c .before .before .before))) (λ c. search needs) place-requires-3
-    (λ c κs. search needs) diagonal-artifact-requires returns returns-2 returns-3)
+    (tie.spec (λ c. search needs) first (λ c. search needs) doubt-towards-requires (λ c. first (then c)) place-requires (λ c. search needs) place-requires-2 (λ c. first (then (c .before .before .before))) (λ c. search needs) place-requires-3 diagonal-artifact-requires
+    returns returns-2 returns-3)
