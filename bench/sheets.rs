@@ -68,7 +68,7 @@ impl Sheet {
     fn of_letters(letters: &Letters) -> Sheet {
         let mut sheet = Sheet::new("letters", letters.cell, letters.side, letters.samples());
         let runs: Vec<SheetCell> = letters.drawn.iter().map(|cell| sheet.append(&cell.contours)).collect();
-        (0..letters.side * letters.side).for_each(|k| sheet.push(k, runs[k % runs.len()], lengths(RANGE)));
+        (0..letters.side * letters.side).for_each(|k| sheet.push(k, runs[letters.letter(k)], lengths(RANGE)));
         sheet
     }
 
@@ -261,7 +261,7 @@ fn as_the_original(letters: &Letters, mode: Mode, samples: &[f32], tests: usize)
         due.push((samples, answer.tests.iter().map(|&n| n as usize).sum::<usize>()));
     }
     let sheet = Sheet::of_letters(letters);
-    let of = |k: usize| &due[k % due.len()];
+    let of = |k: usize| &due[letters.letter(k)];
     let alike = |k: usize| sheet.rows(k).zip(of(k).0.chunks(3 * sheet.cell)).all(|(row, due)| samples[row..row + due.len()] == *due);
     (0..sheet.count()).all(alike) && tests == (0..sheet.count()).map(|k| of(k).1).sum()
 }

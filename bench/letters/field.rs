@@ -159,7 +159,7 @@ impl Cell {
     }
 }
 
-/// Side by side cells: one letter after the other from the lower left, and again from the first after the last.
+/// Side by side cells: one letter after the other from the lower left, and after the last letter all of them mixed, so that no row repeats itself.
 pub struct Sheet {
     pub cell: usize,
     pub side: usize,
@@ -176,9 +176,15 @@ impl Sheet {
         self.side * self.cell
     }
 
+    /// The number of the letter in cell k.
+    pub fn letter(&self, k: usize) -> usize {
+        let mixed = (k as u64).wrapping_mul(0x9E37_79B9_7F4A_7C15) >> 33;
+        if k < self.drawn.len() { k } else { mixed as usize % self.drawn.len() }
+    }
+
     /// What cell k is, and its lower left corner.
     pub fn cell(&self, k: usize) -> (&Cell, usize, usize) {
-        (&self.drawn[k % self.drawn.len()], k % self.side * self.cell, k / self.side * self.cell)
+        (&self.drawn[self.letter(k)], k % self.side * self.cell, k / self.side * self.cell)
     }
 
     pub fn samples(&self) -> Vec<f32> {
