@@ -6,7 +6,8 @@
 --     upto-keeps     what `made` keeps of each byte is as it was in all cells
 --     in-row         where the cells of row y lie
 --     stretch-none   `Stretched f g st₀ y x st`, the cells of row y before column x have been given: before the first
---     stretch-next   after a store
+--     stretch-held   the number of the next cell is one of the stencil's
+--     stretch-next   after a store at that number
 --     stretch-kept   after no store, where f changes nothing
 --     stretch-run    the same of some columns
 --     stretch-all    after the last column
@@ -126,11 +127,19 @@ module _ (f : ℕ → ℕ → ℕ → ℕ) (g : Window) (st₀ : List ℕ) (y : 
   stretch-none = run made g st₀ (none made g st₀) (cell (g .width) 0 y) (omega arith) (λ j l m. other j (λ q. let r = in-row (g .width) y j (e .fits .any) q .0 in absurd (omega arith)))
 
   module _ {x : ℕ} {st : List ℕ} (i : Stretched f g st₀ y x st) where
-    pub stretch-next : {v : ℕ} → x < g .width → v ≡ f (getD st (cellIn g x y) 0) x y → Stretched f g st₀ y (x + 1) (set st (cellIn g x y) v)
-    stretch-next {v} l h =
+    -- at the cell itself
+    next-cell : {v : ℕ} → x < g .width → v ≡ f (getD st (cellIn g x y) 0) x y → Stretched f g st₀ y (x + 1) (set st (cellIn g x y) v)
+    next-cell {v} l h =
         let s : Upto made g st₀ (cell (g .width) x y + 1) (set st (cellIn g x y) v) =
         stored made g st₀ i e x y v l b refl (h ∙ ap (λ (o : ℕ). f o x y) (upto-at made g st₀ i x y l b (le-refl (cell (g .width) x y))) ∙ sym (own x l)) in
         at-index made g st₀ s (cell (g .width) (x + 1) y) (omega arith)
+
+    module _ {k : ℕ} (l : x < g .width) (p : k ≡ cellIn g x y) where
+      pub stretch-held : k < length st
+      stretch-held = rw (p, upto-long made g st₀ i) (e .held x y l b)
+
+      pub stretch-next : {v : ℕ} → v ≡ f (getD st k 0) x y → Stretched f g st₀ y (x + 1) (set st k v)
+      stretch-next {v} = subst (λ (n : ℕ). v ≡ f (getD st n 0) x y → Stretched f g st₀ y (x + 1) (set st n v)) (sym p) (next-cell l)
 
     pub stretch-run : (m : ℕ) → x ≤ m → m ≤ g .width → ((u : ℕ) → x ≤ u → u < m → f (getD st₀ (cellIn g u y) 0) u y ≡ getD st₀ (cellIn g u y) 0) → Stretched f g st₀ y m st
     stretch-run m l n same =

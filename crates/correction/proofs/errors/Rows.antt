@@ -13,7 +13,7 @@
 --     rows-then      after one more
 --     rows-ordered, rows-stencilled, rows-few   what is known of them
 --     rows-found, rows-made   after the last
-use mathlib.Core.Path.{_≡_, refl, sym, _∙_, ap, subst}
+use mathlib.Core.Path.{_≡_, refl, sym, _∙_, ap}
 use mathlib.Core.Bool.{Bool, true, false, cond, _&&_}
 use mathlib.Core.List.{List}
 use Prim.Native.Nat.{ℕ, zero, suc, _+_, _-_, _*_, _/_, _%_, _<_, _≤_}
@@ -151,8 +151,7 @@ module _ (g : Window) (xs : List Float) (s : Settings) (st₀ : List ℕ) (y : �
         upto-at (rowed (storing g xs s) (g .width) y (cutCells g st₀)) g st₀ (i .cells) x y l b (le-refl (cell (g .width) x y)) ∙ sym (cell-cut g st₀ x y l b) in
         record {
           cells =
-              subst (λ (n : ℕ). Stretched (storing g xs s) g st₀ y (x + 1) (set st n r)) (sym p)
-              (stretch-next (storing g xs s) g st₀ y e b (i .cells) l (subst (λ (n : ℕ). r ≡ storing g xs s (getD st n 0) x y) p (stored (cutSamples g xs) (g .width) (g .height) (g .channels) s (getD st k 0) x y q o)));
+              stretch-next (storing g xs s) g st₀ y e b (i .cells) l p (stored (cutSamples g xs) (g .width) (g .height) (g .channels) s (getD st k 0) x y q o);
           made =
               total-more (making g xs s st₀ y) x tests (v % 128) (i .made)
               (tested (cutSamples g xs) (g .width) (g .height) (g .channels) s (getD st k 0) x y q

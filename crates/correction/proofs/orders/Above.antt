@@ -2,7 +2,7 @@
 --     above          the byte
 --     samples-held   the three samples that are read are in the list
 --     order-next     one more cell of a row has its own
-use mathlib.Core.Path.{_≡_, sym, _∙_, ap, subst}
+use mathlib.Core.Path.{_≡_, _∙_, ap}
 use mathlib.Core.List.{List}
 use Prim.Native.Nat.{ℕ, _+_, _*_, _<_}
 use lib.ListN.{length, getD, set}
@@ -28,5 +28,4 @@ module _ (g : Window) (xs : List Float) (s : Sampled g xs) {x y : ℕ} (l : x < 
 
   pub order-next : (st₀ : List ℕ) → Stencilled g st₀ → {st : List ℕ} → Stretched (above g xs) g st₀ y x st → {n : ℕ} → n ≡ orderCode (samplesAt xs (k * ch)) → Stretched (above g xs) g st₀ y (x + 1) (set st k (getD st k 0 + 8 * n))
   order-next st₀ e {st} i {n} q =
-      subst (λ (j : ℕ). Stretched (above g xs) g st₀ y (x + 1) (set st j (getD st j 0 + 8 * n))) (sym p)
-      (stretch-next (above g xs) g st₀ y e b i l (ap (λ (o : ℕ). getD st (cellIn g x y) 0 + 8 * o) (q ∙ ap orderCode (texel-read g x y l b xs s placed))))
+      stretch-next (above g xs) g st₀ y e b i l p (ap (λ (o : ℕ). getD st k 0 + 8 * o) (q ∙ ap orderCode (texel-read g x y l b xs s placed)))

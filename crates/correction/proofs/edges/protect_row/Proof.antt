@@ -15,7 +15,7 @@ use Rattle.inputs.specs.Window.{cellIn, cellShown, cutSamples, cutCells}
 use Rattle.inputs.specs.Inner.{Stencilled}
 use Rattle.inputs.specs.Stencil.{setProtected}
 use Rattle.correction.specs.declared.edges.Radii.{Radii}
-use Rattle.correction.proofs.bitmap.Stretch.{Stretched, stretch-none, stretch-next, stretch-kept, stretch-all, upto-long}
+use Rattle.correction.proofs.bitmap.Stretch.{Stretched, stretch-none, stretch-held, stretch-next, stretch-kept, stretch-all, upto-long}
 use Rattle.correction.proofs.edges.Room.{row-lies}
 use Rattle.correction.proofs.edges.Byte.{edge, byte, row-painted}
 use Rattle.correction.proofs.edges.protect_row.Statement.{statement}
@@ -58,14 +58,15 @@ there : (c : tie.After-cell Inv-loop μ-loop) → c .cell .result < length (c .b
 there c =
     let t = c .before .before .before .before in
     let l = t .before .before in
-    let p = l .before .before .before .before .before .pre in
-    rw (c .cell .ensures, upto-long _ _ _ (l .loop .inv .1)) (p .1 .0 .held _ _ (t .if1 .taken) (p .1 .1 .0))
+    let s = l .before .before .before .before .before in
+    let p = s .pre in
+    let a = s .args in
+    stretch-held (byte (cutSamples (a .b) (now (a .xs))) (a .b) (a .r)) _ _ _ (p .1 .0) (p .1 .1 .0) (l .loop .inv .1) (t .if1 .taken) (c .cell .ensures)
 
 -- a turn that stores v at place k, or does not
 stored : (xs : List Float) (b : Window) (r : Radii) (y : ℕ) {st₀ st : List ℕ} {x : ℕ} {e : Bool} {k v : ℕ} → Stencilled b st₀ → y < b .height → x < b .width → Stretched (byte xs b r) b st₀ y x st → e ≡ edge xs b r x y → e ≡ true → k ≡ cellIn b x y → v ≡ setProtected (getD st k 0) → Stretched (byte xs b r) b st₀ y (x + 1) (set st k v)
 stored xs b r y {st₀} {st} {x} {e} {k} {v} s h l i p t q w =
-    subst (λ (j : ℕ). v ≡ setProtected (getD st j 0) → Stretched (byte xs b r) b st₀ y (x + 1) (set st j v)) (sym q)
-    (λ z. stretch-next (byte xs b r) b st₀ y s h i l (z ∙ ap (λ (d : Bool). cond d (setProtected (getD st (cellIn b x y) 0)) (getD st (cellIn b x y) 0)) (sym t ∙ p))) w
+    stretch-next (byte xs b r) b st₀ y s h i l q (w ∙ ap (λ (d : Bool). cond d (setProtected (getD st k 0)) (getD st k 0)) (sym t ∙ p))
 
 kept : (xs : List Float) (b : Window) (r : Radii) (y : ℕ) {st₀ st : List ℕ} {x : ℕ} {e : Bool} → Stencilled b st₀ → y < b .height → x < b .width → Stretched (byte xs b r) b st₀ y x st → e ≡ edge xs b r x y → e ≡ false → Stretched (byte xs b r) b st₀ y (x + 1) st
 kept xs b r y {st₀} {st} {x} {e} s h l i p t =

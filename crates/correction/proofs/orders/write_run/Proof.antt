@@ -9,7 +9,7 @@ use borrow.Author.Needs.{needs}
 use Rattle.detectors.specs.Orders.{orderCode}
 use Rattle.inputs.specs.Window.{cellIn}
 use Rattle.correction.specs.Inner.{rowOrders}
-use Rattle.correction.proofs.bitmap.Stretch.{Stretched, stretch-none, stretch-all, upto-long, upto-at}
+use Rattle.correction.proofs.bitmap.Stretch.{Stretched, stretch-none, stretch-held, stretch-all, upto-long, upto-at}
 use Rattle.correction.proofs.orders.Above.{above, samples-held, order-next}
 use Rattle.correction.proofs.orders.write_run.Statement.{statement}
 use Rattle.correction.proofs.orders.write_run.Tie as tie
@@ -41,7 +41,7 @@ module _ (c : tie.Then1 Inv-loop μ-loop) where
   module _ {k : ℕ} (e : k ≡ cellIn (start .args .b) (at .loop .x) (start .args .y)) where
     -- it is in the stencil
     there : k < length (at .loop .stencil)
-    there = rw (e, upto-long _ _ _ (at .loop .inv)) (start .pre .1 .0 .0 .held _ _ (c .if1 .taken) (start .pre .1 .1 .0))
+    there = stretch-held (above (start .args .b) (now (start .args .xs))) _ _ _ (start .pre .1 .0 .0) (start .pre .1 .1 .0) (at .loop .inv) (c .if1 .taken) e
 
     -- its byte has no more than three bits
     few : getD (at .loop .stencil) k 0 < 8
