@@ -1,5 +1,4 @@
 -- Where texels and cells lie, and the rows that are gone along.
 pub mod Centres
-pub mod Places
 pub mod Stretch
 pub mod Sizes

@@ -1,9 +1,7 @@
 -- Bitmap and index rules: row 0 at the bottom, channels interleaved. Definitions only.
 use Prim.Native.Nat.{ℕ, _+_, _*_}
-use mathlib.Core.Bool.{Bool, _&&_}
 use mathlib.Core.List.{List, [], _∷_}
 use lib.ListN.{getD}
-use lib.Dec.{leb, ltb}
 use lib.Ieee.{Float, nan}
 
 -- the number of texel x, y in a bitmap of width w, which is its stencil cell
@@ -20,7 +18,3 @@ cellTexel xs ch k = getD xs (k * ch + 0) nan ∷ getD xs (k * ch + 1) nan ∷ ge
 
 unfoldable pub texel : List Float → ℕ → ℕ → ℕ → ℕ → List Float
 texel xs w ch x y = cellTexel xs ch (cell w x y)
-
--- Column nx and row ny, counted from 1, are inside: so 0 and the size plus 1 are the outside's nearest.
-unfoldable pub inBounds : ℕ → ℕ → ℕ → ℕ → Bool
-inBounds w h nx ny = ltb 0 nx && (leb nx w && (ltb 0 ny && leb ny h))

@@ -6,7 +6,7 @@ use lib.Ieee.{Float}
 use Rattle.ranges.specs.declared.config.Settings.{Settings}
 use Rattle.ranges.specs.Config.{radius}
 use Rattle.detectors.specs.Edge.{protectsLower, protectsUpper}
-use Rattle.correction.specs.Bitmap.{inBounds}
+use Rattle.inputs.specs.Bounds.{inBounds}
 
 -- texel x, y as the lower one of a pair with column nx and row ny, counted from 1
 unfoldable pub asLower : (ℕ → ℕ → List Float) → ℕ → ℕ → Float → ℕ → ℕ → ℕ → ℕ → Bool

@@ -6,7 +6,7 @@ use lib.Ieee.{Float}
 use Rattle.ranges.specs.declared.config.Settings.{Settings}
 use Rattle.ground.specs.Lists.{spentIn}
 use Rattle.detectors.specs.Texel.{texelMedian}
-use Rattle.correction.specs.Bitmap.{inBounds}
+use Rattle.inputs.specs.Bounds.{inBounds}
 use Rattle.ranges.specs.Config.{sideSpan, diagonalSpan}
 use Rattle.detectors.specs.Linear.{hasLinearArtifact, linearTests}
 use Rattle.detectors.specs.Diagonal.{hasDiagonalArtifact, diagonalTests}

@@ -17,7 +17,8 @@ use Rattle.inputs.specs.Checks.{Input, input}
 use Rattle.correction.specs.declared.bitmap.Centre.{Centre}
 use Rattle.correction.specs.declared.errors.Scan.{Scan}
 use Rattle.ground.specs.Lists.{tab, total}
-use Rattle.correction.specs.Bitmap.{cell, texel, inBounds}
+use Rattle.correction.specs.Bitmap.{cell, texel}
+use Rattle.inputs.specs.Bounds.{inBounds}
 use Rattle.inputs.specs.Stencil.{stencilByte, isProtected, setCorner, setProtected, setError}
 use Rattle.correction.specs.Errors.{hasArtifact, testsMade}
 use Rattle.correction.specs.Pass.{cornered, protects}

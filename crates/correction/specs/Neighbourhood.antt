@@ -6,7 +6,7 @@ use mathlib.Core.Bool.{true, false}
 use mathlib.Core.List.{List}
 use lib.Ieee.{Float}
 use Rattle.ranges.specs.declared.config.Settings.{Settings}
-use Rattle.correction.specs.Bitmap.{inBounds}
+use Rattle.inputs.specs.Bounds.{inBounds}
 use Rattle.ranges.specs.Config.{sideSpan, diagonalSpan}
 
 -- The same of the nine are inside, and those have the same texels.

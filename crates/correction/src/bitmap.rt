@@ -6,6 +6,7 @@ ghost use lib.ListN.{length};
 ghost use Rattle.correction.specs.Bitmap as Rules;
 ghost use Rattle.correction.specs.Inner.{samplesAt, centreOf};
 ghost use Rattle.inputs.specs.Inner.{Fits, Sampled};
+ghost use Rattle.inputs.specs.Bounds.{inBounds};
 ghost use Rattle.inputs.specs.Window as Windows;
 use detectors::texel;
 use inputs::sizes::Bitmap;
@@ -85,7 +86,7 @@ pub fn centre_at(xs: &[f32], b: Window, x: usize, y: usize) -> Centre
 
 // Column nx and row ny, counted from 1, are inside.
 pub fn in_bounds(b: Window, nx: usize, ny: usize) -> bool
-    ensures { λ r. ⌜ r ≡ Rules.inBounds (b .width) (b .height) nx ny ⌝ }
+    ensures { λ r. ⌜ r ≡ inBounds (b .width) (b .height) nx ny ⌝ }
 {
     0 < nx && (nx <= b.width && (0 < ny && ny <= b.height))
 }
@@ -93,7 +94,7 @@ pub fn in_bounds(b: Window, nx: usize, ny: usize) -> bool
 // The texel at column nx and row ny, counted from 1.
 pub fn neighbour(xs: &[f32], b: Window, nx: usize, ny: usize) -> [f32; 3]
     requires { ⌜ Sampled b (now xs) ⌝ }
-    requires { ⌜ Rules.inBounds (b .width) (b .height) nx ny ≡ true ⌝ }
+    requires { ⌜ inBounds (b .width) (b .height) nx ny ≡ true ⌝ }
     ensures { λ r. ⌜ r ≡ Rules.texel (Windows.cutSamples b (now (xs .entry))) (b .width) (b .channels) (nx - 1) (ny - 1) ⌝ }
 {
     texel(xs, b, nx - 1, ny - 1)

@@ -17,7 +17,7 @@ pub struct Refusal {
 }
 
 // Check 1: channels not 3 or 4.
-fn bad_channels(ch: usize) -> bool
+pub fn bad_channels(ch: usize) -> bool
     ensures { λ r. ⌜ r ≡ Checks.badChannels ch ⌝ }
 {
     if ch == 3 {
@@ -37,7 +37,7 @@ fn bad_side(n: usize) -> bool
 }
 
 // Check 2: either side.
-fn bad_size(b: Bitmap) -> bool
+pub fn bad_size(b: Bitmap) -> bool
     ensures { λ r. ⌜ r ≡ Checks.badSize (b .width) (b .height) ⌝ }
 {
     bad_side(b.width) || bad_side(b.height)
@@ -118,7 +118,7 @@ pub fn settings_place(mode: u8, s: Settings) -> usize
 }
 
 // A sample that is NaN, infinite or of size above the limit.
-fn bad_sample(v: f32) -> bool
+pub fn bad_sample(v: f32) -> bool
     ensures { λ r. ⌜ r ≡ Checks.oversize binary32 v ⌝ }
 {
     if v >= -constants::LIMIT {

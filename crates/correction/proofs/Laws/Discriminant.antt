@@ -16,7 +16,7 @@ use Rattle.numbers.proofs.Laws.Bounds.{le-of-within}
 use Rattle.detectors.specs.Diagonal.{pairRoots}
 use Rattle.detectors.specs.Discriminant.{pairDiscriminant, normalPairRoots}
 use Rattle.detectors.proofs.Laws.Discriminant.{pair-discriminant-normal, pair-discriminant-least, pair-discriminant-most, pair-normal-roots}
-use Rattle.correction.specs.Bitmap.{inBounds}
+use Rattle.inputs.specs.Bounds.{inBounds}
 use Rattle.inputs.specs.Checks.{Input, refusalNumber, accepted}
 use Rattle.correction.specs.Pass.{fourAt}
 use Rattle.inputs.proofs.Laws.Checks.{passed}

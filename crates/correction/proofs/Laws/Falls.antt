@@ -10,7 +10,7 @@ use Rattle.ranges.specs.Config.{sideSpan, diagonalSpan}
 use Rattle.detectors.specs.Texel.{texelMedian}
 use Rattle.ranges.proofs.Laws.Falls.{Spans}
 use Rattle.detectors.proofs.Laws.Falls.{has-linear-artifact-falls, has-diagonal-artifact-falls}
-use Rattle.correction.specs.Bitmap.{inBounds}
+use Rattle.inputs.specs.Bounds.{inBounds}
 use Rattle.correction.specs.Errors.{sideArtifact, someSide, diagonalArtifact, someDiagonal, someArtifact, hasArtifact}
 use Rattle.correction.specs.Stricter.{NoSmaller}
 use Rattle.correction.proofs.Laws.Grows.{InLimits, side-span-grows, diagonal-span-grows}

@@ -8,7 +8,8 @@ use Rattle.numbers.specs.SquareRoot.{rootBy, root, rootOf, sqrtOf}
 use Rattle.numbers.specs.EquationSolver.{isLinear, linearRoots, discriminant, upperRoot, lowerRoot, squareRootsBy, squareRoots, rootsOf}
 use Rattle.ground.specs.Lists.{tab, any, some, count, first, total, spent, spentIn}
 use Rattle.ground.specs.Refuse.{firstFailing}
-use Rattle.correction.specs.Bitmap.{texel, inBounds}
+use Rattle.correction.specs.Bitmap.{texel}
+use Rattle.inputs.specs.Bounds.{inBounds}
 use Rattle.inputs.specs.Stencil.{stencilByte, hasCorner, isProtected, isError, protectedCount, errorCount, cornerCount}
 use Rattle.detectors.specs.Texel.{texelMiddle}
 use Rattle.ranges.specs.Config.{sideSpan, diagonalSpan, radius}

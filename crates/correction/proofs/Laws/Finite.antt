@@ -24,12 +24,13 @@ use Rattle.detectors.specs.Pairs.{inside, mixedMedian}
 use Rattle.detectors.specs.Diagonal.{curveMedian}
 use Rattle.ranges.proofs.Laws.Finite.{Span, AllFinite}
 use Rattle.detectors.proofs.Laws.Finite.{SmallTexel, SmallFour, linear-finite, diagonal-finite, upper-finite, lower-finite}
-use Rattle.correction.specs.Bitmap.{texel, inBounds}
+use Rattle.correction.specs.Bitmap.{texel}
+use Rattle.inputs.specs.Bounds.{inBounds}
 use Rattle.inputs.specs.Checks.{Input, badLength, oversize, refusalNumber, accepted}
 use Rattle.correction.specs.Pass.{texels, fourAt}
 use Rattle.correction.proofs.bitmap.Sizes.{lies}
 use Rattle.inputs.proofs.Laws.Checks.{sizes, Passed, passed, length-bounds, size-bounds}
-use Rattle.correction.proofs.bitmap.Places as places
+use Rattle.inputs.proofs.Laws.Bounds as places
 
 limit-is : (f : Format) → limitOf f ≡ fin false 1 (pos 20)
 unfolding ofBits

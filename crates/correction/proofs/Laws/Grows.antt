@@ -13,7 +13,7 @@ use Rattle.numbers.proofs.Laws.Order.{nought, finite}
 use Rattle.numbers.proofs.Laws.Monotone.{narrow-mono, mul-number, mul-mono, mul-mono-right}
 use Rattle.ranges.specs.declared.config.Settings.{Settings}
 use Rattle.ground.specs.Lists.{any, some}
-use Rattle.correction.specs.Bitmap.{inBounds}
+use Rattle.inputs.specs.Bounds.{inBounds}
 use Rattle.ranges.specs.Config.{edgePriority, edgeOnly, sideSpan, diagonalSpan, radius}
 use Rattle.inputs.specs.Checks.{Input, badLength}
 use Rattle.correction.specs.Corners.{Segment, contourProtects, cornersProtect}

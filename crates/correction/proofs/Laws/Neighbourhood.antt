@@ -19,7 +19,8 @@ use borrow.Fn.Kinds.{Dens}
 use borrow.Author.Tests.{lt-ltb, le-leb}
 use Rattle.ground.proofs.Laws.Bools.{guarded}
 use Rattle.ranges.specs.declared.config.Settings.{Settings}
-use Rattle.correction.specs.Bitmap.{cell, inBounds}
+use Rattle.correction.specs.Bitmap.{cell}
+use Rattle.inputs.specs.Bounds.{inBounds}
 use Rattle.inputs.specs.Stencil.{hasCorner, isProtected, isError}
 use Rattle.ranges.specs.Config.{disabled}
 use Rattle.inputs.specs.Checks.{Input, accepted}
@@ -27,7 +28,7 @@ use Rattle.detectors.specs.Linear.{hasLinearArtifact}
 use Rattle.correction.specs.Errors.{sideArtifact, someSide, diagonalArtifact, someDiagonal, someArtifact, hasArtifact}
 use Rattle.correction.specs.Neighbourhood.{SameAround, SameSpans}
 use Rattle.correction.specs.Pass.{texels, cornered, protects, flags, numberOf, stencilAfter}
-use Rattle.correction.proofs.bitmap.Places.{inside}
+use Rattle.inputs.proofs.Laws.Bounds.{inside}
 use Rattle.correction.proofs.pass.msdf_error_correction.Kinds.{ps}
 use Rattle.correction.proofs.pass.msdf_error_correction.Reads as entry
 use Rattle.correction.proofs.Laws.Answer.{zero-accepts}

@@ -16,7 +16,7 @@ use Rattle.detectors.specs.Linear.{crossing}
 use Rattle.detectors.specs.Diagonal.{pairRoots, hasDiagonalArtifact}
 use Rattle.detectors.specs.RootCount.{pairCount}
 use Rattle.detectors.proofs.Laws.RootCount.{Coefficients, coefficients-finite, pair-roots-true, side-divisor, side-none}
-use Rattle.correction.specs.Bitmap.{inBounds}
+use Rattle.inputs.specs.Bounds.{inBounds}
 use Rattle.correction.specs.Errors.{diagonalArtifact}
 use Rattle.inputs.specs.Checks.{Input, refusalNumber, accepted}
 use Rattle.correction.specs.Pass.{texels, fourAt}

@@ -31,7 +31,7 @@ use Rattle.inputs.specs.Stencil.{errorCount}
 use Rattle.inputs.proofs.Laws.Stencil.{error-under}
 use Rattle.inputs.proofs.Laws.Checks.{sizes, passed}
 use Rattle.correction.specs.declared.pass.Answer.{Answer}
-use Rattle.correction.specs.Bitmap.{inBounds}
+use Rattle.inputs.specs.Bounds.{inBounds}
 use Rattle.correction.specs.Errors.{sideArtifact, someSide, diagonalArtifact, someDiagonal, someArtifact, hasArtifact, sideTests, acrossTests, inOrder, linearMade, diagonalMade, someMade, testsMade}
 use Rattle.correction.specs.Pass.{texels, protects, flags, testsAt, passStencil, passTests, errorsIn, testsIn, errorCells, testCount, Answers, stencilAfter}
 use Rattle.correction.proofs.pass.msdf_error_correction.Kinds.{ps}

@@ -17,10 +17,10 @@ use mir.Val.{Fits}
 use borrow.Author.Tests.{eqb-true, lt-ltb, le-ltb, le-leb, eq-eqb, ne-eqb}
 use Rattle.ground.proofs.Laws.Bools.{both-hold, both-ways, spread}
 use Rattle.inputs.specs.declared.sizes.Window.{Window}
-use Rattle.correction.specs.Bitmap.{inBounds}
+use Rattle.inputs.specs.Bounds.{inBounds}
 use Rattle.correction.specs.Corners.{beside}
 use Rattle.correction.specs.Inner.{atCorner, spot, clip}
-use Rattle.correction.proofs.bitmap.Places.{inside}
+use Rattle.inputs.proofs.Laws.Bounds.{inside}
 use Rattle.inputs.proofs.Laws.Places.{row-lt}
 use Rattle.inputs.proofs.Laws.Stencil.{both-again}
 use Rattle.correction.proofs.corners.Strokes.{Painted, stroke-same, stroke-then}

@@ -25,7 +25,8 @@ use Rattle.detectors.proofs.Laws.Verdict.{guarded-off, guarded-on, as-clear}
 use Rattle.inputs.specs.declared.sizes.Window.{Window}
 use Rattle.inputs.specs.Inner.{Sampled}
 use Rattle.inputs.specs.Window.{cellIn, cutSamples}
-use Rattle.correction.specs.Bitmap.{texel, inBounds}
+use Rattle.correction.specs.Bitmap.{texel}
+use Rattle.inputs.specs.Bounds.{inBounds}
 use Rattle.correction.specs.Errors.{sideArtifact, sideTests, diagonalArtifact, acrossTests}
 use Rattle.correction.specs.Inner.{fourAt, fourOf, orderIn, Ordered}
 use Rattle.correction.proofs.bitmap.Centres.{texel-read}

@@ -16,10 +16,11 @@ use Rattle.detectors.proofs.Laws.Orders.{linear-settled, diagonal-settled}
 use Rattle.inputs.specs.declared.sizes.Window.{Window}
 use Rattle.inputs.specs.Window.{cutSamples}
 use Rattle.inputs.specs.Stencil.{isProtected}
-use Rattle.correction.specs.Bitmap.{texel, inBounds}
+use Rattle.correction.specs.Bitmap.{texel}
+use Rattle.inputs.specs.Bounds.{inBounds}
 use Rattle.correction.specs.Errors.{sideArtifact, someSide, diagonalArtifact, someDiagonal, someArtifact, hasArtifact, sideTests, acrossTests, inOrder, linearMade, diagonalMade, someMade, testsMade}
 use Rattle.correction.specs.Inner.{fourOf, marked, madeFor, orderIn, Ordered, Settled}
-use Rattle.correction.proofs.bitmap.Places.{inside}
+use Rattle.inputs.proofs.Laws.Bounds.{inside}
 
 -- nothing towards four neighbours
 no-four : (a b c d : Bool) → a ≡ false → b ≡ false → c ≡ false → d ≡ false → (a || (b || (c || d))) ≡ false

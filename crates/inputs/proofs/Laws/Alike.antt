@@ -21,6 +21,12 @@ use Rattle.inputs.proofs.stencil.fill.Reads as fill
 use Rattle.inputs.proofs.stencil.count_cells.Kinds as count-cells-kinds
 use Rattle.inputs.proofs.stencil.count_cells.Reads as count-cells
 use Rattle.inputs.proofs.room.clear.Reads as clear
+use Rattle.inputs.proofs.checks.bad_channels.Kinds as bad-channels-kinds
+use Rattle.inputs.proofs.checks.bad_channels.Reads as bad-channels
+use Rattle.inputs.proofs.checks.bad_size.Kinds as bad-size-kinds
+use Rattle.inputs.proofs.checks.bad_size.Reads as bad-size
+use Rattle.inputs.proofs.checks.bad_sample.Kinds as bad-sample-kinds
+use Rattle.inputs.proofs.checks.bad_sample.Reads as bad-sample
 use Rattle.inputs.proofs.checks.size_refusal.Kinds as size-refusal-kinds
 use Rattle.inputs.proofs.checks.size_refusal.Reads as size-refusal
 use Rattle.inputs.proofs.checks.bad_room.Kinds as bad-room-kinds
@@ -66,6 +72,16 @@ cleared-alike κs a z z' e e' = alike
 -- The counts.
 pub count-cells-alike : Alike 1 count-cells-kinds.ps count-cells-kinds.r count-cells.Post
 count-cells-alike κs a r s e f = alike
+
+-- Whether check 1 fails, and check 2, and whether check 6 fails of one sample.
+pub bad-channels-alike : Alike 0 bad-channels-kinds.ps bad-channels-kinds.r bad-channels.Post
+bad-channels-alike κs a r s e f = alike
+
+pub bad-size-alike : Alike 0 bad-size-kinds.ps bad-size-kinds.r bad-size.Post
+bad-size-alike κs a r s e f = alike
+
+pub bad-sample-alike : Alike 0 bad-sample-kinds.ps bad-sample-kinds.r bad-sample.Post
+bad-sample-alike κs a r s e f = alike
 
 -- The first of checks 1 to 4 that fails.
 pub size-refusal-alike : Alike 0 size-refusal-kinds.ps size-refusal-kinds.r size-refusal.Post

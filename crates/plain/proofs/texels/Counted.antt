@@ -17,7 +17,7 @@ use lib.Ieee.{Float}
 use borrow.Author.Tests.{ltb-true, lt-ltb, le-ltb, le-leb, lt-leb, ne-eqb}
 use Rattle.ground.proofs.Laws.Bools.{both-hold, guarded}
 use Rattle.detectors.specs.Texel.{texelMedian}
-use Rattle.correction.specs.Bitmap.{inBounds}
+use Rattle.inputs.specs.Bounds.{inBounds}
 use Rattle.correction.specs.Errors.{sideArtifact, someSide, diagonalArtifact, someDiagonal}
 use Rattle.correction.specs.Edges.{asLower, asUpper, someLower, someUpper}
 use Rattle.plain.specs.Inner.{previous, isTexel, towardsSide, towardsAcross, lowerWith, upperWith}

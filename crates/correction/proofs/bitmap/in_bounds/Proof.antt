@@ -1,7 +1,7 @@
 -- `correction::bitmap::in_bounds` meets its contract. Assumes nothing.
 use mathlib.Core.Path.{refl}
 use borrow.Author.Tests.{lt-ltb, le-ltb, le-leb, lt-leb}
-use Rattle.correction.specs.Bitmap.{inBounds}
+use Rattle.inputs.specs.Bounds.{inBounds}
 use Rattle.ground.proofs.Laws.Bools.{and-taken, and-left}
 use Rattle.correction.proofs.bitmap.in_bounds.Statement.{statement}
 use Rattle.correction.proofs.bitmap.in_bounds.Tie as tie

@@ -1,5 +1,5 @@
 -- `correction::bitmap::neighbour` meets its contract. Assumes nothing.
-use Rattle.correction.proofs.bitmap.Places.{Inside, inside}
+use Rattle.inputs.proofs.Laws.Bounds.{Inside, inside}
 use Rattle.correction.proofs.bitmap.neighbour.Statement.{statement}
 use Rattle.correction.proofs.bitmap.neighbour.Tie as tie
 

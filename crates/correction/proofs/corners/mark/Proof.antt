@@ -9,9 +9,9 @@ use borrow.Author.Needs.{needs}
 use Rattle.inputs.specs.declared.sizes.Window.{Window}
 use Rattle.inputs.specs.Window.{cellIn}
 use Rattle.inputs.specs.Inner.{Stencilled}
-use Rattle.correction.specs.Bitmap.{inBounds}
+use Rattle.inputs.specs.Bounds.{inBounds}
 use Rattle.correction.specs.Inner.{atCorner, spot}
-use Rattle.correction.proofs.bitmap.Places.{Inside, inside}
+use Rattle.inputs.proofs.Laws.Bounds.{Inside, inside}
 use Rattle.correction.proofs.corners.Strokes.{Painted, stroke-none, stroke-set}
 use Rattle.correction.proofs.corners.mark.Statement.{statement}
 use Rattle.correction.proofs.corners.mark.Tie as tie

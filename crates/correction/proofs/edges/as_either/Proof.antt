@@ -4,7 +4,7 @@ use native.Mathlib.Omega.{arith}
 use borrow.Author.Needs.{needs}
 use Rattle.ground.proofs.Laws.Bools.{and-taken, and-left}
 use Rattle.correction.specs.Inner.{asEither}
-use Rattle.correction.proofs.bitmap.Places.{Inside, inside}
+use Rattle.inputs.proofs.Laws.Bounds.{Inside, inside}
 use Rattle.correction.proofs.edges.Far.{no-pair}
 use Rattle.correction.proofs.edges.Room.{rows-near}
 use Rattle.correction.proofs.edges.as_either.Statement.{statement}

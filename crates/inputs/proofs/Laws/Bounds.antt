@@ -5,7 +5,7 @@ use Prim.Native.Nat.{ℕ, _-_, _<_, _≤_}
 use native.Mathlib.Omega.{arith}
 use lib.Dec.{ltb, leb}
 use borrow.Author.Tests.{ltb-true, leb-true}
-use Rattle.correction.specs.Bitmap.{inBounds}
+use Rattle.inputs.specs.Bounds.{inBounds}
 
 -- column nx and row ny, counted from 1, are inside
 pub record Inside (w h nx ny : ℕ) : Type 0 where
