@@ -11,6 +11,7 @@ pub mod Channel
 pub mod Floor
 pub mod SquareRoot
 pub mod Nearest
+pub mod Units
 pub mod Constants
 pub mod EquationSolver
 pub mod RootCount

@@ -1,0 +1,6 @@
+-- What the crates above may know of the correction of signs.
+pub mod Median
+pub mod Flip
+pub mod Turned
+pub mod Twice
+pub mod Alike

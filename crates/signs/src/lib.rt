@@ -1,0 +1,3 @@
+// The correction of signs: `raster/rasterization.rs` with the filled texels lent, so that nothing is scanned.
+pub mod checks;
+pub mod rasterization;
