@@ -1,5 +1,6 @@
 //! The oracle: the original's pass, compiled from its own sources as they stand, and driven with three lengths and points in pixel units.
 //! Its detectors are driven once more with a classifier that counts range tests and answers as the original's does.
+//! `signs` has the original's correction of signs, driven with a filled map.
 //!
 //! `target/oracle/original` points at the original's source folder and `target/oracle/correction.rs` is its correction/mod.rs with `driver.rs`
 //! after it (see `build`); no text of the original is changed. What the supplied sources lack stands here: an inline vector, shapes, typed points,
@@ -27,6 +28,7 @@ pub mod original_range;
 pub mod original_scalar;
 #[path = "../target/oracle/original/math/vector2.rs"]
 pub mod original_vector2;
+pub mod signs;
 
 /// A vector of at most `N` elements held in place.
 #[derive(Debug, Clone)]
@@ -89,16 +91,36 @@ pub mod geometry {
     pub use crate::original_edge_color::EdgeColor;
     pub use crate::original_equation_solver as equation_solver;
     use crate::math::Vector2;
+    use std::rc::Rc;
 
-    /// A segment that is asked for its start alone.
-    pub struct Segment {
-        pub start: Vector2,
+    /// Where rows are crossed, each by its column and its direction, and the first crossing of each row that belongs to one segment.
+    pub struct Crossings {
+        pub rows: Rc<Vec<Vec<(f64, i32)>>>,
+        pub from: usize,
+    }
+
+    /// A segment that the pass asks for its start alone, or that the correction of signs asks for its crossings of a row's middle, of which it has at most three.
+    pub enum Segment {
+        Start(Vector2),
+        Crossings(Crossings),
     }
 
     impl Segment {
         pub fn point(&self, t: f64) -> Vector2 {
             assert!(t == 0.0);
-            self.start
+            match self {
+                Segment::Start(start) => *start,
+                Segment::Crossings(_) => panic!("the pass has starts alone"),
+            }
+        }
+
+        pub fn scanline_intersections(&self, y: f64, out: &mut [(f64, i32); 3]) -> usize {
+            let Segment::Crossings(crossings) = self else { panic!("the correction of signs has crossings alone") };
+            let row = &crossings.rows[y as usize];
+            assert!(y == (y as usize) as f64 + 0.5);
+            let own = &row[row.len().min(crossings.from)..row.len().min(crossings.from + 3)];
+            out[..own.len()].copy_from_slice(own);
+            own.len()
         }
     }
 
@@ -114,6 +136,8 @@ pub mod geometry {
 
 pub mod generator {
     pub use crate::original_config as config;
+    /// The correction of signs takes the original's own.
+    pub use crate::original_projection::Projection;
 
     /// The transformation of the scope document: points are in pixel units already, and three given lengths stand for the unprojected vectors.
     pub mod projection {
@@ -219,7 +243,7 @@ impl Task {
         let mut contours = Vec::new();
         let mut start = 0;
         for &end in ends {
-            let segments = (start..end).map(|s| Segment { start: Vector2::new(coords[2 * s], coords[2 * s + 1]) }).collect();
+            let segments = (start..end).map(|s| Segment::Start(Vector2::new(coords[2 * s], coords[2 * s + 1]))).collect();
             let colors = (start..end).map(|s| EdgeColor::from_bits(colours[s])).collect();
             contours.push(Contour { segments, colors });
             start = end;
