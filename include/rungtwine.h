@@ -1,5 +1,5 @@
-/* The error-correction pass of a multi-channel distance field by two engines, the pass on the cells of a sheet, a view of texels and the channel of a texel's
- * median, proved against their definitions. */
+/* The error-correction pass of a multi-channel distance field by two engines, the pass on the cells of a sheet, the correction of signs before it, a view of
+ * texels and the channel of a texel's median, proved against their definitions. */
 #ifndef RUNGTWINE_H
 #define RUNGTWINE_H
 
@@ -197,6 +197,43 @@ static inline uint8_t rungtwine_cells_check(
     return rungtwine_sheet_check(width, height, channels, samples, samples_len, stencil, stencil_len, room, room_len, (const size_t *)cells, 10 * count, modes,
                                  count, (const double *)settings, 4 * count, colours, colours_len, coords, coords_len, ends, ends_len, cell, place);
 }
+
+/*
+ * Turns what is inside out in `samples` to the other side, in place, as a step before the error correction: width x height texels, row 0 at the bottom,
+ * `channels` (1, 3 or 4) interleaved. `zero` is the value on the outline. `filled` has a byte a texel: 1 where the texel is filled, so that its values belong
+ * above `zero`, and 0 where it is not. The old contents of `matches`, a signed byte a texel, do not matter.
+ *
+ * A value v is flipped to (zero + zero) - v, each operation in float. With one channel a value is flipped where v > zero is not what `filled` says. With 3 or 4
+ * the first three channels of a texel go together, by their median m:
+ *
+ *   m == zero                        match 0; flipped where the matches left, right, below and above, none beyond the border, have a sum below 0
+ *   m > zero not as `filled` says    match -1; flipped
+ *   otherwise                        match 1; kept
+ *
+ * The fourth channel is flipped where its own value v > zero is not what `filled` says, whatever the three do. A flipped value may be larger in size than
+ * 1048576: the error correction then refuses it (6).
+ *
+ * Answers 0 and writes the samples, place 0, and `matches`: the match of each texel as above, as it was before any sum, and zeros with one channel. Otherwise
+ * it answers the number of the first check that fails, writes its place, and leaves samples and matches as they were. In this order:
+ *
+ *   1  channels not 1, 3 or 4
+ *   2  width or height outside 1 to 4096
+ *   3  samples_len not width * height * channels
+ *   6  a sample NaN, infinite or of size above 1048576 (its index)
+ *   10 zero NaN or of size above 1048576
+ *   11 filled_len not width * height, or a byte of it above 1
+ *   12 matches_len not width * height
+ *
+ * All but 6 have place 0. There is no further demand on the numbers. Each pointer has to be good for the length beside it (`place` for one), not null and
+ * aligned for its type, also where the length is 0; what is written must overlap nothing else.
+ */
+uint8_t rungtwine_sign_correction(
+    size_t width, size_t height, size_t channels,
+    float *samples, size_t samples_len,
+    float zero,
+    const uint8_t *filled, size_t filled_len,
+    int8_t *matches, size_t matches_len,
+    size_t *place);
 
 /* A part of a bitmap: `length` samples from `samples` on. */
 typedef struct {

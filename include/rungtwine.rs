@@ -122,6 +122,20 @@ pub mod raw {
             place: *mut usize,
         ) -> u8;
 
+        pub fn rungtwine_sign_correction(
+            width: usize,
+            height: usize,
+            channels: usize,
+            samples: *mut f32,
+            samples_len: usize,
+            zero: f32,
+            filled: *const u8,
+            filled_len: usize,
+            matches: *mut i8,
+            matches_len: usize,
+            place: *mut usize,
+        ) -> u8;
+
         pub fn rungtwine_texel_view(
             width: usize,
             height: usize,
@@ -428,6 +442,36 @@ pub fn sheet_check(
         )
     };
     if number == 0 { Ok(()) } else { Err(SheetRefusal { number, cell, place }) }
+}
+
+/// Turns what is inside out in `samples` to the other side of `zero`, in place, before the error correction: 1, 3 or 4 channels. `filled` has a 1 for each texel
+/// that is filled and a 0 for each that is not. `matches` is left with -1 for each texel whose median lies on the wrong side, 0 where it lies on `zero` and 1
+/// otherwise, zeros with one channel; what it held does not matter. A flipped value may be larger in size than the error correction takes.
+pub fn sign_correction(
+    (width, height, channels): (usize, usize, usize),
+    samples: &mut [f32],
+    zero: f32,
+    filled: &[u8],
+    matches: &mut [i8],
+) -> Result<(), Refusal> {
+    let mut place = 0;
+    // Every pointer comes from a slice with its own length or from a local, the mutable ones overlap nothing, and the function demands nothing else.
+    let number = unsafe {
+        raw::rungtwine_sign_correction(
+            width,
+            height,
+            channels,
+            samples.as_mut_ptr(),
+            samples.len(),
+            zero,
+            filled.as_ptr(),
+            filled.len(),
+            matches.as_mut_ptr(),
+            matches.len(),
+            &mut place,
+        )
+    };
+    if number == 0 { Ok(()) } else { Err(Refusal { number, place }) }
 }
 
 /// All channels of texel x, y, lent from `corrected` where its cell of `stencil` has the bit ERROR, whatever else is set, and from `original` otherwise.
