@@ -43,11 +43,16 @@ impl Task {
         let segments = (0..most).step_by(3).map(|from| Segment::Crossings(Crossings { rows: rows.clone(), from })).collect();
         let task = Task { shape: Shape { contours: [Contour { segments, colors: Vec::new() }].into() }, projection: Projection::default(), fill };
         // The original's own rasterizing of the shape has to be the map.
-        let mut coverage = Bitmap::<f32, 1>::new(width, height);
-        rasterization::rasterize(&mut coverage, &task.shape, &task.projection, fill);
+        let mut coverage = Bitmap::new(width, height);
+        rasterize(&mut coverage, &task);
         assert!(coverage.data().iter().copied().eq(filled.iter().map(|&byte| f32::from(byte))), "the shape does not fill what the map says");
         task
     }
+}
+
+/// The original's rasterizing: 1 for each texel that is filled, 0 for the others.
+pub fn rasterize(coverage: &mut Bitmap<f32, 1>, task: &Task) {
+    rasterization::rasterize(coverage, &task.shape, &task.projection, task.fill);
 }
 
 /// The original's entry for one channel.

@@ -87,6 +87,8 @@ pub struct Totals {
     original: u64,
     again: u64,
     zero_signs: u64,
+    original_differs: u64,
+    library_differs: u64,
 }
 
 impl Totals {
@@ -98,6 +100,7 @@ impl Totals {
         println!("refused {}", list(self.refused.iter().map(|(number, count)| format!("{number}: {count}")).collect()));
         println!("compared with the original {}, corrected once more {}", self.original, self.again);
         println!("cases that differ in nothing but a zero's sign: {}", self.zero_signs);
+        println!("cases that differ: original {}, library {}", self.original_differs, self.library_differs);
     }
 }
 
@@ -142,6 +145,13 @@ fn again(case: &Case, left: &Outcome, seen: &mut Seen, totals: &mut Totals) -> R
     Ok(())
 }
 
+/// The library against the judge, and what it leaves corrected once more.
+fn against_library(case: &Case, judged: &Outcome, seen: &mut Seen, totals: &mut Totals) -> Result<(), String> {
+    let left = by_library(case).map_err(|what| format!("library: {what}"))?;
+    against("library", &left, judged, totals)?;
+    if left.number == 0 { again(case, &left, seen, totals) } else { Ok(()) }
+}
+
 /// Each side that is there against the judge; what differs.
 pub fn compare(case: &Case, seen: &mut Seen, totals: &mut Totals) -> Result<(), String> {
     let judged = judge(case, seen);
@@ -155,6 +165,7 @@ pub fn compare(case: &Case, seen: &mut Seen, totals: &mut Totals) -> Result<(), 
         {
             totals.original += 1;
             differences.extend(against("original", &by_original(case), &judged, totals).err());
+            totals.original_differs += differences.len() as u64;
         }
     } else {
         *totals.refused.entry(judged.number).or_default() += 1;
@@ -162,10 +173,9 @@ pub fn compare(case: &Case, seen: &mut Seen, totals: &mut Totals) -> Result<(), 
             differences.push("the judge wrote in a refusal".into());
         }
     }
-    match by_library(case).and_then(|left| against("library", &left, &judged, totals).map(|()| left)) {
-        Ok(left) if left.number == 0 => differences.extend(again(case, &left, seen, totals).err()),
-        Ok(_) => {}
-        Err(what) => differences.push(what),
+    if let Err(what) = against_library(case, &judged, seen, totals) {
+        totals.library_differs += 1;
+        differences.push(what);
     }
     if differences.is_empty() { Ok(()) } else { Err(differences.join("; ")) }
 }
