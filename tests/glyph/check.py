@@ -1,6 +1,4 @@
 """check.py COUNT SEED [JUDGE]: what tests/glyph/run promises."""
-import importlib.machinery
-import importlib.util
 import math
 import os
 import re
@@ -13,18 +11,11 @@ import zlib
 sys.dont_write_bytecode = True
 ROOT = os.path.dirname(os.path.dirname(os.path.dirname(os.path.abspath(__file__))))
 TOOL = os.path.join(ROOT, "tools", "glyph")
-sys.path.insert(0, os.path.join(ROOT, "tests", "reading"))
+sys.path[:0] = [os.path.join(ROOT, "tests", "reading"), os.path.join(ROOT, "tools")]
 import cases
-
-
-def loaded():
-    loader = importlib.machinery.SourceFileLoader("glyph", TOOL)
-    module = importlib.util.module_from_spec(importlib.util.spec_from_loader("glyph", loader))
-    loader.exec_module(module)
-    return module
-
-
-glyph = loaded()
+import glyph_forms as glyph
+import glyph_pictures as pictures
+from glyph_answer import Answer
 
 
 def need(true, what):
@@ -81,11 +72,11 @@ def check_answer(data, says):
     channel that has it. Gives the channels that are named."""
     read = glyph.from_fields("in", data)
     channels = read.size[2]
-    answer = glyph.Answer("answer", says, read)
+    answer = Answer("answer", says, read)
     named = {(int(x), int(y)): int(channel) for x, y, channel in re.findall(r"^(\d+) (\d+) [0-9A-F]{8} ch (\d+)$", says, re.M)}
     need(answer.carriers == named, f"the channels of {data[:80].hex()}")
     need(says.split("\n")[1].endswith(f" tests {answer.tests}"), f"the range tests of {data[:80].hex()}")
-    plainly = glyph.Answer("answer", re.sub(r" tests \d+", "", says, count=1), read)
+    plainly = Answer("answer", re.sub(r" tests \d+", "", says, count=1), read)
     need(plainly.tests is None and (plainly.rows, plainly.medians, plainly.carriers) == (answer.rows, answer.medians, answer.carriers), f"the plain engine's answer to {data[:80].hex()}")
     for y, (old, new) in enumerate(zip(read.rows, answer.corrected())):
         for x in range(read.size[0]):
@@ -115,7 +106,7 @@ def corner_cells(read):
 def check_corners(data, says):
     """The answer marks those texels as a corner's and no others, and counts them. Gives the marks that it has."""
     read = glyph.from_fields("in", data)
-    answer = glyph.Answer("answer", says, read)
+    answer = Answer("answer", says, read)
     found = {(x, y) for y, row in enumerate(answer.rows) for x, letter in enumerate(row) if letter in "CD"}
     need(found == corner_cells(read) and answer.corners == len(found), f"the corners of {data[:80].hex()}")
     return set("".join(answer.rows))
@@ -164,7 +155,7 @@ def whole(picture, width, height, what):
 def answered(width, height, value, mark, channel):
     """A field of equal texels, and an answer that marks each of them and names this channel."""
     read = glyph.from_fields("in", cases.bitmap(width, height, 3, cases.PLAIN, [], value * (width * height)))
-    answer = glyph.Answer("in", f"size {width} {height} 3\nprotected 0 error 0 corner 0 tests {84 * width * height}\n" + ("." * width + "\n") * height, read)
+    answer = Answer("in", f"size {width} {height} 3\nprotected 0 error 0 corner 0 tests {84 * width * height}\n" + ("." * width + "\n") * height, read)
     answer.rows, answer.errors, answer.protected, answer.corners = [mark * width] * height, 4096, 4096, 4096 if mark in "CD" else 0
     answer.carriers = {(x, y): channel for y in range(height) for x in range(width)} if mark in "EBD" else {}
     return read, answer
@@ -178,15 +169,15 @@ def check_marks():
         for value in values:
             seen = set()
             for mark, channel in (*((mark, 0) for mark in ".PC"), *((mark, channel) for mark in "EBD" for channel in range(3))):
-                picture = glyph.Picture(step + 2, step + 2)
-                glyph.draw_field(picture, 1, 1, step, *answered(1, 1, value, mark, channel))
+                picture = pictures.Picture(step + 2, step + 2)
+                pictures.draw_field(picture, 1, 1, step, *answered(1, 1, value, mark, channel))
                 seen.add(whole(picture, step + 2, step + 2, f"a mark of {step} pixels"))
                 need(mark in ".PC" or picture.data[0] == picture.data[-1] == b"\xff" * (3 * step + 6), f"a mark of {step} pixels runs over the line around it")
             need(len(seen) == 12, f"marks of {step} pixels on {value} look alike")
     check_legend()
     for width, height in ((1, 1), (2, 1), (1, 2), (1, 300), (300, 1)):
         for mark in "BD":
-            pixels(glyph.draw(*answered(width, height, [0.5, 0.5, 0.5], mark, 1), 4))
+            pixels(pictures.draw(*answered(width, height, [0.5, 0.5, 0.5], mark, 1), 4))
 
 
 def check_legend():
@@ -195,9 +186,9 @@ def check_legend():
     for mark, channel, mode, less in (("B", 0, 2, 0), ("B", 1, 2, 0), ("B", 2, 2, 0), ("D", 0, 2, 0), ("B", 0, 3, 0), ("B", 0, 2, 1), ("B", 0, 2, None)):
         answer = answered(64, 64, [0.5, 0.5, 0.5], mark, channel)[1]
         answer.glyph.mode, answer.tests = mode, None if less is None else answer.tests - less
-        picture = glyph.Picture(*glyph.LEGEND)
-        glyph.draw_legend(picture, 0, 0, answer)
-        seen.add(whole(picture, *glyph.LEGEND, "the legend"))
+        picture = pictures.Picture(*pictures.LEGEND)
+        pictures.draw_legend(picture, 0, 0, answer)
+        seen.add(whole(picture, *pictures.LEGEND, "the legend"))
     need(len(seen) == 7, "legends of different answers look alike")
 
 

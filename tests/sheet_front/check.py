@@ -1,6 +1,4 @@
 """check.py COUNT SEED [JUDGE]: what tests/sheet_front/run promises."""
-import importlib.machinery
-import importlib.util
 import os
 import random
 import re
@@ -12,21 +10,13 @@ import tempfile
 sys.dont_write_bytecode = True
 ROOT = os.path.dirname(os.path.dirname(os.path.dirname(os.path.abspath(__file__))))
 FRONT = os.path.join(ROOT, "rungtwine")
-sys.path[:0] = [os.path.join(ROOT, "tests", "reading"), os.path.join(ROOT, "examples")]
+sys.path[:0] = [os.path.join(ROOT, "tests", "reading"), os.path.join(ROOT, "examples"), os.path.join(ROOT, "tools")]
 import cases
+import glyph_forms as glyph
 import pair
+from glyph_answer import Answer
 
 BITS = {"protected": "PBCD", "error": "EBD", "corner": "CD"}
-
-
-def loaded():
-    loader = importlib.machinery.SourceFileLoader("glyph", os.path.join(ROOT, "tools", "glyph"))
-    module = importlib.util.module_from_spec(importlib.util.spec_from_loader("glyph", loader))
-    loader.exec_module(module)
-    return module
-
-
-glyph = loaded()
 
 
 def need(true, what):
@@ -115,7 +105,7 @@ def expected(sheet, told):
     for band in bands(sheet.cells):
         for c in band:
             text, one = told[c]
-            answer, cell = glyph.Answer("judge", text, one), sheet.cells[c]
+            answer, cell = Answer("judge", text, one), sheet.cells[c]
             counts = {name: sum(row.count(letter) for row in answer.rows for letter in letters) for name, letters in BITS.items()}
             x, y, w, h = cell.area
             lines.append(f"{len(lines) + 1} of {len(sheet.cells)}: cell {c} at {x} {y}, {w} x {h}: " + " ".join(f"{k} {v}" for k, v in counts.items())
