@@ -1,5 +1,7 @@
 """The forms that a glyph has for tools/glyph: a readable description, tagged fields, a PFM; and files."""
+import os
 import re
+import shutil
 import struct
 import sys
 
@@ -266,6 +268,11 @@ def from_fields(name, data):
     return glyph
 
 
+def place_of(name, data, at):
+    """A byte's place in a file that begins with lines."""
+    return f"{name}:{data.count(10, 0, at) + 1}:{at - data.rfind(10, 0, at)}"
+
+
 # ---- PFM
 
 def from_pfm(name, data, glyph):
@@ -273,8 +280,7 @@ def from_pfm(name, data, glyph):
     if not found or found.group(1) not in (b"PF", b"Pf"):
         raise Bad(f"{name}:1:1: this is no PFM: it begins with PF, the width, the height and the byte order")
     def place(i):
-        before = data[:found.start(i)]
-        return f"{name}:{before.count(10) + 1}:{found.start(i) - before.rfind(10)}"
+        return place_of(name, data, found.start(i))
     if found.group(1) == b"Pf":
         raise Bad(f"{place(1)}: this PFM has one channel (Pf), and three (PF) are needed")
     for i, what in ((2, "width"), (3, "height")):
@@ -324,6 +330,26 @@ def load(name, text=False):
         raise Bad(f"{name}:{line}:{column}: this is no text") from None
 
 
+def write_whole(name, data):
+    """Writes beside the file's place and renames, so that there is a whole file or the one before. A link stays one, and what is no file, such as a pipe, is written to."""
+    name = os.path.realpath(name)
+    if os.path.exists(name) and not os.path.isfile(name):
+        with open(name, "wb") as f:
+            f.write(data)
+        return
+    part = f"{name}.{os.getpid()}.part"
+    f = open(part, "xb")
+    try:
+        with f:
+            f.write(data)
+        if os.path.exists(name):
+            shutil.copymode(name, part)
+        os.replace(part, name)
+    finally:
+        if os.path.exists(part):
+            os.remove(part)
+
+
 def save(name, data):
     if isinstance(data, str):
         data = data.encode()
@@ -331,7 +357,6 @@ def save(name, data):
         if name == "-":
             sys.stdout.buffer.write(data)
         else:
-            with open(name, "wb") as f:
-                f.write(data)
+            write_whole(name, data)
     except OSError as e:
         raise Bad(f"{name}: cannot be written: {e.strerror}") from None
