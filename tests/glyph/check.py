@@ -6,7 +6,6 @@ import struct
 import subprocess
 import sys
 import tempfile
-import zlib
 
 sys.dont_write_bytecode = True
 ROOT = os.path.dirname(os.path.dirname(os.path.dirname(os.path.abspath(__file__))))
@@ -16,6 +15,7 @@ import cases
 import glyph_forms as glyph
 import glyph_pictures as pictures
 from glyph_answer import Answer
+from pngs import pixels
 
 
 def need(true, what):
@@ -110,20 +110,6 @@ def check_corners(data, says):
     found = {(x, y) for y, row in enumerate(answer.rows) for x, letter in enumerate(row) if letter in "CD"}
     need(found == corner_cells(read) and answer.corners == len(found), f"the corners of {data[:80].hex()}")
     return set("".join(answer.rows))
-
-
-def pixels(png):
-    """Width, height and the bytes below the compression, whose layout may differ from one zlib to the next."""
-    width, height = struct.unpack_from(">II", png, 16)
-    packed, at = b"", 8
-    while at < len(png):
-        n, kind = struct.unpack_from(">I4s", png, at)
-        packed += png[at + 8:at + 8 + n] if kind == b"IDAT" else b""
-        need(zlib.crc32(png[at + 4:at + 8 + n]) == struct.unpack_from(">I", png, at + 8 + n)[0], "a PNG chunk's sum is wrong")
-        at += 12 + n
-    data = zlib.decompress(packed)
-    need(len(data) == height * (3 * width + 1), "the PNG has not as many bytes as its size says")
-    return width, height, data
 
 
 def check_example(judge):
