@@ -266,34 +266,6 @@ void rungtwine_texel_view(
  */
 size_t rungtwine_texel_channel(float red, float green, float blue);
 
-/*
- * Turns values over that lie on the wrong side of the outline, in place, before an error correction: v becomes (zero + zero) - v, in float. `channels` is 1, 3
- * or 4; `zero` is the value on the outline; `filled` has a byte a texel, 1 inside the glyph and 0 outside, row 0 at the bottom, and nothing is drawn here.
- * A value is amiss where (v > zero) is not what the map says of its texel. An only channel and a fourth are turned where they are amiss. The first three
- * channels are turned together where their median is amiss; where it equals `zero`, where the sum of the matches left, right, below and above is negative.
- * What is turned may be larger than 1048576, which the correction after it refuses with 6.
- *
- * Answers 0 and writes the samples, place 0, and to `matches`, a signed byte a texel, -1 where the median is amiss, 0 where it equals `zero` and 1 elsewhere,
- * or zeros for one channel. Otherwise it answers the number of the first check that fails, writes its place, and leaves samples and matches as they were:
- *
- *   1  channels not 1, 3 or 4
- *   2  width or height outside 1 to 4096
- *   3  samples_len not width * height * channels
- *   6  a sample NaN, infinite or of size above 1048576 (its index)
- *   10 zero NaN or of size above 1048576
- *   11 filled_len not width * height, or a byte of it above 1
- *   12 matches_len not width * height
- *
- * There is no further demand on the numbers, and pointers are as for rungtwine_error_correction.
- */
-uint8_t rungtwine_sign_correction(
-    size_t width, size_t height, size_t channels,
-    float *samples, size_t samples_len,
-    float zero,
-    const uint8_t *filled, size_t filled_len,
-    int8_t *matches, size_t matches_len,
-    size_t *place);
-
 #ifdef __cplusplus
 }
 #endif

@@ -1,5 +1,5 @@
-// The pass by each of its two engines, on a bitmap and on the cells of a sheet, the checks of a sheet, the texel view and the channel of a texel's median for C and
-// Rust to call.
+// The pass by each of its two engines, on a bitmap and on the cells of a sheet, the checks of a sheet, the correction of signs, the texel view and the channel of a
+// texel's median for C and Rust to call.
 ghost use mathlib.Core.Path.{_≡_};
 ghost use mathlib.Core.List.{[], _∷_};
 ghost use denote.Ref.{ptr};
@@ -9,6 +9,9 @@ ghost use Rattle.correction.specs.Pass as Pass;
 ghost use Rattle.correction.specs.Sheet as Sheet;
 ghost use Rattle.correction.specs.Sheet.{sheet};
 ghost use Rattle.correction.specs.View as View;
+ghost use Rattle.signs.specs.Checks as Marks;
+ghost use Rattle.signs.specs.Checks.{input as field};
+ghost use Rattle.signs.specs.Signs as Signs;
 ghost use Rattle.correction_c.specs.Call as Call;
 ghost use Rattle.correction_c.specs.Call.{called};
 use correction::pass;
@@ -18,6 +21,7 @@ use correction::view;
 use detectors::texel;
 use inputs::sizes::Bitmap;
 use ranges::config::Settings;
+use signs::rasterization;
 
 // Answers the number of the first check that fails, 0 where all pass, and writes its place, the three counts and the number of range tests.
 #[no_mangle]
@@ -266,6 +270,36 @@ pub extern "C" fn rungtwine_sheet_check(
         ends,
     );
     *cell = f.cell;
+    *place = f.place;
+    f.number
+}
+
+// The correction of signs, in place. Answers the number of the first check that fails, 0 where all pass, and writes its place.
+#[no_mangle]
+pub extern "C" fn rungtwine_sign_correction(
+    width: usize,
+    height: usize,
+    channels: usize,
+    samples: &mut [f32],
+    zero: f32,
+    filled: &[u8],
+    matches: &mut [i8],
+    place: &mut usize,
+) -> u8
+    ensures numbers { λ r. ⌜ r ≡ Marks.refusalNumber (field width height channels (now (samples .entry)) zero (now (filled .entry)) (now (matches .entry))) ⌝ }
+    ensures places { λ _. ⌜ now (place .exit) ≡ Marks.refusalPlace (field width height channels (now (samples .entry)) zero (now (filled .entry)) (now (matches .entry))) ⌝ }
+    ensures writes { λ _. ⌜ now (samples .exit) ≡ Signs.samplesAfter (field width height channels (now (samples .entry)) zero (now (filled .entry)) (now (matches .entry))) ⌝ }
+    ensures leaves { λ _. ⌜ now (matches .exit) ≡ Signs.matchesAfter (field width height channels (now (samples .entry)) zero (now (filled .entry)) (now (matches .entry))) ⌝ }
+{
+    let f = rasterization::distance_sign_correction(
+        width,
+        height,
+        channels,
+        samples,
+        zero,
+        filled,
+        matches,
+    );
     *place = f.place;
     f.number
 }

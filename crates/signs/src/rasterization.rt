@@ -91,6 +91,19 @@ fn write_matches(matches: &mut [i8], xs: &[f32], ch: usize, zero: f32, filled: &
     }
 }
 
+// The same of three or four channels: a number that is known beforehand lets the loop take several texels at once.
+fn match_texels(matches: &mut [i8], xs: &[f32], ch: usize, zero: f32, filled: &[u8])
+    requires { ⌜ (length (now xs) ≡ length (now filled) * ch) × (3 ≤ ch) × (ch ≤ 4) × (length (now xs) ≤ 67108864) × (length (now matches) ≡ length (now filled)) ⌝ }
+    requires { ⌜ T (not (isNan zero)) × Numbers (now xs) ⌝ }
+    ensures { λ _. ⌜ now (matches .exit) ≡ tab (length (now (filled .entry))) (Signs.matchAt (now (xs .entry)) ch zero (now (filled .entry))) ⌝ }
+{
+    if ch == 3 {
+        write_matches(matches, xs, 3, zero, filled);
+    } else {
+        write_matches(matches, xs, 4, zero, filled);
+    }
+}
+
 // Zero for every texel.
 fn clear_matches(matches: &mut [i8])
     ensures { λ _. ⌜ now (matches .exit) ≡ tab (length (now (matches .entry))) (λ k. pos 0) ⌝ }
@@ -203,7 +216,7 @@ fn correct(b: Bitmap, xs: &mut [f32], zero: f32, filled: &[u8], matches: &mut [i
         correct_alone(xs, 1, 0, zero, filled);
         return;
     }
-    write_matches(matches, xs, b.channels, zero, filled);
+    match_texels(matches, xs, b.channels, zero, filled);
     flip_texels(xs, matches, b, zero);
     if b.channels == 4 {
         correct_alone(xs, 4, 3, zero, filled);

@@ -45,12 +45,12 @@ mapped s ms e =
       held = held (a .b .width) (a .b .height) (a .xs .now) (a .zero) (a .filled .now) (a .b .channels);
     })
 
-write-matches-requires : tie.Need-write-matches-requires
-write-matches-requires c κs =
+match-texels-requires : tie.Need-match-texels-requires
+match-texels-requires c κs =
     let e = c .before .before in
     let s = e .before .before .before .before in
     let p = ok s in
-    ((many (given s) p, some (given s) p (e .if1 .left), few (given s) p, p .matches ∙ sym (p .filled)), (number _ (p .zero), numbers (given s) p))
+    ((many (given s) p, some (given s) p (e .if1 .left), p .sizes .few, few (given s) p, p .matches ∙ sym (p .filled)), (number _ (p .zero), numbers (given s) p))
 
 flip-texels-requires : tie.Need-flip-texels-requires
 flip-texels-requires c κs =
@@ -58,7 +58,7 @@ flip-texels-requires c κs =
     let e = m .before .before .before in
     let s = e .before .before .before .before in
     let p = ok s in
-    let g = mapped s (m .write-matches .last .0) (m .write-matches .ensures) in
+    let g = mapped s (m .match-texels .last .0) (m .match-texels .ensures) in
     (g, (some (given s) p (e .if1 .left), p .sizes .few, many (given s) p ∙ ap (λ (n : ℕ). n * s .args .b .channels) (texels (given s) p ∙ sym (g .long))))
 
 -- after the vote
@@ -92,7 +92,7 @@ returns-2 c =
     let t = a .before .before in
     let f = t .before .before .before .before in
     let g = voted f .args in
-    four-left (g .b .width) (g .b .height) (g .b .channels) (g .xs .now) (g .zero) (g .filled .now) _ _ _ (t .if2 .taken) (f .flip-texels .ensures) (a .correct-alone2 .ensures) (f .before .before .before .before .write-matches .ensures)
+    four-left (g .b .width) (g .b .height) (g .b .channels) (g .xs .now) (g .zero) (g .filled .now) _ _ _ (t .if2 .taken) (f .flip-texels .ensures) (a .correct-alone2 .ensures) (f .before .before .before .before .match-texels .ensures)
 
 returns-3 : tie.Need-returns-3
 returns-3 c =
@@ -102,9 +102,9 @@ returns-3 c =
     let g = s .args in
     let p = ok s in
     let q : g .b .channels ≡ 3 = omega (arith, some (given s) p (e .if1 .left), p .sizes .few, c .if2 .left) in
-    three-left (g .b .width) (g .b .height) (g .b .channels) (g .xs .now) (g .zero) (g .filled .now) _ _ q (f .flip-texels .ensures) (f .before .before .before .before .write-matches .ensures)
+    three-left (g .b .width) (g .b .height) (g .b .channels) (g .xs .now) (g .zero) (g .filled .now) _ _ q (f .flip-texels .ensures) (f .before .before .before .before .match-texels .ensures)
 
 pub correct-spec : {M : Type 1} → statement M
 correct-spec =
     tie.close
-    (tie.spec (λ c κs. search needs) correct-alone-requires (λ c. search needs) (λ c. search needs) returns write-matches-requires flip-texels-requires correct-alone-requires-2 (λ c. search needs) (λ c. search needs) returns-2 (λ c. search needs) (λ c. search needs) returns-3)
+    (tie.spec (λ c κs. search needs) correct-alone-requires (λ c. search needs) (λ c. search needs) returns match-texels-requires flip-texels-requires correct-alone-requires-2 (λ c. search needs) (λ c. search needs) returns-2 (λ c. search needs) (λ c. search needs) returns-3)
