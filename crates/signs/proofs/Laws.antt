@@ -3,4 +3,7 @@ pub mod Median
 pub mod Flip
 pub mod Turned
 pub mod Twice
+pub mod Sides
+pub mod Again
+pub mod Beyond
 pub mod Alike
