@@ -3,9 +3,12 @@
 //! `COUNT SEED`: every fault and every two of them in small bitmaps and the largest sizes, then COUNT cases; totals, and how often each branch and each refusal
 //!   came up. Of an accepted case the result is corrected once more, if it is accepted: no texel lies on the wrong side then, and no sample changes, a zero's
 //!   sign aside.
+//!   With the proved library the smallest example of a flipped value beyond the limit goes through the error correction as well.
 //! `show SEED INDEX`: one case of a run.
 //! Exit status 1 if anything differs, or a long run leaves a branch out.
 
+#[cfg(pass)]
+mod beyond;
 mod cases;
 mod faults;
 #[path = "../differential/glyphs.rs"]
@@ -61,6 +64,12 @@ fn run(count: u64, seed: u64) -> bool {
     let missing = seen.print();
     totals.print(seed);
     println!("{} of {} branches reached", KINDS.len() - missing, KINDS.len());
+    #[cfg(pass)]
+    {
+        let good = beyond::as_proved();
+        println!("a flipped value beyond the limit, and the error correction behind it: {}", if good { "as proved" } else { "differs" });
+        wrong += u64::from(!good);
+    }
     println!("{wrong} cases differ");
     wrong == 0 && (count < LONG || missing == 0)
 }

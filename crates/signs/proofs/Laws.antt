@@ -6,4 +6,5 @@ pub mod Twice
 pub mod Sides
 pub mod Again
 pub mod Beyond
+pub mod Figures
 pub mod Alike

@@ -7,6 +7,7 @@ use Rattle.correction_c.proofs.rungtwine_error_correction.Reads as pass
 use Rattle.correction_c.proofs.rungtwine_plain_error_correction.Reads as plain
 use Rattle.correction_c.proofs.rungtwine_sheet_error_correction.Reads as sheet
 use Rattle.correction_c.proofs.rungtwine_sheet_check.Reads as check
+use Rattle.correction_c.proofs.rungtwine_sign_correction.Reads as signs
 use Rattle.correction_c.proofs.rungtwine_texel_view.Reads as view
 use Rattle.correction_c.proofs.rungtwine_texel_channel.Reads as channel
 
@@ -129,6 +130,22 @@ check-cells-alike κs a z z' e e' p q = alike (p .1 .0) (q .1 .0)
 -- and two places, the fourteenth.
 pub check-places-alike : (κs : _) (a : _) (z z' : _) (e e' : _) → check.Post κs a z e → check.Post κs a z' e' → now (e .1 .1 .1 .1 .1 .1 .1 .1 .1 .1 .1 .1 .1 .0) ≡ now (e' .1 .1 .1 .1 .1 .1 .1 .1 .1 .1 .1 .1 .1 .0)
 check-places-alike κs a z z' e e' p q = alike (p .1 .1) (q .1 .1)
+
+-- Two answers of the correction of signs are the same,
+pub signs-answers-alike : (κs : _) (a : _) (z z' : _) (e e' : _) → signs.Post κs a z e → signs.Post κs a z' e' → z ≡ z'
+signs-answers-alike κs a z z' e e' p q = alike (p .0) (q .0)
+
+-- so are two places, the eighth argument,
+pub signs-places-alike : (κs : _) (a : _) (z z' : _) (e e' : _) → signs.Post κs a z e → signs.Post κs a z' e' → now (e .1 .1 .1 .1 .1 .1 .1 .0) ≡ now (e' .1 .1 .1 .1 .1 .1 .1 .0)
+signs-places-alike κs a z z' e e' p q = alike (p .1 .0) (q .1 .0)
+
+-- two lists of samples, the fourth,
+pub signs-samples-alike : (κs : _) (a : _) (z z' : _) (e e' : _) → signs.Post κs a z e → signs.Post κs a z' e' → now (e .1 .1 .1 .0) ≡ now (e' .1 .1 .1 .0)
+signs-samples-alike κs a z z' e e' p q = alike (p .1 .1 .0) (q .1 .1 .0)
+
+-- and two match maps, the seventh.
+pub signs-matches-alike : (κs : _) (a : _) (z z' : _) (e e' : _) → signs.Post κs a z e → signs.Post κs a z' e' → now (e .1 .1 .1 .1 .1 .1 .0) ≡ now (e' .1 .1 .1 .1 .1 .1 .0)
+signs-matches-alike κs a z z' e e' p q = alike (p .1 .1 .1) (q .1 .1 .1)
 
 -- Two texels that the view leaves in its ninth argument hold the same samples,
 pub views-alike : (κs : _) (a : _) (z z' : _) (e e' : _) → view.Post κs a z e → view.Post κs a z' e' → now (now (e .1 .1 .1 .1 .1 .1 .1 .1 .0)) ≡ now (now (e' .1 .1 .1 .1 .1 .1 .1 .1 .0))
