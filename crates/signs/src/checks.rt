@@ -1,8 +1,5 @@
 // The checks, each as docs/RULES.md has it: 1 to 3 and 6 of the pass, with one channel allowed, then 10 to 12.
 ghost use mathlib.Core.Path.{_≡_};
-ghost use mathlib.Core.Bool.{not};
-ghost use lib.Dec.{eqb};
-ghost use lib.ListN.{length};
 ghost use Rattle.signs.specs.Checks as Checks;
 ghost use Rattle.signs.specs.Checks.{input};
 use inputs::checks;

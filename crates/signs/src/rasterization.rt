@@ -1,10 +1,10 @@
 // The correction of signs, as `raster/rasterization.rs` has it: values on the wrong side of the outline are turned over to the other.
 ghost use mathlib.Core.Path.{_≡_};
-ghost use Prim.Native.Nat.{ℕ, _+_, _*_, _/_, _%_, _<_, _≤_};
+ghost use Prim.Native.Nat.{_+_, _*_, _/_, _%_, _<_, _≤_};
 ghost use mathlib.Core.Bool.{not, cond, _&&_};
-ghost use lib.Dec.{T, eqb, ltb};
+ghost use lib.Dec.{T, eqb};
 ghost use lib.IntN.{pos};
-ghost use lib.ListN.{length, getD, set};
+ghost use lib.ListN.{length, getD};
 ghost use lib.Ieee.{nan, isNan};
 ghost use Rattle.inputs.specs.Bounds.{inBounds};
 ghost use Rattle.numbers.specs.Scalar.{medianOf};

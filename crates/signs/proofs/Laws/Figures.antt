@@ -7,7 +7,7 @@
 --     fourth-own  the fourth channel of a right texel is flipped where it is amiss itself, and that of a wrong one stays where it is not
 use mathlib.Core.Path.{_≡_, refl}
 use mathlib.Core.List.{List, [], _∷_, _++_}
-use lib.IntN.{ℤ, pos, negsuc}
+use lib.IntN.{pos, negsuc}
 use lib.Ieee.{Float, binary32, isNan, lt, le, eq, neg, add, sum, sub, round, units, odd, size, span, climb, ofBits, ofFields}
 use Rattle.numbers.specs.Scalar.{minOf, maxOf, medianOf}
 use Rattle.ground.specs.Lists.{tab, any, first}

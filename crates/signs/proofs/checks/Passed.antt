@@ -5,7 +5,7 @@
 --     number          a value that is not oversize is no NaN
 --     numbers, many, few, texels   the same as the functions behind the checks ask for it
 use mathlib.Core.Path.{_≡_, refl, sym, _∙_, ap}
-use mathlib.Core.Bool.{Bool, true, false, not, _&&_, _||_}
+use mathlib.Core.Bool.{Bool, true, false, not, _&&_}
 use mathlib.Core.Logic.{_⊎_, inl, inr}
 use mathlib.Core.List.{List}
 use Prim.Native.Nat.{ℕ, _*_, _<_, _≤_}
@@ -13,7 +13,7 @@ use native.Mathlib.Nat.{mul-comm}
 use native.Mathlib.Omega.{arith}
 use lib.Dec.{T, eqb}
 use lib.ListN.{length, getD}
-use lib.Ieee.{Float, binary32, nan, isNan, neg}
+use lib.Ieee.{Float, binary32, nan, isNan}
 use borrow.Author.Tests.{eqb-true, not-false}
 use Rattle.ground.proofs.Laws.Bools.{both-fail, holds}
 use Rattle.ground.proofs.Laws.Refuse.{all-pass, zero-parts}

@@ -7,14 +7,12 @@
 --     alone-next      a texel of which one channel goes by its own comparison
 --     three-next      a texel whose first three channels are flipped
 --     none-next       a texel that stays
-use mathlib.Core.Path.{_≡_, refl, sym, _∙_, ap, subst}
-use mathlib.Core.Bool.{Bool, true, false, cond, _&&_}
+use mathlib.Core.Path.{_≡_, sym, _∙_, ap, subst}
+use mathlib.Core.Bool.{Bool, true, false}
 use mathlib.Core.List.{List}
-use Prim.Native.Nat.{ℕ, _+_, _-_, _*_, _/_, _%_, _<_, _≤_}
+use Prim.Native.Nat.{ℕ, _+_, _-_, _*_, _<_, _≤_}
 use native.Mathlib.Omega.{arith}
-use lib.Dec.{eqb, ltb}
 use lib.ListN.{length, getD, set, length-set}
-use lib.Seq.{getD-set-other}
 use lib.Ieee.{Float, nan}
 use Rattle.ground.proofs.Laws.Fill.{Filled, filled-none, filled-more, filled-run, filled-at, filled-all}
 use Rattle.inputs.proofs.Laws.Places.{next-row}

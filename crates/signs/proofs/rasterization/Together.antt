@@ -7,14 +7,14 @@
 --     Left, one-left, three-left, four-left      so what is left is what the rules say
 --     after-accepted, after-refused              the same by what the checks answer
 use mathlib.Core.Path.{_≡_, refl, sym, _∙_, ap, subst}
-use mathlib.Core.Bool.{Bool, true, false, cond, _&&_, _||_}
+use mathlib.Core.Bool.{Bool, false, _&&_}
 use mathlib.Core.List.{List}
 use mathlib.Core.Logic.{dite}
 use Prim.Native.Nat.{ℕ, _/_, _%_, _<_, _≤_, zero-le}
 use native.Mathlib.Nat.{mod-one, mod-lt}
 use native.Mathlib.Decide.{ℕ-discrete, decLt}
 use native.Mathlib.Omega.{arith}
-use lib.Dec.{eqb, ltb}
+use lib.Dec.{eqb}
 use lib.IntN.{ℤ, pos}
 use lib.ListN.{length, getD, List·getD-eq-default}
 use lib.Seq.{ext-getD}
@@ -24,7 +24,7 @@ use Rattle.ground.specs.Lists.{tab}
 use Rattle.ground.proofs.Laws.Fill.{tab-length, tab-at, tab-same}
 use Rattle.signs.specs.Flip.{isAmiss, flippedIf}
 use Rattle.signs.specs.Checks.{Input, refusalNumber, accepted}
-use Rattle.signs.specs.Signs.{filledAt, matchAt, matchMap, turns, goesAlone, flips, flippedWhere, samplesAfter, matchesAfter}
+use Rattle.signs.specs.Signs.{filledAt, matchAt, matchMap, goesAlone, flips, flippedWhere, samplesAfter, matchesAfter}
 use Rattle.signs.specs.Inner.{UpTo, turnsAt}
 use Rattle.signs.proofs.rasterization.Votes.{match-at-small}
 

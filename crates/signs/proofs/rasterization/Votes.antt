@@ -21,7 +21,7 @@ use lib.ListN.{getD}
 use mir.Syntax.{w8, w32}
 use mir.Val.{SFits, toZ, ofZ}
 use mir.Facts.{toZ-ofZ}
-use borrow.Author.Tests.{ltb-true, ltb-false}
+use borrow.Author.Tests.{ltb-true}
 use Rattle.inputs.specs.Bounds.{inBounds}
 use Rattle.signs.specs.Signs.{filledAt, medianAt, matchOf, matchAt, matchNear, vote}
 use Rattle.signs.specs.Flip.{isAmiss}

@@ -1,13 +1,11 @@
 -- `signs::checks::refusal` meets its contract. Assumes nothing.
 use mathlib.Core.Path.{_≡_, sym, _∙_}
-use mathlib.Core.Bool.{false}
-use Prim.Native.Nat.{ℕ, _≤_}
+use Prim.Native.Nat.{ℕ}
 use native.Mathlib.Omega.{arith}
-use lib.ListN.{length}
 use borrow.Author.Needs.{needs}
 use borrow.Author.Tests.{eq-eqb, ne-eqb}
 use Rattle.inputs.proofs.Laws.Checks.{area-fits}
-use Rattle.signs.specs.Checks.{Input, input, badZero, badFilled, badMatches}
+use Rattle.signs.specs.Checks.{Input, input, badZero, badMatches}
 use Rattle.signs.proofs.checks.Passed.{sizes}
 use Rattle.signs.proofs.checks.Refusals.{by-sizes, by-samples, by-zero, by-filled, by-matches, by-none}
 use Rattle.signs.proofs.checks.refusal.Statement.{statement}

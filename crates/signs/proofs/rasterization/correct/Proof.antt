@@ -1,18 +1,16 @@
 -- `signs::rasterization::correct` meets its contract: the steps together leave what the rules say. Assumes nothing.
-use mathlib.Core.Path.{_≡_, refl, sym, _∙_, ap, subst}
-use mathlib.Core.Bool.{Bool}
+use mathlib.Core.Path.{_≡_, sym, _∙_, ap, subst}
 use mathlib.Core.List.{List}
 use Prim.Native.Nat.{ℕ, _*_, _≤_}
 use native.Mathlib.Omega.{arith}
-use lib.IntN.{ℤ, pos}
+use lib.IntN.{ℤ}
 use lib.ListN.{length}
-use lib.Ieee.{Float}
 use borrow.Author.Needs.{needs}
 use Rattle.ground.specs.Lists.{tab}
 use Rattle.ground.proofs.Laws.Fill.{tab-length}
 use Rattle.signs.specs.Checks.{Input, input}
-use Rattle.signs.specs.Signs.{matchAt, matchMap, flips, flippedWhere}
-use Rattle.signs.specs.Inner.{Mapped, turnsAt}
+use Rattle.signs.specs.Signs.{matchAt}
+use Rattle.signs.specs.Inner.{Mapped}
 use Rattle.signs.proofs.checks.Passed.{Passed, passed, number, numbers, many, few, texels, some}
 use Rattle.signs.proofs.rasterization.Together.{flipped-length, held, one-left, three-left, four-left}
 use Rattle.signs.proofs.rasterization.correct.Statement.{statement}

@@ -1,5 +1,5 @@
 -- `signs::rasterization::distance_sign_correction` meets its contract: the checks, then the steps. Assumes nothing.
-use mathlib.Core.Path.{_≡_, sym, _∙_}
+use mathlib.Core.Path.{sym, _∙_}
 use borrow.Author.Needs.{needs}
 use Rattle.signs.specs.Checks.{Input, input}
 use Rattle.signs.proofs.rasterization.Together.{after-accepted, after-refused}

@@ -1,20 +1,20 @@
 -- `signs::rasterization::flip_texels` meets its contract: the texels that turn are flipped among the first k, of which the last before column x, row y. Assumes nothing.
-use mathlib.Core.Path.{_≡_, refl, sym, _∙_, ap, subst}
+use mathlib.Core.Path.{_≡_, refl, sym, _∙_, subst}
 use mathlib.Core.Bool.{Bool, true, false, cond, _&&_}
 use mathlib.Core.List.{List}
-use Prim.Native.Nat.{ℕ, _+_, _-_, _*_, _/_, _%_, _<_, _≤_}
+use Prim.Native.Nat.{ℕ, _+_, _-_, _*_, _<_, _≤_}
 use native.Mathlib.Nat.{le-of-eq, zero-mul, mul-le-mul}
 use native.Mathlib.Omega.{arith}
-use lib.Arith.{digits-lt, digits-div, digits-mod}
+use lib.Arith.{digits-div, digits-mod}
 use lib.Dec.{ltb}
 use lib.IntN.{ℤ}
-use lib.ListN.{length, getD}
-use lib.Ieee.{Float, nan}
+use lib.ListN.{length}
+use lib.Ieee.{Float}
 use borrow.Author.Tests.{lt-ltb, le-ltb}
 use Rattle.inputs.proofs.Laws.Places.{next-row, row-lt, place-lt}
 use Rattle.inputs.proofs.Laws.Checks.{area-fits}
 use Rattle.signs.specs.Signs.{turns}
-use Rattle.signs.specs.Inner.{turnsAt, flippedAt, Mapped}
+use Rattle.signs.specs.Inner.{turnsAt, flippedAt}
 use Rattle.signs.proofs.rasterization.Steps.{Flipping, flipping-none, flipping-all, three-next, none-next}
 use Rattle.signs.proofs.rasterization.flip_texels.Statement.{statement}
 use Rattle.signs.proofs.rasterization.flip_texels.Tie as tie

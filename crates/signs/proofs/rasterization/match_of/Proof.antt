@@ -1,5 +1,5 @@
 -- `signs::rasterization::match_of` meets its contract: the median lies where two of the three lie. Assumes nothing.
-use mathlib.Core.Path.{_≡_, refl, sym, _∙_}
+use mathlib.Core.Path.{_≡_, sym, _∙_}
 use mathlib.Core.Bool.{Bool, true, false, cond, Bool·beq}
 use lib.IntN.{ℤ, pos, negsuc}
 use lib.Ieee.{lt}
