@@ -2,4 +2,5 @@
 pub mod Flip
 pub mod Checks
 pub mod Signs
+pub mod Sides
 pub mod Inner

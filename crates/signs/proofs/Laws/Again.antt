@@ -1,6 +1,5 @@
 -- A second correction of an accepted bitmap, with the same filled map: no texel turns again, and every sample compares equal to what it was. Assumes nothing.
 -- The second input may be refused, as a flipped value may lie beyond the limit (Beyond.antt). Then it leaves the samples as they are, so the laws on samples ask for no second acceptance.
---     again                the input with its samples as the correction left them, and any match map
 --     none-wrong           no match of it is −1
 --     map-none-wrong       so its match map holds no −1, with one channel too
 --     matches-none-wrong   and where it is accepted that is what the second correction writes
@@ -32,15 +31,13 @@ use Rattle.ground.proofs.Laws.Fill.{tab-length, tab-at}
 use Rattle.inputs.specs.Bounds.{inBounds}
 use Rattle.numbers.proofs.Laws.Order.{eq-refl}
 use Rattle.signs.specs.Flip.{isAmiss, flippedIf}
-use Rattle.signs.specs.Checks.{Input, input, accepted}
+use Rattle.signs.specs.Checks.{Input, accepted}
 use Rattle.signs.specs.Signs.{filledAt, matchMap, matchNear, vote, isNought, turns, goesAlone, samplesAfter, matchesAfter}
 use Rattle.signs.proofs.Laws.Flip.{small-number, flip-number}
 use Rattle.signs.proofs.Laws.Turned.{corrected-twice}
 use Rattle.signs.proofs.checks.Passed.{Channels}
-use Rattle.signs.proofs.Laws.Sides.{Held, passes, small-zero, small-sample, length-after, sample-after, flipsAt, turnsAt, voteAt, alone-flips, with-texel, three-together, lies, sampleAfter, matchAfter, turns-by, match-cases, match-kept, match-turned, match-stays-level}
-
-abbrev pub again : Input → List ℤ → Input
-again i ms = input (i .width) (i .height) (i .channels) (samplesAfter i) (i .zero) (i .filled) ms
+use Rattle.signs.specs.Sides.{Held, flipsIn, turnsIn, voteOn, sampleAfter, matchAfter, again}
+use Rattle.signs.proofs.Laws.Sides.{passes, small-zero, small-sample, length-after, sample-after, alone-flips, with-texel, three-together, lies, turns-by, match-cases, match-kept, match-turned, match-stays-level}
 
 -- ---- the matches
 
@@ -111,10 +108,10 @@ module _ (w h : ℕ) (ms : List ℤ) (none : (k : ℕ) → T (nonNeg (getD ms k 
       both true p q = p
       both false p q = q
 
-pub votes-none-wrong : (i : Input) → accepted i ≡ true → Held i → (ms : List ℤ) (k : ℕ) → T (nonNeg (voteAt (again i ms) k))
+pub votes-none-wrong : (i : Input) → accepted i ≡ true → Held i → (ms : List ℤ) (k : ℕ) → T (nonNeg (voteOn (again i ms) k))
 votes-none-wrong i ok f ms k = vote-none-wrong (i .width) (i .height) (matchMap (samplesAfter i) (i .channels) (i .zero) (i .filled)) (map-none-wrong i ok f) (k % i .width) (k / i .width)
 
-pub none-turns : (i : Input) → accepted i ≡ true → Held i → (ms : List ℤ) (k : ℕ) → turnsAt (again i ms) k ≡ false
+pub none-turns : (i : Input) → accepted i ≡ true → Held i → (ms : List ℤ) (k : ℕ) → turnsIn (again i ms) k ≡ false
 none-turns i ok f ms k = none-turn (i .width) (i .height) (matchMap (samplesAfter i) (i .channels) (i .zero) (i .filled)) (map-none-wrong i ok f) k
 
 -- ---- the samples
@@ -126,7 +123,7 @@ left i e = rw e
 
 -- what holds of a sample as it is, and of what the second correction would make of it
 second : (i : Input) → accepted i ≡ true → (ms : List ℤ) (P : Float → Type 0) (j : ℕ) → j < length (i .samples) → P (getD (samplesAfter i) j nan)
-    → P (flippedIf (i .zero) (flipsAt (again i ms) j) (getD (samplesAfter i) j nan)) → P (getD (samplesAfter (again i ms)) j nan)
+    → P (flippedIf (i .zero) (flipsIn (again i ms) j) (getD (samplesAfter i) j nan)) → P (getD (samplesAfter (again i ms)) j nan)
 second i ok ms P j l p q = go (accepted (again i ms)) refl
   where
     go : (b : Bool) → accepted (again i ms) ≡ b → P (getD (samplesAfter (again i ms)) j nan)
@@ -142,7 +139,7 @@ module _ (i : Input) (ok : accepted i ≡ true) (f : Held i) (ms : List ℤ) whe
   pub again-together : (j : ℕ) → j < length (i .samples) → goesAlone (i .channels) (j % i .channels) ≡ false → getD (samplesAfter (again i ms)) j nan ≡ getD (samplesAfter i) j nan
   again-together j l e =
       second i ok ms (λ v. v ≡ getD (samplesAfter i) j nan) j l refl
-      (unturned (i .zero) (getD (samplesAfter i) j nan) (flipsAt (again i ms) j) (with-texel (again i ms) j e ∙ none-turns i ok f ms (j / i .channels)))
+      (unturned (i .zero) (getD (samplesAfter i) j nan) (flipsIn (again i ms) j) (with-texel (again i ms) j e ∙ none-turns i ok f ms (j / i .channels)))
 
   pub again-three : 3 ≤ i .channels → (k c : ℕ) → k < length (i .filled) → c < 3 → sampleAfter (again i ms) k c ≡ sampleAfter i k c
   again-three some k c l m =
@@ -151,7 +148,7 @@ module _ (i : Input) (ok : accepted i ≡ true) (f : Held i) (ms : List ℤ) whe
 
   -- no sample is a NaN afterwards
   number : (j : ℕ) → j < length (i .samples) → T (not (isNan (getD (samplesAfter i) j nan)))
-  number j l = subst (λ (v : Float). T (not (isNan v))) (sym (sample-after i ok j l)) (go (flipsAt i j))
+  number j l = subst (λ (v : Float). T (not (isNan v))) (sym (sample-after i ok j l)) (go (flipsIn i j))
     where
       go : (b : Bool) → T (not (isNan (flippedIf (i .zero) b (getD (i .samples) j nan))))
       go true = unfold flippedIf in flip-number (i .zero) (getD (i .samples) j nan) (small-zero i ok f .1) (small-sample i ok f j l .1)

@@ -35,7 +35,8 @@ use Rattle.signs.specs.Flip.{doubleOf, flipOf, isAmiss, flippedIf}
 use Rattle.signs.specs.Checks.{Input, input, badChannels, badZero, someAbove, badFilled, badMatches, refusalNumber, refusalPlace, accepted}
 use Rattle.signs.specs.Signs.{filledAt, medianAt, matchOf, matchAt, matchMap, matchNear, vote, turns, goesAlone, flips, flippedWhere, samplesAfter, matchesAfter}
 use Rattle.signs.proofs.Laws.Flip.{flip-number, flip-anti}
-use Rattle.signs.proofs.Laws.Sides.{passes, flipsAt, sample-after}
+use Rattle.signs.specs.Sides.{flipsIn}
+use Rattle.signs.proofs.Laws.Sides.{passes, sample-after}
 
 -- 1/16, 1/32, −1048576 and 1048576.125
 abbrev sixteenth : Float
@@ -144,7 +145,7 @@ flip-stays z v h k p =
     (λ i. not (held (le lo (flipOf z v)) under i && held (le (flipOf z v) hi) over i))
 
 pub samples-stay : (i : Input) → accepted i ≡ true → T (le (neg half) (i .zero)) → T (le (i .zero) half) → (j : ℕ) → j < length (i .samples) → Pass.oversize binary32 (getD (samplesAfter i) j nan) ≡ false
-samples-stay i ok h k j l = ap (Pass.oversize binary32) (sample-after i ok j l) ∙ go (flipsAt i j)
+samples-stay i ok h k j l = ap (Pass.oversize binary32) (sample-after i ok j l) ∙ go (flipsIn i j)
   where
     v : Float
     v = getD (i .samples) j nan

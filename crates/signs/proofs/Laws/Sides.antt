@@ -1,6 +1,5 @@
 -- An accepted bitmap after the correction: which texels were turned, and on which side of the zero value all lies then. It holds under rounding. Assumes nothing.
 -- The zero value and the samples are values of binary32, as slices of f32 hold nothing else. k is a texel of three or four channels, and c one of its first three.
---     Held                     the zero value and each sample are values of binary32
 --     passes, small-zero, small-sample  what acceptance says of them
 --     samples-after, length-after, sample-after  the samples afterwards, each flipped or not
 --     alone-flips, with-texel, three-together, three-flips  which are: by their own comparison, or where the texel turns
@@ -27,7 +26,7 @@ use lib.Dec.{T}
 use lib.IntN.{ℤ, pos, negsuc}
 use lib.Signed.{ltZ}
 use lib.ListN.{length, getD}
-use lib.Ieee.{Float, binary32, nan, eq, isNan, fits}
+use lib.Ieee.{Float, nan, eq, isNan}
 use borrow.Author.Tests.{eqb-true, ne-eqb}
 use Rattle.ground.proofs.Laws.Fill.{tab-at}
 use Rattle.numbers.specs.Scalar.{medianOf}
@@ -36,16 +35,13 @@ use Rattle.numbers.proofs.Laws.Scalar.{median-no-nan}
 use Rattle.signs.specs.Flip.{flipOf, isAmiss, flippedIf, onSide, Exact}
 use Rattle.signs.specs.Checks.{Input, refusalNumber, accepted}
 use Rattle.signs.specs.Signs.{filledAt, medianAt, matchOf, matchAt, matchMap, vote, isNought, turns, goesAlone, flips, flippedWhere, samplesAfter}
+use Rattle.signs.specs.Sides.{Held, sample, sampleAfter, matchBefore, matchAfter, voteOn, turnsIn, flipsIn}
 use Rattle.signs.proofs.Laws.Flip.{Small, small, small-number}
 use Rattle.signs.proofs.Laws.Turned.{wrong-turned, wrong-match, wrong-exact, match-level, level-turned, right-side, corrected-side}
 use Rattle.signs.proofs.checks.Passed.{Passed, passed, many}
 use Rattle.signs.proofs.rasterization.Together.{flipped-length, flipped-at, match-map}
 
 -- ---- what acceptance says
-
-pub record Held (i : Input) : Type 0 where
-  pub zero : T (fits binary32 (i .zero))
-  pub samples : (j : ℕ) → j < length (i .samples) → T (fits binary32 (getD (i .samples) j nan))
 
 pub passes : (i : Input) → accepted i ≡ true → Passed i
 unfolding accepted
@@ -59,35 +55,23 @@ small-sample i ok f j l = small (getD (i .samples) j nan) (f .samples j l) (pass
 
 -- ---- the samples afterwards
 
--- sample j is flipped
-abbrev pub flipsAt : Input → ℕ → Bool
-flipsAt i = flips (i .width) (i .height) (i .channels) (i .samples) (i .zero) (i .filled)
-
-pub samples-after : (i : Input) → accepted i ≡ true → samplesAfter i ≡ flippedWhere (i .zero) (flipsAt i) (i .samples)
+pub samples-after : (i : Input) → accepted i ≡ true → samplesAfter i ≡ flippedWhere (i .zero) (flipsIn i) (i .samples)
 unfolding samplesAfter
 samples-after i ok = rw ok
 
 pub length-after : (i : Input) → accepted i ≡ true → length (samplesAfter i) ≡ length (i .samples)
-length-after i ok = ap length (samples-after i ok) ∙ flipped-length (i .zero) (flipsAt i) (i .samples)
+length-after i ok = ap length (samples-after i ok) ∙ flipped-length (i .zero) (flipsIn i) (i .samples)
 
-pub sample-after : (i : Input) → accepted i ≡ true → (j : ℕ) → j < length (i .samples) → getD (samplesAfter i) j nan ≡ flippedIf (i .zero) (flipsAt i j) (getD (i .samples) j nan)
-sample-after i ok j l = ap (λ (ys : List Float). getD ys j nan) (samples-after i ok) ∙ flipped-at (i .zero) (flipsAt i) (i .samples) j l
+pub sample-after : (i : Input) → accepted i ≡ true → (j : ℕ) → j < length (i .samples) → getD (samplesAfter i) j nan ≡ flippedIf (i .zero) (flipsIn i j) (getD (i .samples) j nan)
+sample-after i ok j l = ap (λ (ys : List Float). getD ys j nan) (samples-after i ok) ∙ flipped-at (i .zero) (flipsIn i) (i .samples) j l
 
 -- ---- which are flipped
 
--- texel k turns
-abbrev pub turnsAt : Input → ℕ → Bool
-turnsAt i k = turns (i .width) (i .height) (matchMap (i .samples) (i .channels) (i .zero) (i .filled)) (k % i .width) (k / i .width)
-
--- the vote on it
-abbrev pub voteAt : Input → ℕ → ℤ
-voteAt i k = vote (i .width) (i .height) (matchMap (i .samples) (i .channels) (i .zero) (i .filled)) (k % i .width) (k / i .width)
-
-pub alone-flips : (i : Input) (j : ℕ) → goesAlone (i .channels) (j % i .channels) ≡ true → flipsAt i j ≡ isAmiss (i .zero) (filledAt (i .filled) (j / i .channels)) (getD (i .samples) j nan)
+pub alone-flips : (i : Input) (j : ℕ) → goesAlone (i .channels) (j % i .channels) ≡ true → flipsIn i j ≡ isAmiss (i .zero) (filledAt (i .filled) (j / i .channels)) (getD (i .samples) j nan)
 unfolding flips
 alone-flips i j e = rw e
 
-pub with-texel : (i : Input) (j : ℕ) → goesAlone (i .channels) (j % i .channels) ≡ false → flipsAt i j ≡ turnsAt i (j / i .channels)
+pub with-texel : (i : Input) (j : ℕ) → goesAlone (i .channels) (j % i .channels) ≡ false → flipsIn i j ≡ turnsIn i (j / i .channels)
 unfolding flips
 with-texel i j e = rw e
 
@@ -95,35 +79,21 @@ pub three-together : (ch c : ℕ) → 3 ≤ ch → c < 3 → goesAlone ch c ≡ 
 unfolding goesAlone
 three-together ch c some l = rw (ne-eqb ch 1 (λ e. absurd (omega arith)), ne-eqb c 3 (λ e. absurd (omega arith)))
 
-pub three-flips : (i : Input) (k c : ℕ) → 3 ≤ i .channels → c < 3 → flipsAt i (k * i .channels + c) ≡ turnsAt i k
+pub three-flips : (i : Input) (k c : ℕ) → 3 ≤ i .channels → c < 3 → flipsIn i (k * i .channels + c) ≡ turnsIn i k
 three-flips i k c some l =
     let b : c < i .channels = omega arith in
-    with-texel i (k * i .channels + c) (ap (goesAlone (i .channels)) (digits-mod k b) ∙ three-together (i .channels) c some l) ∙ ap (turnsAt i) (digits-div k b)
+    with-texel i (k * i .channels + c) (ap (goesAlone (i .channels)) (digits-mod k b) ∙ three-together (i .channels) c some l) ∙ ap (turnsIn i) (digits-div k b)
 
 -- a texel's samples are in the bitmap
 pub lies : (i : Input) → accepted i ≡ true → (k c : ℕ) → k < length (i .filled) → c < i .channels → k * i .channels + c < length (i .samples)
 lies i ok k c l m = subst (λ (n : ℕ). k * i .channels + c < n) (sym (many i (passes i ok))) (digits-lt l m)
 
--- channel c of texel k, before and afterwards
-abbrev pub sample : Input → ℕ → ℕ → Float
-sample i k c = getD (i .samples) (k * i .channels + c) nan
-
-abbrev pub sampleAfter : Input → ℕ → ℕ → Float
-sampleAfter i k c = getD (samplesAfter i) (k * i .channels + c) nan
-
-pub texel-after : (i : Input) → accepted i ≡ true → 3 ≤ i .channels → (k c : ℕ) → k < length (i .filled) → c < 3 → sampleAfter i k c ≡ flippedIf (i .zero) (turnsAt i k) (sample i k c)
+pub texel-after : (i : Input) → accepted i ≡ true → 3 ≤ i .channels → (k c : ℕ) → k < length (i .filled) → c < 3 → sampleAfter i k c ≡ flippedIf (i .zero) (turnsIn i k) (sample i k c)
 texel-after i ok some k c l m =
     let n : c < i .channels = omega arith in
     sample-after i ok (k * i .channels + c) (lies i ok k c l n) ∙ ap (λ (b : Bool). flippedIf (i .zero) b (sample i k c)) (three-flips i k c some m)
 
 -- ---- by the match
-
--- the match of texel k, before and afterwards
-abbrev pub matchBefore : Input → ℕ → ℤ
-matchBefore i k = matchAt (i .samples) (i .channels) (i .zero) (i .filled) k
-
-abbrev pub matchAfter : Input → ℕ → ℤ
-matchAfter i k = matchAt (samplesAfter i) (i .channels) (i .zero) (i .filled) k
 
 pub map-at : (i : Input) → 3 ≤ i .channels → (k : ℕ) → k < length (i .filled) → getD (matchMap (i .samples) (i .channels) (i .zero) (i .filled)) k (pos 0) ≡ matchBefore i k
 map-at i some k l =
@@ -136,10 +106,10 @@ unfolding turns
 turns-by w h ms k =
     ap (λ (j : ℕ). cond (isNought (getD ms j (pos 0))) (ltZ (vote w h ms (k % w) (k / w)) (pos 0)) (ltZ (getD ms j (pos 0)) (pos 0))) (div-add-mod' k w)
 
-pub turns-match : (i : Input) → 3 ≤ i .channels → (k : ℕ) → k < length (i .filled) → (m : ℤ) → matchBefore i k ≡ m → turnsAt i k ≡ cond (isNought m) (ltZ (voteAt i k) (pos 0)) (ltZ m (pos 0))
+pub turns-match : (i : Input) → 3 ≤ i .channels → (k : ℕ) → k < length (i .filled) → (m : ℤ) → matchBefore i k ≡ m → turnsIn i k ≡ cond (isNought m) (ltZ (voteOn i k) (pos 0)) (ltZ m (pos 0))
 turns-match i some k l m e =
     turns-by (i .width) (i .height) (matchMap (i .samples) (i .channels) (i .zero) (i .filled)) k
-    ∙ ap (λ (n : ℤ). cond (isNought n) (ltZ (voteAt i k) (pos 0)) (ltZ n (pos 0))) (map-at i some k l ∙ e)
+    ∙ ap (λ (n : ℤ). cond (isNought n) (ltZ (voteOn i k) (pos 0)) (ltZ n (pos 0))) (map-at i some k l ∙ e)
 
 -- what is flipped and what is not
 unturned : (zero v : Float) → flippedIf zero false v ≡ v
@@ -163,24 +133,24 @@ abbrev flippedMedian : Input → ℕ → Float
 flippedMedian i k = medianOf (flipOf (i .zero) (sample i k 0)) (flipOf (i .zero) (sample i k 1)) (flipOf (i .zero) (sample i k 2))
 
 module _ (i : Input) (ok : accepted i ≡ true) (some : 3 ≤ i .channels) (k : ℕ) (l : k < length (i .filled)) where
-  kept : turnsAt i k ≡ false → (c : ℕ) → c < 3 → sampleAfter i k c ≡ sample i k c
+  kept : turnsIn i k ≡ false → (c : ℕ) → c < 3 → sampleAfter i k c ≡ sample i k c
   kept e c m = texel-after i ok some k c l m ∙ ap (λ (b : Bool). flippedIf (i .zero) b (sample i k c)) e ∙ unturned (i .zero) (sample i k c)
 
-  flipped : turnsAt i k ≡ true → (c : ℕ) → c < 3 → sampleAfter i k c ≡ flipOf (i .zero) (sample i k c)
+  flipped : turnsIn i k ≡ true → (c : ℕ) → c < 3 → sampleAfter i k c ≡ flipOf (i .zero) (sample i k c)
   flipped e c m = texel-after i ok some k c l m ∙ ap (λ (b : Bool). flippedIf (i .zero) b (sample i k c)) e ∙ turned (i .zero) (sample i k c)
 
-  median-kept : turnsAt i k ≡ false → medianAt (samplesAfter i) (i .channels) k ≡ medianAt (i .samples) (i .channels) k
+  median-kept : turnsIn i k ≡ false → medianAt (samplesAfter i) (i .channels) k ≡ medianAt (i .samples) (i .channels) k
   median-kept e =
       median-is (samplesAfter i) (i .channels) k
       ∙ (λ j. medianOf (kept e 0 (omega arith) j) (kept e 1 (omega arith) j) (kept e 2 (omega arith) j))
       ∙ sym (median-is (i .samples) (i .channels) k)
 
-  median-flipped : turnsAt i k ≡ true → medianAt (samplesAfter i) (i .channels) k ≡ flippedMedian i k
+  median-flipped : turnsIn i k ≡ true → medianAt (samplesAfter i) (i .channels) k ≡ flippedMedian i k
   median-flipped e =
       median-is (samplesAfter i) (i .channels) k ∙ (λ j. medianOf (flipped e 0 (omega arith) j) (flipped e 1 (omega arith) j) (flipped e 2 (omega arith) j))
 
   -- so the match afterwards
-  still : turnsAt i k ≡ false → matchAfter i k ≡ matchBefore i k
+  still : turnsIn i k ≡ false → matchAfter i k ≡ matchBefore i k
   unfolding matchAt
   still e = ap (matchOf (i .zero) (filledAt (i .filled) k)) (median-kept e)
 
@@ -190,7 +160,7 @@ module _ (i : Input) (ok : accepted i ≡ true) (some : 3 ≤ i .channels) (k : 
   pub texel-turned : matchBefore i k ≡ negsuc 0 → (c : ℕ) → c < 3 → sampleAfter i k c ≡ flipOf (i .zero) (sample i k c)
   texel-turned e = flipped (turns-match i some k l (negsuc 0) e)
 
-  pub texel-level : matchBefore i k ≡ pos 0 → (c : ℕ) → c < 3 → sampleAfter i k c ≡ flippedIf (i .zero) (ltZ (voteAt i k) (pos 0)) (sample i k c)
+  pub texel-level : matchBefore i k ≡ pos 0 → (c : ℕ) → c < 3 → sampleAfter i k c ≡ flippedIf (i .zero) (ltZ (voteOn i k) (pos 0)) (sample i k c)
   texel-level e c m = texel-after i ok some k c l m ∙ ap (λ (b : Bool). flippedIf (i .zero) b (sample i k c)) (turns-match i some k l (pos 0) e)
 
   pub match-kept : matchBefore i k ≡ pos 1 → matchAfter i k ≡ pos 1
@@ -242,7 +212,7 @@ module _ (i : Input) (ok : accepted i ≡ true) (f : Held i) (some : 3 ≤ i .ch
   unfolding matchAt
   by-channels e = ap is (sym (median-is (i .samples) (i .channels) k)) ∙ e
 
-  by-flips : turnsAt i k ≡ true → {m : ℤ} → is (flippedMedian i k) ≡ m → matchAfter i k ≡ m
+  by-flips : turnsIn i k ≡ true → {m : ℤ} → is (flippedMedian i k) ≡ m → matchAfter i k ≡ m
   unfolding matchAt
   by-flips e h = ap is (median-flipped i ok some k l e) ∙ h
 
@@ -261,13 +231,13 @@ module _ (i : Input) (ok : accepted i ≡ true) (f : Held i) (some : 3 ≤ i .ch
   flips-level e = at-texel (level-turned (i .zero) filled) (by-channels e)
 
   pub match-stays-level : matchBefore i k ≡ pos 0 → matchAfter i k ≡ pos 0
-  match-stays-level e = either (turnsAt i k) (λ t. by-flips t (flips-level e .1)) (λ t. still i ok some k l t ∙ e)
+  match-stays-level e = either (turnsIn i k) (λ t. by-flips t (flips-level e .1)) (λ t. still i ok some k l t ∙ e)
 
   -- where no channel is flipped, and where all are
-  side-kept : turnsAt i k ≡ false → Side (medianAt (i .samples) (i .channels) k) → Side (medianAt (samplesAfter i) (i .channels) k)
+  side-kept : turnsIn i k ≡ false → Side (medianAt (i .samples) (i .channels) k) → Side (medianAt (samplesAfter i) (i .channels) k)
   side-kept t = subst Side (sym (median-kept i ok some k l t))
 
-  side-flipped : turnsAt i k ≡ true → Side (flippedMedian i k) → Side (medianAt (samplesAfter i) (i .channels) k)
+  side-flipped : turnsIn i k ≡ true → Side (flippedMedian i k) → Side (medianAt (samplesAfter i) (i .channels) k)
   side-flipped t = subst Side (sym (median-flipped i ok some k l t))
 
   number-before : T (not (isNan (medianAt (i .samples) (i .channels) k)))
@@ -288,7 +258,7 @@ module _ (i : Input) (ok : accepted i ≡ true) (f : Held i) (some : 3 ≤ i .ch
   unfolding matchAt
   level e =
       let m = medianAt (i .samples) (i .channels) k in
-      either (turnsAt i k) (λ t. side-flipped t (level-side (i .zero) filled (flippedMedian i k) (flips-level e .0)))
+      either (turnsIn i k) (λ t. side-flipped t (level-side (i .zero) filled (flippedMedian i k) (flips-level e .0)))
       (λ t. side-kept t (level-side (i .zero) filled m (match-level (i .zero) filled m e)))
 
   pub sides : T (onSide (i .zero) (filledAt (i .filled) k) (medianAt (samplesAfter i) (i .channels) k))
