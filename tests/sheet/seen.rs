@@ -1,13 +1,8 @@
 //! The kinds of sheets, cells and refusals, and how often each came up.
 
-macro_rules! kinds {
-    ($($name:ident : $text:expr,)*) => {
-        #[derive(Clone, Copy)]
-        #[repr(usize)]
-        pub enum Kind { $($name,)* }
-        pub const KINDS: &[&str] = &[$($text,)*];
-    };
-}
+#[path = "../kinds.rs"]
+#[macro_use]
+mod kinds;
 
 kinds! {
     NoCells: "accepted, no cells",
@@ -117,32 +112,4 @@ kinds! {
     Order53AndOwn: "order, 53 before a cell's own",
     OrderEarlier: "order, an earlier cell's check before a later cell's of a lower number",
     OrderSame: "order, 51, 52 or 53 before the same of a later cell",
-}
-
-pub struct Seen {
-    pub counts: Vec<u64>,
-}
-
-impl Seen {
-    pub fn new() -> Seen {
-        Seen { counts: vec![0; KINDS.len()] }
-    }
-
-    pub fn hit(&mut self, kind: Kind) {
-        self.counts[kind as usize] += 1;
-    }
-
-    pub fn hit_if(&mut self, yes: bool, kind: Kind) {
-        self.counts[kind as usize] += u64::from(yes);
-    }
-
-    /// Prints the counts and answers how many kinds never came up.
-    pub fn print(&self) -> usize {
-        let mut missing = 0;
-        for (name, count) in KINDS.iter().zip(&self.counts) {
-            println!("{count:>12}  {name}");
-            missing += usize::from(*count == 0);
-        }
-        missing
-    }
 }

@@ -1,14 +1,8 @@
 //! The branches of the correction of signs and of its refusals, and how often each came up.
 
-macro_rules! kinds {
-    ($($name:ident : $text:expr,)*) => {
-        #[derive(Clone, Copy)]
-        #[repr(usize)]
-        #[allow(dead_code)] // sums and orders are hit by their texts
-        pub enum Kind { $($name,)* }
-        pub const KINDS: &[&str] = &[$($text,)*];
-    };
-}
+#[path = "../kinds.rs"]
+#[macro_use]
+mod kinds;
 
 kinds! {
     Channels1: "accepted, 1 channel",
@@ -141,38 +135,4 @@ kinds! {
     Order10And11: "order, 10 before 11",
     Order10And12: "order, 10 before 12",
     Order11And12: "order, 11 before 12",
-}
-
-pub struct Seen {
-    pub counts: Vec<u64>,
-}
-
-impl Seen {
-    pub fn new() -> Seen {
-        Seen { counts: vec![0; KINDS.len()] }
-    }
-
-    pub fn hit(&mut self, kind: Kind) {
-        self.counts[kind as usize] += 1;
-    }
-
-    pub fn hit_if(&mut self, yes: bool, kind: Kind) {
-        self.counts[kind as usize] += u64::from(yes);
-    }
-
-    /// The kind with this text.
-    pub fn hit_named(&mut self, text: &str) {
-        let kind = KINDS.iter().position(|name| *name == text).expect("a kind");
-        self.counts[kind] += 1;
-    }
-
-    /// Prints the counts and answers how many never came up.
-    pub fn print(&self) -> usize {
-        let mut missing = 0;
-        for (name, count) in KINDS.iter().zip(&self.counts) {
-            println!("{count:>12}  {name}");
-            missing += usize::from(*count == 0);
-        }
-        missing
-    }
 }
