@@ -9,7 +9,6 @@ ghost use Rattle.inputs.specs.Inner.{Fits, Sampled};
 ghost use Rattle.inputs.specs.Bounds.{inBounds};
 ghost use Rattle.inputs.specs.Window as Windows;
 use detectors::texel;
-use inputs::sizes;
 use inputs::sizes::Bitmap;
 use inputs::sizes::Window;
 
@@ -89,7 +88,7 @@ pub fn centre_at(xs: &[f32], b: Window, x: usize, y: usize) -> Centre
 pub fn in_bounds(b: Window, nx: usize, ny: usize) -> bool
     ensures { λ r. ⌜ r ≡ inBounds (b .width) (b .height) nx ny ⌝ }
 {
-    sizes::in_bounds(b.width, b.height, nx, ny)
+    0 < nx && (nx <= b.width && (0 < ny && ny <= b.height))
 }
 
 // The texel at column nx and row ny, counted from 1.

@@ -1,8 +1,4 @@
-// The sizes of a bitmap, and of a window of a sheet, and what lies inside.
-ghost use mathlib.Core.Path.{_≡_};
-ghost use Rattle.inputs.specs.Bounds.{inBounds};
-
-// The sizes of a bitmap.
+// The sizes of a bitmap, and of a window of a sheet.
 pub struct Bitmap {
     pub width: usize,
     pub height: usize,
@@ -17,11 +13,4 @@ pub struct Window {
     pub channels: usize,
     pub origin: usize,
     pub stride: usize,
-}
-
-// Column nx and row ny, counted from 1, are inside.
-pub fn in_bounds(width: usize, height: usize, nx: usize, ny: usize) -> bool
-    ensures { λ r. ⌜ r ≡ inBounds width height nx ny ⌝ }
-{
-    0 < nx && (nx <= width && (0 < ny && ny <= height))
 }

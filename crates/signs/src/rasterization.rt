@@ -6,6 +6,7 @@ ghost use lib.Dec.{T, eqb};
 ghost use lib.IntN.{pos};
 ghost use lib.ListN.{length, getD};
 ghost use lib.Ieee.{nan, isNan};
+ghost use Rattle.inputs.specs.Bounds.{inBounds};
 ghost use Rattle.numbers.specs.Scalar.{medianOf};
 ghost use Rattle.ground.specs.Lists.{tab};
 ghost use Rattle.signs.specs.Flip as Flip;
@@ -15,7 +16,6 @@ ghost use Rattle.signs.specs.Signs as Signs;
 ghost use Rattle.signs.specs.Inner.{twoOf, flippedAt, turnsAt, Mapped, Numbers};
 use crate::checks;
 use inputs::checks::Refusal;
-use inputs::sizes;
 use inputs::sizes::Bitmap;
 
 // The value turned over to the other side.
@@ -115,12 +115,19 @@ fn clear_matches(matches: &mut [i8])
     }
 }
 
-// The match at column nx and row ny, counted from 1, and 0 where they are not inside.
+// Column nx and row ny, counted from 1, are inside.
+fn in_bounds(b: Bitmap, nx: usize, ny: usize) -> bool
+    ensures { λ r. ⌜ r ≡ inBounds (b .width) (b .height) nx ny ⌝ }
+{
+    0 < nx && (nx <= b.width && (0 < ny && ny <= b.height))
+}
+
+// The match there, and 0 where they are not.
 fn match_near(ms: &[i8], b: Bitmap, nx: usize, ny: usize) -> i32
     requires { ⌜ Mapped (b .width) (b .height) (now ms) ⌝ }
     ensures { λ r. ⌜ r ≡ Signs.matchNear (b .width) (b .height) (now (ms .entry)) nx ny ⌝ }
 {
-    if sizes::in_bounds(b.width, b.height, nx, ny) {
+    if in_bounds(b, nx, ny) {
         let m = ms[(ny - 1) * b.width + (nx - 1)];
         return m as i32;
     }

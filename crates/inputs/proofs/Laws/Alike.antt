@@ -21,8 +21,6 @@ use Rattle.inputs.proofs.stencil.fill.Reads as fill
 use Rattle.inputs.proofs.stencil.count_cells.Kinds as count-cells-kinds
 use Rattle.inputs.proofs.stencil.count_cells.Reads as count-cells
 use Rattle.inputs.proofs.room.clear.Reads as clear
-use Rattle.inputs.proofs.sizes.in_bounds.Kinds as in-bounds-kinds
-use Rattle.inputs.proofs.sizes.in_bounds.Reads as in-bounds
 use Rattle.inputs.proofs.checks.bad_channels.Kinds as bad-channels-kinds
 use Rattle.inputs.proofs.checks.bad_channels.Reads as bad-channels
 use Rattle.inputs.proofs.checks.bad_size.Kinds as bad-size-kinds
@@ -74,10 +72,6 @@ cleared-alike κs a z z' e e' = alike
 -- The counts.
 pub count-cells-alike : Alike 1 count-cells-kinds.ps count-cells-kinds.r count-cells.Post
 count-cells-alike κs a r s e f = alike
-
--- Whether a column and a row are inside.
-pub in-bounds-alike : Alike 0 in-bounds-kinds.ps in-bounds-kinds.r in-bounds.Post
-in-bounds-alike κs a r s e f = alike
 
 -- Whether check 1 fails, and check 2, and whether check 6 fails of one sample.
 pub bad-channels-alike : Alike 0 bad-channels-kinds.ps bad-channels-kinds.r bad-channels.Post
