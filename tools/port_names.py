@@ -26,7 +26,7 @@ linear-at match-map or-else refused-text root-at row-found row_made sample-after
 # Of these, the ones that are spelled like a function of src/ or a definition elsewhere: they turn only in the files that declare or import the lemma.
 SHARED = {"cell_in", "filled_at", "is_below", "row_made", "some_of", "by_value", "in_bounds"}
 # A proposition is in camel case; it too turns only where it is declared or imported.
-TYPES = {"finite": "Finite"}
+TYPES = {"finite": "IsFinite"}
 
 
 def snake(name):

@@ -9,7 +9,7 @@ use lib.Ieee.{Float, binary64, le, mul, of_bits}
 use borrow.Author.Tests.{eqb-true, eqb-false, eq-eqb}
 use Rattle.ranges.specs.Constants.{limit_of, tolerance}
 use Rattle.numbers.proofs.Laws.Order as Order
-use Rattle.numbers.proofs.Laws.Order.{nought, Finite}
+use Rattle.numbers.proofs.Laws.Order.{nought, IsFinite}
 use Rattle.numbers.proofs.Laws.Monotone.{narrow_mono, mul_number, mul_mono, mul_mono_right}
 use Rattle.ranges.specs.declared.config.Settings.{Settings}
 use Rattle.ground.specs.Lists.{any, some}
@@ -42,7 +42,7 @@ unfolding of_bits
 length_not_negative v p = holds _ (length_bounds v p).0
 
 -- A length that passes check 5 is finite.
-pub length_finite : (v : Float) → bad_length v ≡ false → Finite v
+pub length_finite : (v : Float) → bad_length v ≡ false → IsFinite v
 unfolding of_bits
 length_finite v p = Order.between_finite nought v (limit_of binary64) tt tt (length_not_negative v p) (holds _ (length_bounds v p).1)
 

@@ -14,7 +14,7 @@ use lib.Ieee.Fits.{add-fits, sub-fits, and_i, and_l, and_r}
 use lib.Ieee.Bits.{is_false}
 use Rattle.numbers.specs.Constants.{zero_of, one_of}
 use Rattle.numbers.specs.Whole.{Finite}
-use Rattle.numbers.proofs.Laws.Order.{Finite, lt_trans}
+use Rattle.numbers.proofs.Laws.Order.{IsFinite, lt_trans}
 use Rattle.numbers.proofs.Laws.Bounds.{Within, within_finite, within_held, add_within, sub_within}
 use Rattle.numbers.proofs.Laws.Exact.{div_by_zero}
 use Rattle.numbers.proofs.Laws.Difference.{sub_zero}
@@ -112,7 +112,7 @@ not_inside t o = is_false (inside t) (not_T (inside t) (λ h. subst T o (and_i (
     (lt_trans (zero_of binary64) epsilon t (unfold lt in unfold of_bits in tt) (and_l (lt epsilon t) (lt t one_less_epsilon) h))
     (lt_trans t one_less_epsilon (one_of binary64) (and_r (lt epsilon t) (lt t one_less_epsilon) h) (unfold lt in unfold of_bits in tt)))))
 
-by_zero : (x d : Float) → Finite x → eq d (zero_of binary64) ≡ true → inside (div binary64 x d) ≡ false
+by_zero : (x d : Float) → IsFinite x → eq d (zero_of binary64) ≡ true → inside (div binary64 x d) ≡ false
 unfolding of_bits
 by_zero x d i h = elim (div_by_zero binary64 x d i h) [ inl e ↦ ap inside e ∙ not_inside nan nan_outside | inr e ↦ ap inside e.1 ∙ not_inside (inf e.0) (inf_outside e.0) ]
 

@@ -3,7 +3,7 @@ use Rattle.std.proofs.Common.{◌≡◌, Bool, true, false, not, ◌&&◌, ◌||
 use lib.Ieee.{Float, nan, inf, fin, binary32, unlike, neg, add, sub, div, lt, le, fits, of_bits}
 use Rattle.numbers.specs.Constants.{zero_of}
 use Rattle.numbers.proofs.Laws.Order as Order
-use Rattle.numbers.proofs.Laws.Order.{nought, Finite}
+use Rattle.numbers.proofs.Laws.Order.{nought, IsFinite}
 use Rattle.ground.proofs.Laws.Bools.{both_fail}
 use Rattle.detectors.specs.Pairs.{inside}
 use Rattle.detectors.specs.Linear.{crossing}
@@ -14,11 +14,11 @@ abbrev pub opposite : Float → Float → Bool
 opposite dA dB = (lt (zero_of binary32) dA && lt dB (zero_of binary32)) || (lt dA (zero_of binary32) && lt (zero_of binary32) dB)
 
 -- of finite values, one that is not above another is at most that
-at_most : (x y : Float) → Finite x → Finite y → lt y x ≡ false → T (le x y)
+at_most : (x y : Float) → IsFinite x → IsFinite y → lt y x ≡ false → T (le x y)
 at_most x y i j h = Order.le_of_not_lt y x (Order.finite_number y j) (Order.finite_number x i) (subst (λ (b : Bool). T (not b)) (sym h) tt)
 
 -- of finite values, by whether dA is above 0, below it, or neither
-finite_same : (dA dB : Float) → T (fits binary32 dA) → Finite dA → Finite dB → opposite dA dB ≡ false → inside (crossing dA dB) ≡ false
+finite_same : (dA dB : Float) → T (fits binary32 dA) → IsFinite dA → IsFinite dB → opposite dA dB ≡ false → inside (crossing dA dB) ≡ false
 unfolding of_bits
 finite_same dA dB f i j h =
     let k = both_fail (lt nought dA && lt dB nought) (lt dA nought && lt nought dB) h in

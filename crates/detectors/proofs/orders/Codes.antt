@@ -9,7 +9,7 @@ use Rattle.std.proofs.Common.{◌≡◌, ℕ, ◌+◌, ◌*◌, ◌/◌, ◌%◌
 use lib.Ieee.{Float, binary32, sub, neg, le, lt, eq, fits, of_bits}
 use lib.Ieee.Fits.{and_l, and_r, sub-fits}
 use Rattle.numbers.proofs.Laws.Order as Order
-use Rattle.numbers.proofs.Laws.Order.{nought, Finite}
+use Rattle.numbers.proofs.Laws.Order.{nought, IsFinite}
 use Rattle.numbers.proofs.Laws.Bounds.{within_of_le, within_finite}
 use Rattle.numbers.proofs.floats.Differences.{or_split}
 use Rattle.ground.specs.Lists.{some}
@@ -181,7 +181,7 @@ difference_held : (a : List Float) (p : ℕ) → T (fits binary32 (difference a 
 unfolding difference
 difference_held a p = sub-fits binary32 (channel a (next p)) (channel a p)
 
-difference_finite : (a : List Float) (p : ℕ) → Told a p → Finite (difference a p)
+difference_finite : (a : List Float) (p : ℕ) → Told a p → IsFinite (difference a p)
 unfolding difference
 difference_finite a p h = within_finite 12 (sub binary32 (channel a (next p)) (channel a p)) (difference_within (channel a (next p)) (channel a p) h.to h.from)
 

@@ -9,7 +9,7 @@ use Rattle.numbers.specs.Scalar.{abs_of}
 use Rattle.numbers.specs.SquareRoot.{sqrt_of}
 use Rattle.numbers.specs.EquationSolver.{is_linear, linear_roots, discriminant, upper_root, lower_root, square_roots_by, square_roots, roots_of}
 use Rattle.numbers.proofs.Laws.Order as Order
-use Rattle.numbers.proofs.Laws.Order.{plus, minus, AtMost, nought, Finite}
+use Rattle.numbers.proofs.Laws.Order.{plus, minus, AtMost, nought, IsFinite}
 use Rattle.numbers.proofs.Laws.Monotone.{add_number, sub_number, mul_number, add_mono_right, sub_anti_right, mul_mono_left}
 use Rattle.numbers.proofs.floats.Compared.{le_or_lt}
 use Rattle.numbers.proofs.floats.Differences.{or_split}
@@ -62,8 +62,8 @@ disc_of d X t Y r f l =
         Bool_no q = subst (λ (b : Bool). T b) q tt
     go false N m p q h = omega arith
 
-pub root_finite : (d : Float) (X : ℕ) (t : Bool) (Y : ℕ) → Disc d X t Y → Finite (sqrt_of d)
-root_finite d X t Y r = subst Finite (sym r.root.is) tt
+pub root_finite : (d : Float) (X : ℕ) (t : Bool) (Y : ℕ) → Disc d X t Y → IsFinite (sqrt_of d)
+root_finite d X t Y r = subst IsFinite (sym r.root.is) tt
 
 root_positive : (d : Float) (X : ℕ) (t : Bool) (Y : ℕ) → Disc d X t Y → T (le nought (sqrt_of d))
 root_positive d X t Y r = r.root.from nought 0 1 (zero-lt-suc 0) (unfold fits in tt) (nought_value 1) (omega arith)
@@ -139,7 +139,7 @@ unfolding sub
 minus_known n s β W u Z h b w p q e =
     add_known binary64 n (neg (unit W)) s (β * 128) true W 37 u Z (lit≤ tt) (small (β * 128) W (omega arith)) (finer n s β 30 7 h) (neg_value (unit W) false W (2 ^ 37) (unit_value W w)) p q e
 
-module _ (n s w : Float) (i : Finite n) (j : Finite s) (k : Finite w) where
+module _ (n s w : Float) (i : IsFinite n) (j : IsFinite s) (k : IsFinite w) where
   plus_le : T (le s w) → T (le (add binary64 n s) (add binary64 n w))
   plus_le h = add_mono_right binary64 n s w h (add_number binary64 n s i j) (add_number binary64 n w i k)
 
@@ -576,7 +576,7 @@ dominated a b c k l =
     let h = fin false 1 (pos 20) in
     let x-is = abs_value a k.sa k.α (2 ^ 30) k.a_is in
     let i = value_finite x false k.α (2 ^ 30) x-is in
-    let j : Finite dominance = unfold of_bits in tt in
+    let j : IsFinite dominance = unfold of_bits in tt in
     values_le (mul binary64 h x) (abs_of b) (1048576 * k.α) k.β (2 ^ 30) (pow_pos 30)
     (mul_value h x false 1048576 1 false k.α (2 ^ 30) (zero-lt-suc 0) (pow_pos 30) factor_fits (abs_fits binary32 a k.a_fits) (refl, refl) x-is)
     (abs_value b k.sb k.β (2 ^ 30) k.b_is)

@@ -9,7 +9,7 @@ use Rattle.numbers.specs.Nearest.{sum_size, sum_sign}
 use Rattle.numbers.specs.SquareRoot.{sqrt_of}
 use Rattle.numbers.specs.EquationSolver.{is_linear, linear_roots, discriminant, upper_root, lower_root, square_roots_by, square_roots, roots_of}
 use Rattle.numbers.proofs.Laws.Order as Order
-use Rattle.numbers.proofs.Laws.Order.{plus, minus, AtMost, nought, Finite}
+use Rattle.numbers.proofs.Laws.Order.{plus, minus, AtMost, nought, IsFinite}
 use Rattle.numbers.proofs.Laws.Monotone.{round_at_most, add_number, add_mono_left, mul_comm as times-comm, mul_neg}
 use Rattle.numbers.proofs.floats.Differences.{summed, round_neg, of_level, zero_of_law}
 use Rattle.numbers.proofs.floats.Held.{value_unique}
@@ -26,7 +26,7 @@ round_not f true r c = sym (Order.neg_neg (round f false r c)) ∙ ap neg (sym (
 round_not f false r c = round_neg f r c
 
 -- The sum of the negatives equals the sum's negative.
-pub add_neg : (f : Format) (x y : Float) → Finite x → Finite y → T (eq (add f (neg x) (neg y)) (neg (add f x y)))
+pub add_neg : (f : Format) (x y : Float) → IsFinite x → IsFinite y → T (eq (add f (neg x) (neg y)) (neg (add f x y)))
 unfolding neg add
 add_neg f (fin s m e) (fin t n d) i j =
     let a = m * up e * down d in
@@ -65,20 +65,20 @@ add_neg f (fin s m e) (fin t n d) i j =
         go false true P M h k = let e : r ≡ r' = omega arith in (omega (arith, ap (λ (x : ℕ). x * c) e), omega (arith, ap (λ (x : ℕ). x * c) e))
         go false false P M h k = let e : r + r' ≡ 0 = omega arith in (omega (arith, ap (λ (x : ℕ). x * c) e), omega (arith, ap (λ (x : ℕ). x * c) e))
 
-eq_finite : (x y : Float) → Finite x → T (eq x y) → Finite y
+eq_finite : (x y : Float) → IsFinite x → T (eq x y) → IsFinite y
 unfolding eq
 eq_finite (fin s m e) nan i h = h
 eq_finite (fin s m e) (inf t) i h = h
 eq_finite (fin s m e) (fin t n d) i h = tt
 
-neg_finite_back : (x : Float) → Finite (neg x) → Finite x
+neg_finite_back : (x : Float) → IsFinite (neg x) → IsFinite x
 unfolding neg
 neg_finite_back nan h = h
 neg_finite_back (inf s) h = h
 neg_finite_back (fin s m e) h = tt
 
 -- Equal values give equal sums.
-pub add_alike : (f : Format) (x x' y : Float) → Finite x → Finite x' → Finite y → T (eq x x') → T (eq (add f x y) (add f x' y))
+pub add_alike : (f : Format) (x x' y : Float) → IsFinite x → IsFinite x' → IsFinite y → T (eq x x') → T (eq (add f x y) (add f x' y))
 add_alike f x x' y i i' j h =
     let m = add_number f x y i j in
     let n = add_number f x' y i' j in
@@ -217,10 +217,10 @@ module _ (a b c : Float) (k : Coefficients (neg a) (neg b) (neg c)) where
   abbrev d' : Float
   d' = discriminant (neg a) (neg b) (neg c)
 
-  n_finite : Finite (neg b)
+  n_finite : IsFinite (neg b)
   n_finite = finite_of (neg b) k.sb k.β k.b_is
     where
-      finite_of : (x : Float) (s : Bool) (X : ℕ) → HasValue x s X (2 ^ 30) → Finite x
+      finite_of : (x : Float) (s : Bool) (X : ℕ) → HasValue x s X (2 ^ 30) → IsFinite x
       finite_of nan s X h = h
       finite_of (inf t) s X h = h
       finite_of (fin t m e) s X h = tt
@@ -234,10 +234,10 @@ module _ (a b c : Float) (k : Coefficients (neg a) (neg b) (neg c)) where
   above_at : T (lt (zero_of binary64) d) → T (lt (zero_of binary64) d')
   above_at h = subst (λ (z : Float). T (lt (zero_of binary64) z)) (sym (disc_neg a b c)) h
 
-  root_at_law : 0 < k.α → T (lt (zero_of binary64) d) → Finite (sqrt_of d)
+  root_at_law : 0 < k.α → T (lt (zero_of binary64) d) → IsFinite (sqrt_of d)
   root_at_law p l =
       let q = pieces (neg a) (neg b) (neg c) k p in
-      subst (λ (z : Float). Finite (sqrt_of z)) (disc_neg a b c)
+      subst (λ (z : Float). IsFinite (sqrt_of z)) (disc_neg a b c)
       (root_finite d' (k.β * k.β) (not k.sa) (4 * k.α * k.γ) (disc_of d' (k.β * k.β) (not k.sa) (4 * k.α * k.γ) q.d_is q.d_fits (above_at l)))
 
   y_is : mul binary64 two (neg a) ≡ neg (mul binary64 two a)
@@ -287,17 +287,17 @@ module _ (a b c : Float) (k : Coefficients (neg a) (neg b) (neg c)) where
 
 -- ---- the coefficients of the negatives
 module _ (A B D : Float) (h : Sorted (neg A) (neg B) (neg D)) where
-  A_finite' : Finite A
+  A_finite' : IsFinite A
   A_finite' = neg_finite_back A (A_finite (neg A) (neg B) (neg D) h)
 
-  B_finite' : Finite B
+  B_finite' : IsFinite B
   B_finite' = neg_finite_back B (B_finite (neg A) (neg B) (neg D) h)
 
-  D_finite' : Finite D
+  D_finite' : IsFinite D
   D_finite' = neg_finite_back D (D_finite (neg A) (neg B) (neg D) h)
 
   -- −x + y and −(x − y)
-  sub_neg : (x y : Float) → Finite x → Finite y → T (eq (sub binary32 (neg x) (neg y)) (neg (sub binary32 x y)))
+  sub_neg : (x y : Float) → IsFinite x → IsFinite y → T (eq (sub binary32 (neg x) (neg y)) (neg (sub binary32 x y)))
   sub_neg x y i j = unfold sub in add_neg binary32 x (neg y) i (neg_finite y j)
 
   abbrev u' : Float
@@ -306,10 +306,10 @@ module _ (A B D : Float) (h : Sorted (neg A) (neg B) (neg D)) where
   abbrev v' : Float
   v' = sub binary32 B A
 
-  u'_finite : Finite u'
+  u'_finite : IsFinite u'
   u'_finite = neg_finite_back u' (eq_finite (sub binary32 (neg D) (neg B)) (neg u') (u_finite (neg A) (neg B) (neg D) h) (sub_neg D B D_finite' B_finite'))
 
-  v'_finite : Finite v'
+  v'_finite : IsFinite v'
   v'_finite = neg_finite_back v' (eq_finite (sub binary32 (neg B) (neg A)) (neg v') (v_finite (neg A) (neg B) (neg D) h) (sub_neg B A B_finite' A_finite'))
 
   a_alike : T (eq (add binary32 (sub binary32 (neg D) (neg B)) (neg A)) (neg (add binary32 u' A)))
@@ -324,7 +324,7 @@ module _ (A B D : Float) (h : Sorted (neg A) (neg B) (neg D)) where
       (sub_alike (sub binary32 (neg B) (neg A)) (neg v') (neg A) (v_finite (neg A) (neg B) (neg D) h) (neg_finite v' v'_finite) (neg_finite A A_finite') (sub_neg B A B_finite' A_finite'))
       (sub_neg v' A v'_finite A_finite')
     where
-      sub_alike : (x x' y : Float) → Finite x → Finite x' → Finite y → T (eq x x') → T (eq (sub binary32 x y) (sub binary32 x' y))
+      sub_alike : (x x' y : Float) → IsFinite x → IsFinite x' → IsFinite y → T (eq x x') → T (eq (sub binary32 x y) (sub binary32 x' y))
       sub_alike x x' y i i' j e = unfold sub in add_alike binary32 x x' (neg y) i i' (neg_finite y j) e
 
   coefficients_neg : Coefficients (neg (add binary32 u' A)) (neg (sub binary32 v' A)) (neg A)

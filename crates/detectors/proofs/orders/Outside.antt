@@ -6,7 +6,7 @@ use lib.Ieee.Fits.{up_pos, down_pos, and_l, and_r}
 use lib.Ieee.Bits.{is_false}
 use Rattle.ranges.specs.Constants.{epsilon, one_less_epsilon}
 use Rattle.numbers.proofs.Laws.Order as Order
-use Rattle.numbers.proofs.Laws.Order.{plus, minus, AtMost, nought, Finite}
+use Rattle.numbers.proofs.Laws.Order.{plus, minus, AtMost, nought, IsFinite}
 use Rattle.numbers.proofs.Laws.Monotone.{round_at_most, sub_number, sub_not_negative, sub_mono_left, sub_anti_right}
 use Rattle.numbers.proofs.Laws.Exact.{round_held, sub_exact_eq, add_zero_eq}
 use Rattle.numbers.proofs.floats.Differences.{round_zero}
@@ -201,7 +201,7 @@ unfolding fits
 zero_fits f = tt
 
 -- x − y ≤ 0 where x ≤ y
-pub sub_not_positive : (f : Format) (x y : Float) → Finite x → Finite y → T (le x y) → T (le (sub f x y) nought)
+pub sub_not_positive : (f : Format) (x y : Float) → IsFinite x → IsFinite y → T (le x y) → T (le (sub f x y) nought)
 sub_not_positive f x (fin t n d) i j h =
     let y = fin t n d in
     Order.le_trans (sub f x y) (sub f y y) nought (sub_mono_left f x y y h (sub_number f x y i j) (sub_number f y y j j))
@@ -211,14 +211,14 @@ sub_not_positive f x (fin t n d) i j h =
     own true a c = omega arith
     own false a c = omega arith
 
-less_nothing : (x : Float) → Finite x → T (fits binary32 x) → T (le (sub binary32 x nought) x) × T (le x (sub binary32 x nought))
+less_nothing : (x : Float) → IsFinite x → T (fits binary32 x) → T (le (sub binary32 x nought) x) × T (le x (sub binary32 x nought))
 less_nothing (fin s m e) i p =
     let x = fin s m e in
     let q = add_zero_eq binary32 x true p (unfold is_nan in tt) in
     unfold sub neg in (Order.le_of_eq (add binary32 x (fin true 0 (pos 0))) x q, Order.ge_of_eq (add binary32 x (fin true 0 (pos 0))) x q)
 
 -- The crossing of two values that are not negative is not inside.
-pub crossing_outside : (dA dB : Float) → T (fits binary32 dA) → Finite dA → Finite dB → T (le nought dA) → T (le nought dB) → inside (crossing dA dB) ≡ false
+pub crossing_outside : (dA dB : Float) → T (fits binary32 dA) → IsFinite dA → IsFinite dB → T (le nought dA) → T (le nought dB) → inside (crossing dA dB) ≡ false
 unfolding crossing
 crossing_outside dA dB p i j h k = elim (Order.le_total dA dB (Order.finite_number dA i) (Order.finite_number dB j)) [
   | inl l ↦ quotient_low_neg dA (sub binary32 dA dB) h (sub_not_positive binary32 dA dB i j l)
@@ -230,7 +230,7 @@ crossing_outside dA dB p i j h k = elim (Order.le_total dA dB (Order.finite_numb
 ]
 
 -- The crossing of two values that are not positive is not inside.
-pub crossing_outside_neg : (dA dB : Float) → T (fits binary32 dA) → Finite dA → Finite dB → T (le dA nought) → T (le dB nought) → inside (crossing dA dB) ≡ false
+pub crossing_outside_neg : (dA dB : Float) → T (fits binary32 dA) → IsFinite dA → IsFinite dB → T (le dA nought) → T (le dB nought) → inside (crossing dA dB) ≡ false
 unfolding crossing
 crossing_outside_neg dA dB p i j h k = elim (Order.le_total dA dB (Order.finite_number dA i) (Order.finite_number dB j)) [
   | inr l ↦ quotient_low dA (sub binary32 dA dB) h (sub_not_negative binary32 dA dB l (sub_number binary32 dA dB i j))

@@ -6,7 +6,7 @@ use lib.Ieee.Digits.{back}
 use lib.Ieee.Fits.{down_pos, neg-fits, sub-fits, add-fits}
 use lib.Ieee.Exact.{HasValue, round_exact}
 use Rattle.numbers.proofs.Laws.Order as Order
-use Rattle.numbers.proofs.Laws.Order.{plus, minus, AtMost, nought, Finite}
+use Rattle.numbers.proofs.Laws.Order.{plus, minus, AtMost, nought, IsFinite}
 use Rattle.numbers.proofs.Laws.Monotone.{add_number, sub_number, add_comm, add_mono_left, add_mono_right, sub_mono_left, sub_anti_right, sub_not_negative}
 use Rattle.numbers.proofs.Laws.Exact.{add_zero_eq}
 use Rattle.numbers.proofs.Laws.Bounds.{Within, within_finite, between_within, add_within, sub_within}
@@ -54,7 +54,7 @@ grid s m e f h =
           (mul_assoc (m * up e) (2 ^ 30) (2 ^ 119) ∙ k.value ∙ ap (λ (x : ℕ). x * down e) (sym split) ∙ mul_right_comm X (2 ^ 119) (down e)),
     )
 
-grid_of : (x : Float) → T (fits binary32 x) → Finite x → T (le least x) → (X : ℕ) × HasValue x false X (2 ^ 30)
+grid_of : (x : Float) → T (fits binary32 x) → IsFinite x → T (le least x) → (X : ℕ) × HasValue x false X (2 ^ 30)
 grid_of (fin s m e) f i h =
     let g = sign s (m * up e) (down e) (down_pos e) (Order.le→at_most false 1 (negsuc 6) s m e h) in
     let r = grid s m e f g.1 in
@@ -76,7 +76,7 @@ most_value = (refl, refl)
 middle_value : HasValue most_middle false (2 ^ 44) (2 ^ 30)
 middle_value = (refl, refl)
 
-upper_finite : (x y : Float) → Finite y → T (le nought x) → T (le x y) → Finite x
+upper_finite : (x y : Float) → IsFinite y → T (le nought x) → T (le x y) → IsFinite x
 upper_finite x y j h k = Order.between_finite nought x y tt j h k
 
 -- ---- zero, or a size that is at least 2 ^ -7
@@ -98,7 +98,7 @@ pub record Grid (x : Float) : Type 0 where
   more : plus s X ≡ X
   less : minus s X ≡ 0
 
-grid_sized : (x : Float) → T (fits binary32 x) → Finite x → Sized x → Grid x
+grid_sized : (x : Float) → T (fits binary32 x) → IsFinite x → Sized x → Grid x
 grid_sized x f i (inr h) = let g = grid_of x f i h in record { s = false; X = g.0; value = g.1; more = refl; less = refl }
 grid_sized (fin s m e) f i (inl h) =
     record { s = s; X = 0; value = (refl, ap (λ (z : ℕ). z * 2 ^ 30) (zero_value (fin s m e) s (m * up e) (down e) (refl, refl) (unfold of_bits in h)) ∙ zero-mul (2 ^ 30) ∙ sym (zero-mul (down e))); more = nil s; less = nil' s }
@@ -166,23 +166,23 @@ step : (x y : Float) (s : Bool) (X : ℕ) (t : Bool) (Y : ℕ) → HasValue x s 
 step x y s X t Y h k b = step_at 30 x y s X t Y (lit≤ tt) (lt_of_le_of_lt b (lit< tt)) h k
 
 -- ---- with a zero
-pub grown : (f : Format) (x s : Float) → Finite x → T (fits f x) → Finite s → T (le nought s) → T (le x (add f x s))
+pub grown : (f : Format) (x s : Float) → IsFinite x → T (fits f x) → IsFinite s → T (le nought s) → T (le x (add f x s))
 grown f x s i p j h =
     Order.le_trans x (add f x nought) (add f x s)
     (Order.ge_of_eq (add f x nought) x (add_zero_eq f x false p (Order.finite_number x i)))
     (add_mono_right f x nought s h (add_number f x nought i tt) (add_number f x s i j))
 
-shrunk : (f : Format) (x s : Float) → Finite x → T (fits f x) → Finite s → T (le nought s) → T (le (sub f x s) x)
+shrunk : (f : Format) (x s : Float) → IsFinite x → T (fits f x) → IsFinite s → T (le nought s) → T (le (sub f x s) x)
 shrunk f x s i p j h =
     Order.le_trans (sub f x s) (sub f x nought) x
     (sub_anti_right f x nought s h (sub_number f x nought i tt) (sub_number f x s i j))
     (unfold sub neg in Order.le_of_eq (add f x (fin true 0 (pos 0))) x (add_zero_eq f x true p (Order.finite_number x i)))
 
-pub neg_finite : (x : Float) → Finite x → Finite (neg x)
+pub neg_finite : (x : Float) → IsFinite x → IsFinite (neg x)
 unfolding neg
 neg_finite (fin s m e) i = tt
 
-from_nothing : (f : Format) (x : Float) → Finite x → T (fits f x) → T (le (sub f nought x) (neg x)) × T (le (neg x) (sub f nought x))
+from_nothing : (f : Format) (x : Float) → IsFinite x → T (fits f x) → T (le (sub f nought x) (neg x)) × T (le (neg x) (sub f nought x))
 unfolding sub
 from_nothing f x i p =
     let e = add_zero_eq f (neg x) false (neg-fits f x p) (Order.finite_number (neg x) (neg_finite x i)) in
@@ -240,13 +240,13 @@ module _ (A B D : Float) (h : Sorted A B D) where
   D_least' : T (le nought D)
   D_least' = sized_positive D h.D_sized
 
-  pub A_finite : Finite A
+  pub A_finite : IsFinite A
   A_finite = upper_finite A most tt A_least' h.A_most
 
-  pub B_finite : Finite B
+  pub B_finite : IsFinite B
   B_finite = upper_finite B most_middle tt h.B_least h.B_most
 
-  pub D_finite : Finite D
+  pub D_finite : IsFinite D
   D_finite = upper_finite D most tt D_least' h.D_most
 
   A_within : Within 12 A
@@ -273,19 +273,19 @@ module _ (A B D : Float) (h : Sorted A B D) where
   u_within : Within 15 u
   u_within = sub_within binary32 12 14 14 D B (lit≤ tt) (lit≤ tt) (lit≤ tt) D_within B_within
 
-  pub u_finite : Finite u
+  pub u_finite : IsFinite u
   u_finite = within_finite 15 u u_within
 
   v_within : Within 15 v
   v_within = sub_within binary32 14 12 14 B A (lit≤ tt) (lit≤ tt) (lit≤ tt) B_within A_within
 
-  pub v_finite : Finite v
+  pub v_finite : IsFinite v
   v_finite = within_finite 15 v v_within
 
-  a_finite : Finite a
+  a_finite : IsFinite a
   a_finite = within_finite 16 a (add_within binary32 15 12 15 u A (lit≤ tt) (lit≤ tt) (lit≤ tt) u_within A_within)
 
-  b_finite : Finite b
+  b_finite : IsFinite b
   b_finite = within_finite 16 b (sub_within binary32 15 12 15 v A (lit≤ tt) (lit≤ tt) (lit≤ tt) v_within A_within)
 
   A_grid : Grid A

@@ -3,7 +3,7 @@ use Rattle.std.proofs.Common.{◌≡◌, ℕ, false, T, ◌⊎◌, pos, ap, subs
 use lib.Ieee.{Float, binary32, fin, add, sub, neg, le, fits}
 use lib.Ieee.Fits.{neg-fits, sub-fits}
 use Rattle.numbers.proofs.Laws.Order as Order
-use Rattle.numbers.proofs.Laws.Order.{nought, Finite}
+use Rattle.numbers.proofs.Laws.Order.{nought, IsFinite}
 use Rattle.numbers.proofs.Laws.Monotone.{add_number, sub_number, add_comm, add_mono_left, sub_not_negative}
 use Rattle.numbers.proofs.Laws.Exact.{add_zero_eq}
 use Rattle.numbers.proofs.Laws.Bounds.{Within, within_finite, le_of_within, neg_within, add_within, sub_within}
@@ -23,7 +23,7 @@ pub record Sample (x : Float) : Type 0 where
   pub fit : T (fits binary32 x)
   pub within : Within 11 x
 
-pub finite_of : (x : Float) → Sample x → Finite x
+pub finite_of : (x : Float) → Sample x → IsFinite x
 finite_of x h = within_finite 11 x h.within
 
 pub difference_within : (x y : Float) → Sample x → Sample y → Within 12 (sub binary32 x y)
@@ -56,7 +56,7 @@ together_negative bp bj cp cj p q r s h k =
     let down : T (le (add binary32 x cj) cj) = fallen x cj i j s.fit (sub_not_positive binary32 bj bp (finite_of bj q) (finite_of bp p) h) in
     sub_not_positive binary32 (add binary32 x cj) cp (within_finite 13 (add binary32 x cj) (sum_within bp bj cp cj p q r s)) (finite_of cp r) (Order.le_trans (add binary32 x cj) cj cp down k)
   where
-    fallen : (x c : Float) → Finite x → Finite c → T (fits binary32 c) → T (le x nought) → T (le (add binary32 x c) c)
+    fallen : (x c : Float) → IsFinite x → IsFinite c → T (fits binary32 c) → T (le x nought) → T (le (add binary32 x c) c)
     fallen x c i j f l =
         Order.le_trans (add binary32 x c) (add binary32 nought c) c (add_mono_left binary32 x nought c l (add_number binary32 x c i j) (add_number binary32 nought c tt j))
         (subst (λ (z : Float). T (le z c)) (add_comm binary32 c nought) (Order.le_of_eq (add binary32 c nought) c (add_zero_eq binary32 c false f (Order.finite_number c j))))

@@ -4,7 +4,7 @@ use lib.Ieee.{Float, nan, inf, fin, binary32, down, add, sub, neg, le, eq, fits,
 use lib.Ieee.Fits.{down_pos, neg-fits}
 use lib.Ieee.Exact.{HasValue}
 use Rattle.numbers.proofs.Laws.Order as Order
-use Rattle.numbers.proofs.Laws.Order.{plus, minus, AtMost, nought, Finite}
+use Rattle.numbers.proofs.Laws.Order.{plus, minus, AtMost, nought, IsFinite}
 use Rattle.numbers.proofs.Laws.Monotone.{add_number, sub_number, add_comm, add_mono_left, add_mono_right, sub_mono_left}
 use Rattle.numbers.proofs.Laws.Exact.{add_zero_eq}
 use Rattle.numbers.proofs.Laws.Bounds.{Within, within_finite, neg_within}
@@ -126,7 +126,7 @@ kept c h =
         last ps ms pn mn pa ma pb mb E F u e g a b c d = omega arith
 
 -- ---- b and c together
-sub_alike : (x x' y : Float) → Finite x → Finite x' → Finite y → T (eq x x') → T (eq (sub binary32 x y) (sub binary32 x' y))
+sub_alike : (x x' y : Float) → IsFinite x → IsFinite x' → IsFinite y → T (eq x x') → T (eq (sub binary32 x y) (sub binary32 x' y))
 unfolding sub
 sub_alike x x' y i i' j e = add_alike binary32 x x' (neg y) i i' (neg_finite y j) e
 
@@ -160,7 +160,7 @@ together_sized bp bj cp cj p q r s (inr l) k =
 neg_sample : (x : Float) → Sample x → Sample (neg x)
 neg_sample x h = record { fit = neg-fits binary32 x h.fit; within = neg_within 11 x h.within }
 
-sub_neg : (x y : Float) → Finite x → Finite y → T (eq (sub binary32 (neg x) (neg y)) (neg (sub binary32 x y)))
+sub_neg : (x y : Float) → IsFinite x → IsFinite y → T (eq (sub binary32 (neg x) (neg y)) (neg (sub binary32 x y)))
 unfolding sub
 sub_neg x y i j = add_neg binary32 x (neg y) i (neg_finite y j)
 

@@ -8,14 +8,14 @@ use lib.Ieee.Exact.{HasValue}
 use Rattle.numbers.specs.Constants.{zero_of}
 use Rattle.ranges.specs.Constants.{epsilon, one_less_epsilon}
 use Rattle.numbers.proofs.Laws.Order as Order
-use Rattle.numbers.proofs.Laws.Order.{plus, minus, AtMost, nought, Finite}
+use Rattle.numbers.proofs.Laws.Order.{plus, minus, AtMost, nought, IsFinite}
 use Rattle.numbers.proofs.Laws.Monotone.{round_at_most, add_number, sub_number, add_mono_right, sub_anti_right}
 use Rattle.numbers.proofs.Laws.Exact.{round_held, add_zero_eq}
 use Rattle.numbers.proofs.floats.Differences.{of_below, of_level, zero_of_law}
 use Rattle.detectors.specs.Pairs.{inside}
 use Rattle.detectors.proofs.orders.Outside.{nan_outside, inf_outside, fin_div, fin_high, fin_low}
 
-pub value_finite : (x : Float) (s : Bool) (X L : ℕ) → HasValue x s X L → Finite x
+pub value_finite : (x : Float) (s : Bool) (X L : ℕ) → HasValue x s X L → IsFinite x
 value_finite nan s X L h = h
 value_finite (inf t) s X L h = h
 value_finite (fin t m e) s X L h = tt
@@ -128,13 +128,13 @@ value_zero (fin u m e) s X L P h l =
     subst (λ (n : ℕ). T (eq (fin u n e) nought)) (sym z) (Order.eq_zeros u e false (pos 0))
 
 -- ---- with what is not negative added or taken off
-pub grown : (x s : Float) → Finite x → T (fits binary64 x) → Finite s → T (le nought s) → T (le x (add binary64 x s))
+pub grown : (x s : Float) → IsFinite x → T (fits binary64 x) → IsFinite s → T (le nought s) → T (le x (add binary64 x s))
 grown x s i p j h =
     Order.le_trans x (add binary64 x nought) (add binary64 x s)
     (Order.ge_of_eq (add binary64 x nought) x (add_zero_eq binary64 x false p (Order.finite_number x i)))
     (add_mono_right binary64 x nought s h (add_number binary64 x nought i tt) (add_number binary64 x s i j))
 
-pub shrunk : (x s : Float) → Finite x → T (fits binary64 x) → Finite s → T (le nought s) → T (le (sub binary64 x s) x)
+pub shrunk : (x s : Float) → IsFinite x → T (fits binary64 x) → IsFinite s → T (le nought s) → T (le (sub binary64 x s) x)
 shrunk x s i p j h =
     Order.le_trans (sub binary64 x s) (sub binary64 x nought) x
     (sub_anti_right binary64 x nought s h (sub_number binary64 x nought i tt) (sub_number binary64 x s i j))

@@ -14,7 +14,7 @@ use Rattle.numbers.specs.SquareRoot.{sqrt_of, normal_root}
 use Rattle.numbers.specs.EquationSolver.{is_linear, linear_roots, discriminant, upper_root, lower_root, square_roots_by, square_roots, roots_of, normal_roots_of}
 use Rattle.numbers.specs.Whole.{Finite}
 use Rattle.numbers.proofs.floats.Differences.{Signed, round_signed}
-use Rattle.numbers.proofs.Laws.Order.{one, Finite, le→at_most, lt_not_le, ge_of_abs_le, le_of_abs_le}
+use Rattle.numbers.proofs.Laws.Order.{one, IsFinite, le→at_most, lt_not_le, ge_of_abs_le, le_of_abs_le}
 use Rattle.numbers.proofs.Laws.Monotone.{add_comm, add_number, add_mono_left}
 use Rattle.numbers.proofs.Laws.Exact.{round_value}
 use Rattle.numbers.proofs.Laws.Bounds.{Within, within_more, within_finite, neg_within, le_of_within, mul_within}
@@ -76,7 +76,7 @@ above_outside x h = go (lt (zero_of binary64) x) (lt x one) (is_false (lt x one)
 
 -- ---- quotients
 -- one of what is not finite, or by it, is outside
-quotient_outside : (x y : Float) → (Finite x → Finite y → Outside (div binary64 x y)) → Outside (div binary64 x y)
+quotient_outside : (x y : Float) → (IsFinite x → IsFinite y → Outside (div binary64 x y)) → Outside (div binary64 x y)
 unfolding div
 quotient_outside nan y h = nan_outside
 quotient_outside (inf s) nan h = nan_outside
@@ -111,19 +111,19 @@ huge_quotient k x y h w = quotient_outside x y (λ i j. go x y i j h w)
     positive zero h = absurd h
     positive (suc n) h = zero-lt-suc n
 
-    go : (x y : Float) → Finite x → Finite y → Huge k x → Within k y → Outside (div binary64 x y)
+    go : (x y : Float) → IsFinite x → IsFinite y → Huge k x → Within k y → Outside (div binary64 x y)
     go (fin s m e) (fin t n d) i j h w =
         unfold div in by (eqb n 0) (eqb m 0) (unlike s t) _ (λ z. round_outside (unlike s t) (m * up e * down d) (n * up d * down e) (mul-pos (mul-pos (positive n z) (up_pos d)) (down_pos e))
         (le_trans (mul-le-mul_right (down e) w) (le_trans (le_of_eq (mul_right_comm (2 ^ k) (down d) (down e))) (mul-le-mul_right (down d) h))))
 
 -- ---- what a finite result is made of
-neg_finite : (x : Float) → Finite (neg x) → Finite x
+neg_finite : (x : Float) → IsFinite (neg x) → IsFinite x
 unfolding neg
 neg_finite nan i = i
 neg_finite (inf s) i = i
 neg_finite (fin s m e) i = tt
 
-add_finite : (x y : Float) → Finite (add binary64 x y) → Finite x
+add_finite : (x y : Float) → IsFinite (add binary64 x y) → IsFinite x
 unfolding add
 add_finite nan y i = i
 add_finite (inf s) nan i = i
@@ -134,10 +134,10 @@ add_finite (inf false) (inf false) i = i
 add_finite (inf s) (fin t n d) i = i
 add_finite (fin s m e) y i = tt
 
-add_finite_second : (x y : Float) → Finite (add binary64 x y) → Finite y
-add_finite_second x y i = add_finite y x (subst Finite (add_comm binary64 x y) i)
+add_finite_second : (x y : Float) → IsFinite (add binary64 x y) → IsFinite y
+add_finite_second x y i = add_finite y x (subst IsFinite (add_comm binary64 x y) i)
 
-mul_finite_second : (x y : Float) → Finite (mul binary64 x y) → Finite y
+mul_finite_second : (x y : Float) → IsFinite (mul binary64 x y) → IsFinite y
 unfolding mul
 mul_finite_second nan y i = absurd i
 mul_finite_second (inf s) nan i = i
@@ -146,12 +146,12 @@ mul_finite_second (inf s) (fin t n d) i = tt
 mul_finite_second (fin s m e) nan i = i
 mul_finite_second (fin s m e) (inf t) i = go (eqb m 0) (unlike s t) i
   where
-    go : (p u : Bool) → Finite (cond p nan (inf u)) → ⊥
+    go : (p u : Bool) → IsFinite (cond p nan (inf u)) → ⊥
     go true u i = i
     go false u i = i
 mul_finite_second (fin s m e) (fin t n d) i = tt
 
-discriminant_finite : (a b c : Float) → Finite (discriminant a b c) → Finite c
+discriminant_finite : (a b c : Float) → IsFinite (discriminant a b c) → IsFinite c
 unfolding discriminant sub
 discriminant_finite a b c i =
     let y = mul binary64 (mul binary64 four a) c in
@@ -166,13 +166,13 @@ unfolding AllOutside
 both a b s h k = (h, (k, tt))
 
 -- They are outside where one of a, b and s is not finite.
-roots_outside : (a b s : Float) → (Finite a → Finite b → Finite s → ⊥) → Both a b s
+roots_outside : (a b s : Float) → (IsFinite a → IsFinite b → IsFinite s → ⊥) → Both a b s
 roots_outside a b s h =
     both a b s
     (unfold upper_root in at s h)
     (unfold lower_root in unfold sub in at (neg s) (λ i j k. h i j (neg_finite s k)))
   where
-    at : (s : Float) → (Finite a → Finite b → Finite s → ⊥) → Outside (div binary64 (add binary64 (neg b) s) (mul binary64 two a))
+    at : (s : Float) → (IsFinite a → IsFinite b → IsFinite s → ⊥) → Outside (div binary64 (add binary64 (neg b) s) (mul binary64 two a))
     at s h = quotient_outside (add binary64 (neg b) s) (mul binary64 two a)
         (λ i j. absurd (h (mul_finite_second two a j) (neg_finite b (add_finite (neg b) s i)) (add_finite_second (neg b) s i)))
 
@@ -220,19 +220,19 @@ huge_outside a b v w =
     at s = huge_quotient 512 (add binary64 (neg b) (fin s 1 (pos 512))) (mul binary64 two a) (huge_sum s (neg b) (neg_within 128 b w)) double
 
 -- ---- together
-above_infinite : (x : Float) → lt (zero_of binary64) x ≡ true → (Finite x → ⊥) → x ≡ inf false
+above_infinite : (x : Float) → lt (zero_of binary64) x ≡ true → (IsFinite x → ⊥) → x ≡ inf false
 unfolding lt of_bits
 above_infinite nan h n = absurd (false≢true h)
 above_infinite (inf true) h n = absurd (false≢true h)
 above_infinite (inf false) h n = refl
 above_infinite (fin s m e) h n = absurd (n tt)
 
-ended : (x : Float) → Finite x ⊎ (Finite x → ⊥)
+ended : (x : Float) → IsFinite x ⊎ (IsFinite x → ⊥)
 ended nan = inr (λ i. i)
 ended (inf s) = inr (λ i. i)
 ended (fin s m e) = inl tt
 
-held : (x : Float) → Finite x → T (fits binary32 x) → Finite binary32 x
+held : (x : Float) → IsFinite x → T (fits binary32 x) → Finite binary32 x
 held (fin s m e) i p = p
 
 -- With a discriminant of ∞ one root of it is 2 ^ 512, and the other ∞.
@@ -240,7 +240,7 @@ infinite : (a b d : Float) → d ≡ inf false → Within 128 a → Within 128 b
 unfolding sqrt_of
 infinite a b d e v w = (
   subst (Both a b) (sym (ap (λ (x : Float). normal_root (to_bits binary64 x)) e ∙ infinite_root)) (huge_outside a b v w),
-  roots_outside a b (sqrt_of d) (λ i j k. subst Finite (ap sqrt_of e) k),
+  roots_outside a b (sqrt_of d) (λ i j k. subst IsFinite (ap sqrt_of e) k),
 )
 
 pub beyond : (a b c : Float) → T (fits binary32 a) → T (fits binary32 b) → T (fits binary32 c)

@@ -25,7 +25,7 @@ use Rattle.numbers.specs.Whole.{Finite}
 use Rattle.numbers.specs.Scalar.{mix_of, min_of, max_of, median_of, abs_of}
 use Rattle.numbers.proofs.floats.Differences.{summed, sum_size_law, round_neg, Signed, round_signed}
 use Rattle.numbers.proofs.floats.Values.{with_value}
-use Rattle.numbers.proofs.Laws.Order.{AtMost, nought, one, Finite, finite_number, le→at_most, at_most→le, number_right, le_of_lt, not_below, not_above}
+use Rattle.numbers.proofs.Laws.Order.{AtMost, nought, one, IsFinite, finite_number, le→at_most, at_most→le, number_right, le_of_lt, not_below, not_above}
 use Rattle.numbers.proofs.Laws.Monotone.{rest_lo, rest_hi}
 use Rattle.numbers.proofs.Laws.Exact.{round_value}
 use Rattle.numbers.proofs.Laws.Scalar.{min_keeps, max_keeps, median_keeps}
@@ -43,8 +43,8 @@ within_cases P k (fin s m e) w c = c s m e w
 pub within_more : (j k : ℕ) (x : Float) → j ≤ k → Within j x → Within k x
 within_more j k x h w = within_cases (Within k) j x w (λ s m e l. le_trans l (mul-le-mul_right (down e) (pow_mono h)))
 
-pub within_finite : (k : ℕ) (x : Float) → Within k x → Finite x
-within_finite k x w = within_cases Finite k x w (λ s m e l. tt)
+pub within_finite : (k : ℕ) (x : Float) → Within k x → IsFinite x
+within_finite k x w = within_cases IsFinite k x w (λ s m e l. tt)
 
 pub within_no_nan : (k : ℕ) (x : Float) → Within k x → T (not (is_nan x))
 within_no_nan k x w = finite_number x (within_finite k x w)
@@ -105,7 +105,7 @@ between_within k (fin s m e) (fin true o q) (fin t n d) v w h g =
     up_to true a b h = omega arith
     up_to false a b h = omega arith
 
-pub between_strictly : (lo x hi : Float) → T (lt lo x) → T (lt x hi) → Finite x
+pub between_strictly : (lo x hi : Float) → T (lt lo x) → T (lt x hi) → IsFinite x
 between_strictly lo nan hi h g = unfold is_nan in number_right lo nan (le_of_lt lo nan h)
 between_strictly lo (inf true) hi h g = not_below lo h
 between_strictly lo (inf false) hi h g = not_above hi g

@@ -27,7 +27,7 @@ use Rattle.numbers.specs.Rounding.{narrow_of}
 use Rattle.numbers.specs.Nearest.{sum_size, sum_sign}
 use Rattle.numbers.specs.Whole.{steps}
 use Rattle.numbers.proofs.floats.Differences.{scale_plus, scale_minus, summed, unlike_false, zero_of_law}
-use Rattle.numbers.proofs.Laws.Order.{plus, minus, nought, Finite, eq_refl, eq_zeros}
+use Rattle.numbers.proofs.Laws.Order.{plus, minus, nought, IsFinite, eq_refl, eq_zeros}
 use Rattle.numbers.proofs.Laws.Whole.{steps_is, steps_value}
 use Rattle.numbers.proofs.floats.Values.{with_value, mul_value}
 pub use Rattle.numbers.proofs.floats.Values.{rescale, div_value}
@@ -152,7 +152,7 @@ over_zero f s m e t d = go (eqb m 0)
     go true = inl refl
     go false = inr refl
 
-pub div_by_zero : (f : Format) (x y : Float) → Finite x → eq y nought ≡ true → (div f x y ≡ nan) ⊎ ((s : Bool) × (div f x y ≡ inf s))
+pub div_by_zero : (f : Format) (x y : Float) → IsFinite x → eq y nought ≡ true → (div f x y ≡ nan) ⊎ ((s : Bool) × (div f x y ≡ inf s))
 unfolding eq
 div_by_zero f (fin s m e) nan i h = absurd (false≢true h)
 div_by_zero f (fin s m e) (inf t) i h = absurd (false≢true h)

@@ -25,7 +25,7 @@ use Rattle.numbers.specs.Scalar.{abs_of, mix_of}
 use Rattle.numbers.specs.Rounding.{narrow_of}
 use Rattle.numbers.specs.Nearest.{sum_size, sum_sign}
 use Rattle.numbers.proofs.floats.Differences.{of_at_most, summed, sum_comm, sums_order, products_order, unlike_false, round_neg, Signed, signed_number, round_signed, round_zero, zero_of_law}
-use Rattle.numbers.proofs.Laws.Order.{plus, minus, AtMost, nought, one, Finite, finite_number, le→at_most, at_most→le, le_cases, le_refl, le_trans, le_inf, inf_le, le_neg, neg_neg, neg_number, between_finite, le_of_abs_le, ge_of_abs_le}
+use Rattle.numbers.proofs.Laws.Order.{plus, minus, AtMost, nought, one, IsFinite, finite_number, le→at_most, at_most→le, le_cases, le_refl, le_trans, le_inf, inf_le, le_neg, neg_neg, neg_number, between_finite, le_of_abs_le, ge_of_abs_le}
 
 -- ---- rounding
 pub round_number : (f : Format) (s : Bool) (a c : ℕ) → T (not (is_nan (round f s a c)))
@@ -67,7 +67,7 @@ narrow_mono = le_cases (λ x y. T (le (narrow_of x) (narrow_of y))) (λ y n. inf
     (λ s m e t n d h. round_at_most binary32 s (m * up e) (down e) t (n * up d) (down d) (down_pos e) (down_pos d) h)
 
 -- ---- sums
-pub finite_add_number : (f : Format) (x y : Float) → Finite x → T (not (is_nan y)) → T (not (is_nan (add f x y)))
+pub finite_add_number : (f : Format) (x y : Float) → IsFinite x → T (not (is_nan y)) → T (not (is_nan (add f x y)))
 unfolding add is_nan
 finite_add_number f (fin s m e) nan i j = j
 finite_add_number f (fin s m e) (inf t) i j = tt
@@ -76,7 +76,7 @@ finite_add_number f (fin s m e) (fin t n d) i j =
     let b = n * up d * down e in
     subst (λ (z : Float). T (not (is_nan z))) (sym (summed f s a t b (down e * down d)).is) (round_number f (sum_sign s a t b) (sum_size s a t b) (down e * down d))
 
-pub add_number : (f : Format) (x y : Float) → Finite x → Finite y → T (not (is_nan (add f x y)))
+pub add_number : (f : Format) (x y : Float) → IsFinite x → IsFinite y → T (not (is_nan (add f x y)))
 add_number f x y i j = finite_add_number f x y i (finite_number y j)
 
 pub add_comm : (f : Format) (x y : Float) → add f x y ≡ add f y x
@@ -146,11 +146,11 @@ pub add_mono_right : (f : Format) (x y y' : Float) → T (le y y') → T (not (i
 add_mono_right f x y y' = rw (add_comm f x y, add_comm f x y') (add_mono f x y y')
 
 -- ---- differences
-pub finite_sub_number : (f : Format) (x y : Float) → Finite x → T (not (is_nan y)) → T (not (is_nan (sub f x y)))
+pub finite_sub_number : (f : Format) (x y : Float) → IsFinite x → T (not (is_nan y)) → T (not (is_nan (sub f x y)))
 unfolding sub
 finite_sub_number f x y i j = finite_add_number f x (neg y) i (subst (λ (b : Bool). T (not b)) (sym (neg_number y)) j)
 
-pub sub_number : (f : Format) (x y : Float) → Finite x → Finite y → T (not (is_nan (sub f x y)))
+pub sub_number : (f : Format) (x y : Float) → IsFinite x → IsFinite y → T (not (is_nan (sub f x y)))
 sub_number f x y i j = finite_sub_number f x y i (finite_number y j)
 
 pub sub_mono_left : (f : Format) (x x' y : Float) → T (le x x') → T (not (is_nan (sub f x y))) → T (not (is_nan (sub f x' y))) → T (le (sub f x y) (sub f x' y))
@@ -189,7 +189,7 @@ sub_not_negative f x y h n =
         unfold add in subst (λ (z : Float). T (le nought z)) (sym a.is) (round_not_negative f u r c (mul-pos (down_pos e) (down_pos d)) (gap u r c s A t B h a.value))
 
 -- ---- products
-pub mul_number : (f : Format) (x y : Float) → Finite x → Finite y → T (not (is_nan (mul f x y)))
+pub mul_number : (f : Format) (x y : Float) → IsFinite x → IsFinite y → T (not (is_nan (mul f x y)))
 unfolding mul
 mul_number f (fin s m e) (fin t n d) i j = round_number f (unlike s t) (m * up e * (n * up d)) (down e * down d)
 
@@ -299,7 +299,7 @@ pub mul_mono_right : (f : Format) (x y y' : Float) → T (le nought x) → T (le
 mul_mono_right f x y y' = rw (mul_comm f x y, mul_comm f x y') (times_mono f x y y')
 
 -- a value that is not negative is finite, or ∞
-up_to : (x : Float) → T (le nought x) → Finite x ⊎ (x ≡ inf false)
+up_to : (x : Float) → T (le nought x) → IsFinite x ⊎ (x ≡ inf false)
 unfolding le
 up_to nan h = absurd h
 up_to (inf true) h = absurd h
@@ -375,7 +375,7 @@ mix_mono_second a b b' w lo hi h i j =
     narrow_mono (add binary64 x y) (add binary64 x y') (add_mono_right binary64 x y y' (mul_mono_right binary64 w b b' lo h (number_second binary64 x y m) (number_second binary64 x y' n)) m n)
 
 -- a finite value of binary32 is below 2 ^ 128 in size
-held_bound : (x : Float) → T (fits binary32 x) → Finite x → T (le (abs_of x) bound)
+held_bound : (x : Float) → T (fits binary32 x) → IsFinite x → T (le (abs_of x) bound)
 unfolding abs_of fits
 held_bound (fin s zero e) h i = at_most→le false 0 e false 1 (pos 128) (least (up e) (1 * 2 ^ 128 * down e))
   where
@@ -389,12 +389,12 @@ held_bound (fin s (suc m) e) h i =
     go : (a B c : ℕ) → a < B * c → AtMost false (a * 1) false (1 * B * c)
     go a B c h = omega arith
 
-neg_finite : (x : Float) → Finite x → Finite (neg x)
+neg_finite : (x : Float) → IsFinite x → IsFinite (neg x)
 unfolding neg
 neg_finite (fin s m e) i = tt
 
 -- a product of a weight and a value of at most 2 ^ 128 in size is finite
-product_finite : (w x : Float) → T (le nought w) → T (le w one) → T (le (abs_of x) bound) → Finite (mul binary64 w x)
+product_finite : (w x : Float) → T (le nought w) → T (le w one) → T (le (abs_of x) bound) → IsFinite (mul binary64 w x)
 product_finite w x lo hi h =
     let i = between_finite nought w one tt tt lo hi in
     let below = ge_of_abs_le x bound h in
@@ -408,13 +408,13 @@ product_finite w x lo hi h =
     whole : mul binary64 one bound ≡ bound
     whole = unfold mul in refl
 
-    most : (x : Float) → Finite w → Finite x → T (le x bound) → T (le (mul binary64 w x) bound)
+    most : (x : Float) → IsFinite w → IsFinite x → T (le x bound) → T (le (mul binary64 w x) bound)
     most x i j h =
         let n = mul_number binary64 w bound i tt in
         le_trans (mul binary64 w x) (mul binary64 w bound) bound (mul_mono_right binary64 w x bound lo h (mul_number binary64 w x i j) n)
         (subst (λ (v : Float). T (le (mul binary64 w bound) v)) whole (mul_mono_left binary64 w one bound (positive 1 (pos 128)) hi n (mul_number binary64 one bound tt tt)))
 
-pub mix_number : (a b w : Float) → T (fits binary32 a) → T (fits binary32 b) → Finite a → Finite b → T (le nought w) → T (le w one) → T (not (is_nan (mix_of a b w)))
+pub mix_number : (a b w : Float) → T (fits binary32 a) → T (fits binary32 b) → IsFinite a → IsFinite b → T (le nought w) → T (le w one) → T (not (is_nan (mix_of a b w)))
 unfolding mix_of of_bits
 mix_number a b w A B i j lo hi =
     let v = sub binary64 one w in

@@ -30,7 +30,7 @@ use Rattle.numbers.proofs.floats.Differences.{of_below, summed}
 use Rattle.numbers.proofs.floats.Held.{held, count}
 use Rattle.numbers.proofs.floats.Patterns.{to_bits_val, size_gt}
 use Rattle.numbers.proofs.floats.Values.{with_value}
-use Rattle.numbers.proofs.Laws.Order.{plus, minus, Finite, le→at_most, below_over, le_trans as float-le-trans}
+use Rattle.numbers.proofs.Laws.Order.{plus, minus, IsFinite, le→at_most, below_over, le_trans as float-le-trans}
 use Rattle.numbers.proofs.Laws.Exact.{round_value, single_short}
 use Rattle.numbers.proofs.Laws.Difference.{counted, one_at_least}
 use Rattle.numbers.proofs.Laws.Bounds.{Within, within_finite, value_within, mul_within, sub_within}
@@ -51,7 +51,7 @@ written_normal a lo hi =
     go : (k q : ℕ) → k ≤ 2045 → 4503599627370496 ≤ q → q < 9007199254740992 → (hid binary64 ≤ 0 + k * hid binary64 + q) × (0 + k * hid binary64 + q < ones binary64 * hid binary64)
     go k q K lo hi = (omega arith, omega arith)
 
-pub normal_least : (x : Float) → T (fits binary64 x) → Finite x → T (le (fin false 1 (negsuc 1021)) x) → PositiveNormal x
+pub normal_least : (x : Float) → T (fits binary64 x) → IsFinite x → T (le (fin false 1 (negsuc 1021)) x) → PositiveNormal x
 normal_least (fin true m e) p i h = absurd (none (down e) (m * up e * 2 ^ 1022) (down_pos e) (le→at_most false 1 (negsuc 1021) true m e h))
   where
     none : (d b : ℕ) → 0 < d → 1 * 1 * d + b ≤ 0 + 0 → ⊥

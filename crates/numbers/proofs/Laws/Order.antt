@@ -48,12 +48,12 @@ minus_nought = fin true 0 (pos 0)
 abbrev pub one : Float
 one = fin false 1 (pos 0)
 
-abbrev pub Finite : Float → Type 0
-Finite nan = ⊥
-Finite (inf s) = ⊥
-Finite (fin s m e) = Unit
+abbrev pub IsFinite : Float → Type 0
+IsFinite nan = ⊥
+IsFinite (inf s) = ⊥
+IsFinite (fin s m e) = Unit
 
-pub finite_number : (x : Float) → Finite x → T (not (is_nan x))
+pub finite_number : (x : Float) → IsFinite x → T (not (is_nan x))
 unfolding is_nan
 finite_number (fin s m e) i = tt
 
@@ -236,7 +236,7 @@ le_trans x y z h k = le_cases (λ x y. T (le y z) → T (le x z)) (λ y n l. inf
     past s m e t n d (fin v o g) h k =
         at_most→le s m e v o g (through s (m * up e) (down e) t (n * up d) (down d) v (o * up g) (down g) (down_pos d) h (le→at_most t n d v o g k))
 
-pub between_finite : (lo x hi : Float) → Finite lo → Finite hi → T (le lo x) → T (le x hi) → Finite x
+pub between_finite : (lo x hi : Float) → IsFinite lo → IsFinite hi → T (le lo x) → T (le x hi) → IsFinite x
 unfolding le
 between_finite (fin s m e) nan (fin t n d) i j h k = absurd k
 between_finite (fin s m e) (inf true) (fin t n d) i j h k = absurd h

@@ -22,7 +22,7 @@ use lib.Ieee.Exact.{HasValue, round_exact}
 use lib.Ieee.Scale.{round_same}
 use Rattle.numbers.specs.Nearest.{apart, distance, Closest, Nearest, sum_size, sum_sign}
 use Rattle.numbers.specs.Whole.{Finite, signed, steps, whole_of}
-use Rattle.numbers.proofs.Laws.Order.{plus, minus, Finite, finite_number, lt_over, le_of_eq as le-of-level, ge_of_eq, le_of_not_lt, lt_not_le, eq_of_le_le, ltb_over}
+use Rattle.numbers.proofs.Laws.Order.{plus, minus, IsFinite, finite_number, lt_over, le_of_eq as le-of-level, ge_of_eq, le_of_not_lt, lt_not_le, eq_of_le_le, ltb_over}
 use Rattle.numbers.proofs.Laws.Nearest.{round_nearest, round_is, sub_nearest, sum_exact, other_sign}
 use Rattle.numbers.proofs.Laws.Whole.{value_held, steps_value, whole_of_value, abs_signed}
 use Rattle.numbers.proofs.Laws.Bounds.{Within}
@@ -145,7 +145,7 @@ le_or_lt a b = go (leb a b) (leb→le a b) (nleb→lt a b)
     go true h k = inl (h tt)
     go false h k = inr (k tt)
 
-whole_finite : (f : Format) (x : Float) → Finite f x → Finite x
+whole_finite : (f : Format) (x : Float) → Finite f x → IsFinite x
 whole_finite f (fin s m e) p = tt
 
 pub lt→whole : (f : Format) (x y : Float) → Finite f x → Finite f y → T (lt x y) → gain (whole_of f x) + loss (whole_of f y) < gain (whole_of f y) + loss (whole_of f x)
@@ -280,7 +280,7 @@ closest_whole f u K m e r n d c q =
     go false false c q = chain (above M) (same false c q) (above N)
 
 -- a value that is nearest to ±K smallest values
-nearest_whole : (f : Format) (u : Bool) (K : ℕ) (x w : Float) → Nearest f u K (2 ^ low f) x → Finite x → Finite f w → nat_abs (whole_of f x -ℤ signed u K) ≤ nat_abs (whole_of f w -ℤ signed u K)
+nearest_whole : (f : Format) (u : Bool) (K : ℕ) (x w : Float) → Nearest f u K (2 ^ low f) x → IsFinite x → Finite f w → nat_abs (whole_of f x -ℤ signed u K) ≤ nat_abs (whole_of f w -ℤ signed u K)
 unfolding whole_of
 nearest_whole f u K (fin t m e) (fin r n d) h i q =
     subst (λ (b : Bool). nat_abs (signed b (steps f m e) -ℤ signed u K) ≤ nat_abs (signed r (steps f n d) -ℤ signed u K)) (sym h.0)
@@ -335,7 +335,7 @@ exactly s A t B =
         → pu + ns + nt' ≡ nu + ps + pt' → gd + ls + gt ≡ ld + gs + lt → gu + ld ≡ gd + lu
     go gu lu pu nu gs ls ps ns gt lt pt nt pt' nt' gd ld a b c d e f g h i j = omega arith
 
-pub sub_whole_nearest : (f : Format) (x y w : Float) → Finite f x → Finite f y → Finite (sub f x y) → Finite f w
+pub sub_whole_nearest : (f : Format) (x y w : Float) → Finite f x → Finite f y → IsFinite (sub f x y) → Finite f w
     → nat_abs (whole_of f (sub f x y) -ℤ (whole_of f x -ℤ whole_of f y)) ≤ nat_abs (whole_of f w -ℤ (whole_of f x -ℤ whole_of f y))
 sub_whole_nearest f (fin s m e) (fin t n d) w p q i r =
     let A = steps f m e in

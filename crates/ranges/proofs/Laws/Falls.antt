@@ -3,7 +3,7 @@ use Rattle.std.proofs.Common.{◌≡◌, Bool, true, not, T, arith}
 use lib.Ieee.{Float, nan, inf, fin, binary64, le, ne, neg, add, sub, mul}
 use Rattle.numbers.specs.Scalar.{median_of}
 use Rattle.numbers.proofs.Laws.Order as Order
-use Rattle.numbers.proofs.Laws.Order.{Finite}
+use Rattle.numbers.proofs.Laws.Order.{IsFinite}
 use Rattle.numbers.proofs.Laws.Monotone.{add_number, add_mono_right, sub_number, sub_anti_right, mul_mono_right}
 use Rattle.numbers.proofs.Laws.Bounds.{Within, within_finite, within_no_nan, mul_within}
 use Rattle.ground.proofs.Laws.Bools.{holds, held, and_implies, or_implies, not_implies}
@@ -28,20 +28,20 @@ candidate_falls protected protected' more am bm xm =
 
 -- ---- ranges
 
-low_end : (x m d d' : Float) → Finite d → Finite d' → T (le d d') → T (le (sub binary64 m d) x) → T (le (sub binary64 m d') x)
+low_end : (x m d d' : Float) → IsFinite d → IsFinite d' → T (le d d') → T (le (sub binary64 m d) x) → T (le (sub binary64 m d') x)
 unfolding sub neg add
 low_end x nan (fin s n e) (fin s' n' e') i i' h p = p
 low_end x (inf t) (fin s n e) (fin s' n' e') i i' h p = p
 low_end x (fin t k f) d d' i i' h p = Order.le_trans _ _ x (sub_anti_right binary64 (fin t k f) d d' h (sub_number binary64 (fin t k f) d tt i) (sub_number binary64 (fin t k f) d' tt i')) p
 
-high_end : (x m d d' : Float) → Finite d → Finite d' → T (le d d') → T (le x (add binary64 m d)) → T (le x (add binary64 m d'))
+high_end : (x m d d' : Float) → IsFinite d → IsFinite d' → T (le d d') → T (le x (add binary64 m d)) → T (le x (add binary64 m d'))
 unfolding add
 high_end x nan (fin s n e) (fin s' n' e') i i' h p = p
 high_end x (inf t) (fin s n e) (fin s' n' e') i i' h p = p
 high_end x (fin t k f) d d' i i' h p = Order.le_trans x _ _ p (add_mono_right binary64 (fin t k f) d d' h (add_number binary64 (fin t k f) d tt i) (add_number binary64 (fin t k f) d' tt i'))
 
 -- What lies within m ± d lies within m ± d' for a larger d', whatever m is.
-pub within_grows : (x m d d' : Float) → Finite d → Finite d' → T (le d d') → within x m d ≡ true → within x m d' ≡ true
+pub within_grows : (x m d d' : Float) → IsFinite d → IsFinite d' → T (le d d') → within x m d ≡ true → within x m d' ≡ true
 unfolding within
 within_grows x m d d' i i' h =
     and_implies (le (sub binary64 m d) x) (le x (add binary64 m d)) (le (sub binary64 m d') x) (le x (add binary64 m d'))
@@ -55,7 +55,7 @@ pub record Between (at xt bt : Float) : Type 0 where
   pub lower : T (le at xt)
   pub upper : T (le xt bt)
 
-reach : (d span span' : Float) → Gap d → Spans span span' → Finite (mul binary64 d span) × Finite (mul binary64 d span') × T (le (mul binary64 d span) (mul binary64 d span'))
+reach : (d span span' : Float) → Gap d → Spans span span' → IsFinite (mul binary64 d span) × IsFinite (mul binary64 d span') × T (le (mul binary64 d span) (mul binary64 d span'))
 reach d span span' g s =
     let u : Within 41 (mul binary64 d span) = mul_within binary64 1 40 d span (omega arith) g.bounded s.first.bounded in
     let v : Within 41 (mul binary64 d span') = mul_within binary64 1 40 d span' (omega arith) g.bounded s.second.bounded in

@@ -3,7 +3,7 @@ use Rattle.std.proofs.Common.{◌≡◌, true, not, T, List, [], ◌∷◌, refl
 use lib.Ieee.{Float, binary64, le, lt, add, sub, mul, is_nan, of_bits}
 use Rattle.numbers.specs.Constants.{zero_of, one_of}
 use Rattle.numbers.specs.Scalar.{median_of}
-use Rattle.numbers.proofs.Laws.Order.{nought, one, Finite, le_of_lt}
+use Rattle.numbers.proofs.Laws.Order.{nought, one, IsFinite, le_of_lt}
 use Rattle.numbers.proofs.Laws.Monotone.{sub_not_negative}
 use Rattle.numbers.proofs.Laws.Bounds.{Within, within_finite, within_no_nan, between_within, median_within, add_within, sub_within, mul_within}
 use Rattle.ground.proofs.Laws.Bools.{holds}
@@ -34,7 +34,7 @@ unfolding of_bits le
 one_weight = weight one tt tt
 
 -- A weight is finite.
-pub weight_finite : (t : Float) → Weight t → Finite t
+pub weight_finite : (t : Float) → Weight t → IsFinite t
 weight_finite t w = within_finite 0 t w.bounded
 
 -- What is strictly between 0 and 1 is a weight.
@@ -69,7 +69,7 @@ gap x y u v h =
 -- every entry is finite
 unfoldable pub AllFinite : List Float → Type 0
 AllFinite [] = Unit
-AllFinite (x ∷ xs) = Finite x × AllFinite xs
+AllFinite (x ∷ xs) = IsFinite x × AllFinite xs
 
 -- A range test between weights, with medians of at most 2 ^ 25 and a span of at most 2 ^ 40, compares finite values.
 pub compared_finite : (span at bt xt am bm xm : Float) → Span span → Weight at → Weight bt → Weight xt → Within 25 am → Within 25 bm → Within 25 xm → AllFinite (compared span at bt xt am bm xm)
@@ -82,8 +82,8 @@ compared_finite span at bt xt am bm xm s p q r a b x =
     reach : (g : Float) → Within 1 g → Within 41 (mul binary64 g span)
     reach g w = mul_within binary64 1 40 g span (omega arith) w s.bounded
 
-    lower : (m d : Float) → Within 25 m → Within 41 d → Finite (sub binary64 m d)
+    lower : (m d : Float) → Within 25 m → Within 41 d → IsFinite (sub binary64 m d)
     lower m d u v = within_finite 42 (sub binary64 m d) (sub_within binary64 25 41 41 m d (omega arith) (omega arith) (omega arith) u v)
 
-    upper : (m d : Float) → Within 25 m → Within 41 d → Finite (add binary64 m d)
+    upper : (m d : Float) → Within 25 m → Within 41 d → IsFinite (add binary64 m d)
     upper m d u v = within_finite 42 (add binary64 m d) (add_within binary64 25 41 41 m d (omega arith) (omega arith) (omega arith) u v)

@@ -34,7 +34,7 @@ use Rattle.ground.proofs.Laws.Bools.{holds}
 use Rattle.numbers.specs.Scalar.{abs_of}
 use Rattle.numbers.specs.Whole.{Finite, signed, steps, whole_of}
 use Rattle.numbers.proofs.Laws.Whole.{abs_signed}
-use Rattle.numbers.proofs.Laws.Order.{plus, minus, nought, Finite, neg_neg, abs_le, le_of_eq as le-of-level, ge_of_eq, eq_held, le_trans as le-through, eq_refl}
+use Rattle.numbers.proofs.Laws.Order.{plus, minus, nought, IsFinite, neg_neg, abs_le, le_of_eq as le-of-level, ge_of_eq, eq_held, le_trans as le-through, eq_refl}
 use Rattle.numbers.proofs.Laws.Monotone.{sub_anti_right}
 use Rattle.numbers.proofs.Laws.Bounds.{Within, within_finite, within_no_nan, within_held, within_of_le, within_more, neg_within, add_within, sub_within}
 use Rattle.numbers.proofs.Laws.Exact.{single_short}
@@ -129,7 +129,7 @@ double_exact z a =
     let E = Z -ℤ whole_of binary32 (neg z) in
     let same : E ≡ pos 2 *ℤ Z = whole_same E (pos 2 *ℤ Z) (go Z (whole_of binary32 (neg z)) (whole_neg binary32 z)) in
     let near = sub_whole_nearest binary32 z (neg z) w.0 (small_held z a) (within_held 20 binary32 (neg z) (neg_within 20 z a.1) (neg-fits binary32 z a.0))
-    (subst Finite (double_sub z) (within_finite 21 (double_of z) (double_within z a.1))) w.1 in
+    (subst IsFinite (double_sub z) (within_finite 21 (double_of z) (double_within z a.1))) w.1 in
     let none : nat_abs (whole_of binary32 w.0 -ℤ E) ≤ 0 = subst (λ (k : ℤ). nat_abs (k -ℤ E) ≤ 0) (sym (w.2 ∙ sym same)) (abs_near E E 0 (omega arith) (omega arith)) in
     ap (whole_of binary32) (double_sub z) ∙ abs_none (whole_of binary32 (sub binary32 z (neg z))) E (le_trans near none) ∙ same
   where
