@@ -115,6 +115,10 @@ huge_quotient k x y h w = quotient_outside x y (λ i j. go x y i j h w)
     go (fin s m e) (fin t n d) i j h w =
         unfold div in by (eqb n 0) (eqb m 0) (unlike s t) _ (λ z. round_outside (unlike s t) (m * up e * down d) (n * up d * down e) (mul-pos (mul-pos (positive n z) (up_pos d)) (down_pos e))
         (le_trans (mul-le-mul_right (down e) w) (le_trans (le_of_eq (mul_right_comm (2 ^ k) (down d) (down e))) (mul-le-mul_right (down d) h))))
+    go nan _ i j h w = elim i [ ]
+    go (inf _) _ i j h w = elim i [ ]
+    go (fin s m e) nan i j h w = elim j [ ]
+    go (fin s m e) (inf _) i j h w = elim j [ ]
 
 -- ---- what a finite result is made of
 neg_finite : (x : Float) → IsFinite (neg x) → IsFinite x
@@ -234,6 +238,8 @@ ended (fin s m e) = inl tt
 
 held : (x : Float) → IsFinite x → T (fits binary32 x) → Finite binary32 x
 held (fin s m e) i p = p
+held nan i p = elim i [ ]
+held (inf _) i p = elim i [ ]
 
 -- With a discriminant of ∞ one root of it is 2 ^ 512, and the other ∞.
 infinite : (a b d : Float) → d ≡ inf false → Within 128 a → Within 128 b → Both a b (normal_root (to_bits binary64 d)) × Both a b (sqrt_of d)

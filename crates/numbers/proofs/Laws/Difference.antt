@@ -197,15 +197,27 @@ sub_positive f (fin s m e) (fin t n d) p q =
     let a = m * up e * down d in
     let b = n * up d * down e in
     (sub_signs f s m e t n d p q).positive ∙ (sum_ordered s a t b).positive ∙ sym (unfold lt in below_is t b s a)
+sub_positive f nan y p q = elim p [ ]
+sub_positive f (inf _) y p q = elim p [ ]
+sub_positive f (fin s m e) nan p q = elim q [ ]
+sub_positive f (fin s m e) (inf _) p q = elim q [ ]
 
 pub sub_zero : (f : Format) (x y : Float) → Finite f x → Finite f y → eq (sub f x y) nought ≡ eq x y
 sub_zero f (fin s m e) (fin t n d) p q =
     let a = m * up e * down d in
     let b = n * up d * down e in
     (sub_signs f s m e t n d p q).zero ∙ (sum_ordered s a t b).zero ∙ sym (unfold eq in level_is s a t b)
+sub_zero f nan y p q = elim p [ ]
+sub_zero f (inf _) y p q = elim p [ ]
+sub_zero f (fin s m e) nan p q = elim q [ ]
+sub_zero f (fin s m e) (inf _) p q = elim q [ ]
 
 pub sub_negative : (f : Format) (x y : Float) → Finite f x → Finite f y → lt (sub f x y) nought ≡ lt x y
 sub_negative f (fin s m e) (fin t n d) p q =
     let a = m * up e * down d in
     let b = n * up d * down e in
     (sub_signs f s m e t n d p q).negative ∙ (sum_ordered s a t b).negative ∙ sym (unfold lt in below_is s a t b)
+sub_negative f nan y p q = elim p [ ]
+sub_negative f (inf _) y p q = elim p [ ]
+sub_negative f (fin s m e) nan p q = elim q [ ]
+sub_negative f (fin s m e) (inf _) p q = elim q [ ]

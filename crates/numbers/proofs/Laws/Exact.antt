@@ -161,6 +161,8 @@ div_by_zero f (fin s m e) (fin t n d) i h =
     let z : n ≡ 0 = zero_of_law n (up d) (up_pos d) (omega (arith, none, zero-mul (down d))) in
     subst (λ (k : ℕ). (div f (fin s m e) (fin t k d) ≡ nan) ⊎ ((w : Bool) × (div f (fin s m e) (fin t k d) ≡ inf w))) (sym z)
     (elim (over_zero f s m e t d) [ inl p ↦ inl p | inr p ↦ inr (unlike s t, p) ])
+div_by_zero f nan y i h = elim i [ ]
+div_by_zero f (inf _) y i h = elim i [ ]
 
 -- ---- sums
 abbrev pub Adds : Float → Float → Float → Type 0

@@ -75,6 +75,8 @@ finite_add_number f (fin s m e) (fin t n d) i j =
     let a = m * up e * down d in
     let b = n * up d * down e in
     subst (λ (z : Float). T (not (is_nan z))) (sym (summed f s a t b (down e * down d)).is) (round_number f (sum_sign s a t b) (sum_size s a t b) (down e * down d))
+finite_add_number f nan y i j = elim i [ ]
+finite_add_number f (inf _) y i j = elim i [ ]
 
 pub add_number : (f : Format) (x y : Float) → IsFinite x → IsFinite y → T (not (is_nan (add f x y)))
 add_number f x y i j = finite_add_number f x y i (finite_number y j)
@@ -192,6 +194,10 @@ sub_not_negative f x y h n =
 pub mul_number : (f : Format) (x y : Float) → IsFinite x → IsFinite y → T (not (is_nan (mul f x y)))
 unfolding mul
 mul_number f (fin s m e) (fin t n d) i j = round_number f (unlike s t) (m * up e * (n * up d)) (down e * down d)
+mul_number f nan y i j = elim i [ ]
+mul_number f (inf _) y i j = elim i [ ]
+mul_number f (fin s m e) nan i j = elim j [ ]
+mul_number f (fin s m e) (inf _) i j = elim j [ ]
 
 unlike_comm : (s t : Bool) → unlike s t ≡ unlike t s
 unlike_comm true true = refl
@@ -388,10 +394,14 @@ held_bound (fin s (suc m) e) h i =
     -- `omega` takes no number of more than 38 digits
     go : (a B c : ℕ) → a < B * c → AtMost false (a * 1) false (1 * B * c)
     go a B c h = omega arith
+held_bound nan h i = elim i [ ]
+held_bound (inf _) h i = elim i [ ]
 
 neg_finite : (x : Float) → IsFinite x → IsFinite (neg x)
 unfolding neg
 neg_finite (fin s m e) i = tt
+neg_finite nan i = elim i [ ]
+neg_finite (inf _) i = elim i [ ]
 
 -- a product of a weight and a value of at most 2 ^ 128 in size is finite
 product_finite : (w x : Float) → T (le nought w) → T (le w one) → T (le (abs_of x) bound) → IsFinite (mul binary64 w x)

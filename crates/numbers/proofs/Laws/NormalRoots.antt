@@ -66,12 +66,16 @@ normal_least (fin false m e) p i h =
     enough M d a L S R e D v h =
         let more : d ≤ M * L = omega arith in
         le_of_mul-le-mul_right (le_trans (le_of_eq (mul_comm S d)) (le_trans (mul-le-mul_right S more) (le_of_eq (mul_assoc M L S ∙ ap (λ (x : ℕ). M * x) e ∙ v)))) D
+normal_least lib.Ieee.nan p i h = elim i [ ]
+normal_least (inf _) p i h = elim i [ ]
 
 -- ---- the discriminant's size
 pub single_within : (x : Float) → Finite binary32 x → Within 128 x
 single_within (fin s m e) p =
     let h = single_short s m e p in
     value_within 128 (fin s m e) s (steps binary32 m e) (2 ^ 149) (pow_pos 149) h.value (le_of_lt h.fine)
+single_within lib.Ieee.nan p = elim p [ ]
+single_within (inf _) p = elim p [ ]
 
 discriminant_fits : (a b c : Float) → T (fits binary64 (discriminant a b c))
 unfolding discriminant
@@ -122,6 +126,12 @@ discriminant_least (fin s m e) (fin t n d) (fin u o g) p q r h =
     subst (λ (v : Float). T (le v (discriminant (fin s m e) (fin t n d) (fin u o g)))) (round_value binary64 (fin false 1 (negsuc 297)) false 1 (2 ^ 298) (pow_pos 298) tt (refl, refl))
     (difference_least (mul binary64 (fin t n d) (fin t n d)) (mul binary64 (mul binary64 four (fin s m e)) (fin u o g)) (unlike s u) (steps binary32 n d * steps binary32 n d) (4 * steps binary32 m e * steps binary32 o g) 298
     (square_exact t n d q) (product_exact s m e u o g p r) (sym (discriminant_positive s m e t n d u o g p q r) ∙ h))
+discriminant_least lib.Ieee.nan b c p q r h = elim p [ ]
+discriminant_least (inf _) b c p q r h = elim p [ ]
+discriminant_least (fin s m e) lib.Ieee.nan c p q r h = elim q [ ]
+discriminant_least (fin s m e) (inf _) c p q r h = elim q [ ]
+discriminant_least (fin s m e) (fin t n d) lib.Ieee.nan p q r h = elim r [ ]
+discriminant_least (fin s m e) (fin t n d) (inf _) p q r h = elim r [ ]
 
 pub discriminant_normal : (a b c : Float) → Finite binary32 a → Finite binary32 b → Finite binary32 c → lt (zero_of binary64) (discriminant a b c) ≡ true → PositiveNormal (discriminant a b c)
 discriminant_normal a b c p q r h =

@@ -56,6 +56,8 @@ IsFinite (fin s m e) = Unit
 pub finite_number : (x : Float) → IsFinite x → T (not (is_nan x))
 unfolding is_nan
 finite_number (fin s m e) i = tt
+finite_number nan i = elim i [ ]
+finite_number (inf _) i = elim i [ ]
 
 -- ---- two finite values compare as fractions
 pub le→at_most : (s : Bool) (m : ℕ) (e : ℤ) (t : Bool) (n : ℕ) (d : ℤ) → T (le (fin s m e) (fin t n d)) → AtMost s (m * up e * down d) t (n * up d * down e)
@@ -242,6 +244,16 @@ between_finite (fin s m e) nan (fin t n d) i j h k = absurd k
 between_finite (fin s m e) (inf true) (fin t n d) i j h k = absurd h
 between_finite (fin s m e) (inf false) (fin t n d) i j h k = absurd k
 between_finite (fin s m e) (fin r o g) (fin t n d) i j h k = tt
+between_finite nan _ hi i j h k = elim i [ ]
+between_finite (inf _) _ hi i j h k = elim i [ ]
+between_finite (fin s m e) nan nan i j h k = elim j [ ]
+between_finite (fin s m e) nan (inf _) i j h k = elim j [ ]
+between_finite (fin s m e) (inf false) nan i j h k = elim j [ ]
+between_finite (fin s m e) (inf false) (inf _) i j h k = elim j [ ]
+between_finite (fin s m e) (inf true) nan i j h k = elim j [ ]
+between_finite (fin s m e) (inf true) (inf _) i j h k = elim j [ ]
+between_finite (fin s m e) (fin r o g) nan i j h k = elim j [ ]
+between_finite (fin s m e) (fin r o g) (inf _) i j h k = elim j [ ]
 
 -- ---- `lt`
 pub lt_of_not_le : (x y : Float) → T (not (is_nan x)) → T (not (is_nan y)) → T (not (le x y)) → T (lt y x)

@@ -84,6 +84,8 @@ zero_true (fin s m e) p =
     once true true = refl
     once true false = refl
     once false c = refl
+zero_true lib.Ieee.nan p = elim p [ ]
+zero_true (lib.Ieee.inf _) p = elim p [ ]
 
 -- and 10^12·|a| is below |b| just where it is of the whole numbers
 dominated_true : (a b : Float) → Finite binary32 a → Finite binary32 b → lt (mul binary64 dominance (abs_of a)) (abs_of b) ≡ ltb (10 ^ 12 * nat_abs (whole_of binary32 a)) (nat_abs (whole_of binary32 b))
@@ -94,6 +96,10 @@ dominated_true (fin s m e) (fin t n d) p q =
     lt_over (mul binary64 dominance (fin false m e)) (fin false n d) false (10 ^ 12 * x) false y (2 ^ 149) (pow_pos 149)
     (dominance_exact false m e (abs_fits binary32 (fin s m e) p)) (steps_value binary32 false n d (abs_fits binary32 (fin t n d) q))
     ∙ sym (λ i. ltb (10 ^ 12 * abs_signed s x i) (abs_signed t y i))
+dominated_true lib.Ieee.nan b p q = elim p [ ]
+dominated_true (lib.Ieee.inf _) b p q = elim p [ ]
+dominated_true (fin s m e) lib.Ieee.nan p q = elim q [ ]
+dominated_true (fin s m e) (lib.Ieee.inf _) p q = elim q [ ]
 
 pub linear_true : (a b : Float) → Finite binary32 a → Finite binary32 b → is_linear a b ≡ true_linear (whole_of binary32 a) (whole_of binary32 b)
 unfolding is_linear true_linear
@@ -217,6 +223,12 @@ square_true (fin s m e) (fin t n d) (fin u o g) p q r =
     by_count (sqrt_of (discriminant (fin s m e) (fin t n d) (fin u o g))) (fin s m e) (fin t n d) (discriminant (fin s m e) (fin t n d) (fin u o g))
     ∙ (λ i. cond (discriminant_positive s m e t n d u o g p q r i) 2 (cond (discriminant_zero s m e t n d u o g p q r i) 1 0))
     ∙ sym (ap square_count (discriminant_signed s x t y u z) ∙ count_signed (unlike s u) (4 * x * z) (y * y))
+square_true lib.Ieee.nan b c p q r = elim p [ ]
+square_true (lib.Ieee.inf _) b c p q r = elim p [ ]
+square_true (fin s m e) lib.Ieee.nan c p q r = elim q [ ]
+square_true (fin s m e) (lib.Ieee.inf _) c p q r = elim q [ ]
+square_true (fin s m e) (fin t n d) lib.Ieee.nan p q r = elim r [ ]
+square_true (fin s m e) (fin t n d) (lib.Ieee.inf _) p q r = elim r [ ]
 
 pub count_true : (a b c : Float) → Finite binary32 a → Finite binary32 b → Finite binary32 c
     → length (roots_of a b c) ≡ true_count (whole_of binary32 a) (whole_of binary32 b) (whole_of binary32 c)

@@ -147,6 +147,8 @@ le_or_lt a b = go (leb a b) (leb→le a b) (nleb→lt a b)
 
 whole_finite : (f : Format) (x : Float) → Finite f x → IsFinite x
 whole_finite f (fin s m e) p = tt
+whole_finite f nan p = elim p [ ]
+whole_finite f (inf _) p = elim p [ ]
 
 pub lt→whole : (f : Format) (x y : Float) → Finite f x → Finite f y → T (lt x y) → gain (whole_of f x) + loss (whole_of f y) < gain (whole_of f y) + loss (whole_of f x)
 unfolding whole_of
@@ -161,6 +163,10 @@ lt→whole f (fin s m e) (fin t n d) p q h =
       gain_signed t b,
       loss_signed t b,
     )
+lt→whole f nan y p q h = elim p [ ]
+lt→whole f (inf _) y p q h = elim p [ ]
+lt→whole f (fin s m e) nan p q h = elim q [ ]
+lt→whole f (fin s m e) (inf _) p q h = elim q [ ]
 
 pub whole→lt : (f : Format) (x y : Float) → Finite f x → Finite f y → gain (whole_of f x) + loss (whole_of f y) < gain (whole_of f y) + loss (whole_of f x) → T (lt x y)
 unfolding whole_of
@@ -169,6 +175,10 @@ whole→lt f (fin s m e) (fin t n d) p q h =
     let b = steps f n d in
     subst T (sym (lt_over (fin s m e) (fin t n d) s a t b (2 ^ low f) (pow_pos (low f)) (steps_value f s m e p) (steps_value f t n d q)))
     (is_below_law s a t b (omega (arith, h, gain_signed s a, loss_signed s a, gain_signed t b, loss_signed t b)))
+whole→lt f nan y p q h = elim p [ ]
+whole→lt f (inf _) y p q h = elim p [ ]
+whole→lt f (fin s m e) nan p q h = elim q [ ]
+whole→lt f (fin s m e) (inf _) p q h = elim q [ ]
 
 pub le→whole : (f : Format) (x y : Float) → Finite f x → Finite f y → T (le x y) → gain (whole_of f x) + loss (whole_of f y) ≤ gain (whole_of f y) + loss (whole_of f x)
 le→whole f x y p q h = elim (le_or_lt (gain (whole_of f x) + loss (whole_of f y)) (gain (whole_of f y) + loss (whole_of f x))) [
@@ -210,6 +220,8 @@ whole_bound f k (fin s m e) p w =
   where
     go : (x c L K n : ℕ) → x * L ≡ n * c → x * L ≤ K * c * L → n * c ≤ K * L * c
     go x c L K n h l = omega arith
+whole_bound f k nan p w = elim p [ ]
+whole_bound f k (inf _) p w = elim p [ ]
 
 -- ---- which numbers are a value's
 pub held_whole : (f : Format) (s : Bool) (q j : ℕ) → q < 2 ^ prec f → q * 2 ^ j < 2 ^ (low f + suc (emax f)) → (w : Float) × Finite f w × (whole_of f w ≡ signed s (q * 2 ^ j))
@@ -285,6 +297,10 @@ unfolding whole_of
 nearest_whole f u K (fin t m e) (fin r n d) h i q =
     subst (λ (b : Bool). nat_abs (signed b (steps f m e) -ℤ signed u K) ≤ nat_abs (signed r (steps f n d) -ℤ signed u K)) (sym h.0)
     (closest_whole f u K m e r n d (subst (λ (b : Bool). Closest f b K (2 ^ low f) m e) h.0 h.2) q)
+nearest_whole f u K nan w h i q = elim h [ ]
+nearest_whole f u K (inf _) w h i q = elim i [ ]
+nearest_whole f u K (fin t m e) nan h i q = elim q [ ]
+nearest_whole f u K (fin t m e) (inf _) h i q = elim q [ ]
 
 -- ---- differences
 -- a difference is the rounded difference of the numbers
@@ -343,3 +359,7 @@ sub_whole_nearest f (fin s m e) (fin t n d) w p q i r =
     let v = sub f (fin s m e) (fin t n d) in
     unfold whole_of in subst (λ (k : ℤ). nat_abs (whole_of f v -ℤ k) ≤ nat_abs (whole_of f w -ℤ k)) (exactly s A t B)
     (nearest_whole f (sum_sign s A (not t) B) (sum_size s A (not t) B) v w (sub_counts f s m e t n d p q) i r)
+sub_whole_nearest f nan y w p q i r = elim p [ ]
+sub_whole_nearest f (inf _) y w p q i r = elim p [ ]
+sub_whole_nearest f (fin s m e) nan w p q i r = elim q [ ]
+sub_whole_nearest f (fin s m e) (inf _) w p q i r = elim q [ ]
