@@ -10,7 +10,7 @@ use detectors::texel;
 use inputs::sizes::{Bitmap, Window};
 
 // A texel among its neighbours: its first three channels, their median's value, its column and its row.
-#[derive(Drop)]
+#[derive(Clone, Copy)]
 pub struct Centre {
     pub texel: [f32; 3],
     pub median: f32,

@@ -10,7 +10,7 @@ use inputs::sizes::{Bitmap, Window};
 use ranges::config::Settings;
 
 // Where a cell lies: the column and the row of its first texel, its width and its height.
-#[derive(Drop)]
+#[derive(Clone, Copy)]
 pub struct Area {
     pub x: usize,
     pub y: usize,
@@ -19,14 +19,14 @@ pub struct Area {
 }
 
 // A run of a list.
-#[derive(Drop)]
+#[derive(Clone, Copy)]
 pub struct Run {
     pub from: usize,
     pub count: usize,
 }
 
 // A cell: its window, its settings and its runs of the three lists.
-#[derive(Drop)]
+#[derive(Clone, Copy)]
 pub struct Cell {
     pub window: Window,
     pub settings: Settings,
@@ -36,7 +36,7 @@ pub struct Cell {
 }
 
 // The lengths of what is handed over.
-#[derive(Drop)]
+#[derive(Clone, Copy)]
 pub struct Lengths {
     pub samples: usize,
     pub stencil: usize,

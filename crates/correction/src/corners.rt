@@ -14,7 +14,7 @@ use numbers::rounding;
 use ranges::constants;
 
 // A contour: its segments from `from` up to `end`.
-#[derive(Drop)]
+#[derive(Clone, Copy)]
 struct Contour {
     from: usize,
     end: usize,

@@ -19,7 +19,7 @@ use inputs::stencil;
 use ranges::config::Settings;
 
 // How far from the outline the medians of a pair may be together: in a row, in a column, across.
-#[derive(Drop)]
+#[derive(Clone, Copy)]
 struct Radii {
     horizontal: f32,
     vertical: f32,
@@ -28,7 +28,7 @@ struct Radii {
 
 // The neighbours with which a texel is the lower one of a pair, or those with which it is the other one:
 // the column of that in its row, which also lies across, the column of the other that lies across, and their row, counted from 1.
-#[derive(Drop)]
+#[derive(Clone, Copy)]
 struct Half {
     lower: bool,
     ahead: usize,

@@ -21,7 +21,7 @@ use inputs::stencil;
 use ranges::config::Settings;
 
 // A scan along a row: the column that it has come to, and the orders of the column before and of that one, each over three rows.
-#[derive(Drop)]
+#[derive(Clone, Copy)]
 pub struct Scan {
     pub x: usize,
     pub left: u8,

@@ -10,7 +10,7 @@ use inputs::{checks, room, stencil};
 use ranges::config::Settings;
 
 // What the pass answers: the counts and how many range tests it made, or the number of the first check that fails and its place.
-#[derive(Drop)]
+#[derive(Clone, Copy)]
 pub enum Answer {
     Accepted(Counts, usize),
     Refused(u8, usize),

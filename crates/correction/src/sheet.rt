@@ -17,14 +17,14 @@ use inputs::stencil::Counts;
 use inputs::{room, stencil};
 
 // What is answered: the counts and how many range tests were made, summed over the cells, or the number of the first check that fails, its cell and its place.
-#[derive(Drop)]
+#[derive(Clone, Copy)]
 pub enum Answer {
     Accepted(Counts, usize),
     Refused(u8, usize, usize),
 }
 
 // The first check that fails, its cell and its place; zeros where all pass.
-#[derive(Drop)]
+#[derive(Clone, Copy)]
 pub struct Failure {
     pub number: u8,
     pub cell: usize,
@@ -32,7 +32,7 @@ pub struct Failure {
 }
 
 // What is summed over the cells: those with each bit, and the range tests.
-#[derive(Drop)]
+#[derive(Clone, Copy)]
 struct Tally {
     protected: usize,
     error: usize,

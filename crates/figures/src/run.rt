@@ -15,7 +15,7 @@ pub fn all(l: f64) -> Settings {
 }
 
 // What a figure is run with, beside its samples and its outlines.
-#[derive(Drop)]
+#[derive(Clone, Copy)]
 pub struct Task {
     pub sizes: Bitmap,
     pub mode: u8,

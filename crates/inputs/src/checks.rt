@@ -8,7 +8,7 @@ use ranges::config::Settings;
 use ranges::constants;
 
 // The first check that fails and its place; 0 and 0 where all pass.
-#[derive(Drop)]
+#[derive(Clone, Copy)]
 pub struct Refusal {
     pub number: u8,
     pub place: usize,

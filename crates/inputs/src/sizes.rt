@@ -1,5 +1,5 @@
 // The sizes of a bitmap, and of a window of a sheet.
-#[derive(Drop)]
+#[derive(Clone, Copy)]
 pub struct Bitmap {
     pub width: usize,
     pub height: usize,
@@ -8,7 +8,7 @@ pub struct Bitmap {
 
 // A window of a sheet: its sizes, the number of its first cell in the sheet, and how many cells a row of the sheet has.
 // A bitmap alone is the window that is the whole.
-#[derive(Drop)]
+#[derive(Clone, Copy)]
 pub struct Window {
     pub width: usize,
     pub height: usize,

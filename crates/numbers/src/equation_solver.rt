@@ -9,7 +9,7 @@ ghost use Rattle.numbers.specs.EquationSolver.{linear_roots, upper_root, lower_r
 use crate::{constants, scalar, square_root};
 
 // Up to two roots: a count, and the values in the order in which they are tried, unused ones 0.
-#[derive(Drop)]
+#[derive(Clone, Copy)]
 pub struct Roots {
     pub count: usize,
     pub first: f64,

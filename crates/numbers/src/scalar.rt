@@ -8,7 +8,7 @@ ghost use Rattle.numbers.specs.Scalar.{min_of, max_of, median_of, lowest_equal, 
 use crate::rounding;
 
 // The median of three channels: its value, and the lowest channel whose value compares equal to it.
-#[derive(Drop)]
+#[derive(Clone, Copy)]
 pub struct Middle {
     pub value: f32,
     pub channel: usize,

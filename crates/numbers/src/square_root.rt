@@ -5,7 +5,7 @@ ghost use Rattle.numbers.specs.SquareRoot.{sqrt_of, normal_root};
 ghost use Rattle.numbers.specs.Inner.{IsRoot, nearest_root, newton_step};
 
 // A whole number's root s, cut to a whole number, and what is left, r.
-#[derive(Drop)]
+#[derive(Clone, Copy)]
 struct Root {
     s: u64,
     r: u64,

@@ -11,7 +11,7 @@ use ranges::classifier::Classifier;
 use ranges::constants;
 
 // A channel on the way from a to d is t * (t * q + l) + a.
-#[derive(Drop)]
+#[derive(Clone, Copy)]
 struct Curve {
     a: f32,
     l: f32,

@@ -21,7 +21,7 @@ use ranges::config;
 use ranges::config::Settings;
 
 // What the plain pass answers: the counts, or the number of the first check that fails and its place.
-#[derive(Drop)]
+#[derive(Clone, Copy)]
 pub enum Answer {
     Accepted(Counts),
     Refused(u8, usize),

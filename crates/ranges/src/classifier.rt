@@ -6,7 +6,7 @@ use crate::constants;
 use numbers::scalar;
 
 // How far a median may stray from one end to the other, and whether the texel is protected.
-#[derive(Drop)]
+#[derive(Clone, Copy)]
 pub struct Classifier {
     pub span: f64,
     pub protected: bool,

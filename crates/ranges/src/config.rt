@@ -3,7 +3,7 @@ ghost use Rattle.std.specs.Prelude.{◌≡◌};
 ghost use Rattle.ranges.specs.Config as Config;
 
 // The ratio and the three lengths that stand for the unprojected vectors.
-#[derive(Drop)]
+#[derive(Clone, Copy)]
 pub struct Settings {
     pub ratio: f64,
     pub horizontal: f64,

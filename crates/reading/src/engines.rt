@@ -12,7 +12,7 @@ use plain::pass as plain_pass;
 use ranges::config::Settings;
 
 // What either engine answers: the counts and the tests, or the number of the first check that fails and its place.
-#[derive(Drop)]
+#[derive(Clone, Copy)]
 pub enum Judged {
     Accepted(Counts, Tests),
     Refused(u8, usize),

@@ -75,7 +75,7 @@ fn contour_breach(s: &[u8], f: Field, k: usize, n: usize) -> usize
 }
 
 // What is known where a field starts.
-#[derive(Drop)]
+#[derive(Clone, Copy)]
 pub struct Layout {
     // The tag that is due; 0 once a breach or the end is met.
     pub due: usize,

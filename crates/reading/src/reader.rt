@@ -6,14 +6,14 @@ ghost use Rattle.reading.specs.Inner.{Told};
 
 use ground::bytes;
 
-#[derive(Drop)]
+#[derive(Clone, Copy)]
 pub struct Reader<'a> {
     pub src: &'a [u8],
     pub at: usize,
 }
 
 // A field: where it starts, its tag and its length, 0 where the input ends before them, and where its contents end and the next field starts, which is the input's end where some of them are missing.
-#[derive(Drop)]
+#[derive(Clone, Copy)]
 pub struct Field {
     pub at: usize,
     pub tag: u8,

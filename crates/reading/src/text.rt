@@ -172,7 +172,7 @@ fn put_cells(out: &mut [u8], at: usize, c: Counts) -> usize
 }
 
 // How many range tests were made, where they are counted.
-#[derive(Drop)]
+#[derive(Clone, Copy)]
 pub enum Tests {
     Counted(usize),
     Uncounted,

@@ -9,7 +9,7 @@ use ground::bytes;
 use ranges::config::Settings;
 
 // Where a case begins, and how many samples, cells, colours, coordinates and ends it holds.
-#[derive(Drop)]
+#[derive(Clone, Copy)]
 pub struct Case {
     pub at: usize,
     pub samples: usize,

@@ -33,12 +33,28 @@ unfolding sub neg add
 low_end x nan (fin s n e) (fin s' n' e') i i' h p = p
 low_end x (inf t) (fin s n e) (fin s' n' e') i i' h p = p
 low_end x (fin t k f) d d' i i' h p = Order.le_trans _ _ x (sub_anti_right binary64 (fin t k f) d d' h (sub_number binary64 (fin t k f) d tt i) (sub_number binary64 (fin t k f) d' tt i')) p
+low_end x nan nan d' i i' h p = elim i [ ]
+low_end x nan (inf _) d' i i' h p = elim i [ ]
+low_end x nan (fin s n e) nan i i' h p = elim i' [ ]
+low_end x nan (fin s n e) (inf _) i i' h p = elim i' [ ]
+low_end x (inf t) nan d' i i' h p = elim i [ ]
+low_end x (inf t) (inf _) d' i i' h p = elim i [ ]
+low_end x (inf t) (fin s n e) nan i i' h p = elim i' [ ]
+low_end x (inf t) (fin s n e) (inf _) i i' h p = elim i' [ ]
 
 high_end : (x m d d' : Float) → IsFinite d → IsFinite d' → T (le d d') → T (le x (add binary64 m d)) → T (le x (add binary64 m d'))
 unfolding add
 high_end x nan (fin s n e) (fin s' n' e') i i' h p = p
 high_end x (inf t) (fin s n e) (fin s' n' e') i i' h p = p
 high_end x (fin t k f) d d' i i' h p = Order.le_trans x _ _ p (add_mono_right binary64 (fin t k f) d d' h (add_number binary64 (fin t k f) d tt i) (add_number binary64 (fin t k f) d' tt i'))
+high_end x nan nan d' i i' h p = elim i [ ]
+high_end x nan (inf _) d' i i' h p = elim i [ ]
+high_end x nan (fin s n e) nan i i' h p = elim i' [ ]
+high_end x nan (fin s n e) (inf _) i i' h p = elim i' [ ]
+high_end x (inf t) nan d' i i' h p = elim i [ ]
+high_end x (inf t) (inf _) d' i i' h p = elim i [ ]
+high_end x (inf t) (fin s n e) nan i i' h p = elim i' [ ]
+high_end x (inf t) (fin s n e) (inf _) i i' h p = elim i' [ ]
 
 -- What lies within m ± d lies within m ± d' for a larger d', whatever m is.
 pub within_grows : (x m d d' : Float) → IsFinite d → IsFinite d' → T (le d d') → within x m d ≡ true → within x m d' ≡ true
