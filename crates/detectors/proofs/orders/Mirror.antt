@@ -64,12 +64,18 @@ add_neg f (fin s m e) (fin t n d) i j =
         go true false P M h k = let e : r ≡ r' = omega arith in (omega (arith, ap (λ (x : ℕ). x * c) e), omega (arith, ap (λ (x : ℕ). x * c) e))
         go false true P M h k = let e : r ≡ r' = omega arith in (omega (arith, ap (λ (x : ℕ). x * c) e), omega (arith, ap (λ (x : ℕ). x * c) e))
         go false false P M h k = let e : r + r' ≡ 0 = omega arith in (omega (arith, ap (λ (x : ℕ). x * c) e), omega (arith, ap (λ (x : ℕ). x * c) e))
+add_neg f nan y i j = elim i [ ]
+add_neg f (inf _) y i j = elim i [ ]
+add_neg f (fin s m e) nan i j = elim j [ ]
+add_neg f (fin s m e) (inf _) i j = elim j [ ]
 
 eq_finite : (x y : Float) → IsFinite x → T (eq x y) → IsFinite y
 unfolding eq
 eq_finite (fin s m e) nan i h = h
 eq_finite (fin s m e) (inf t) i h = h
 eq_finite (fin s m e) (fin t n d) i h = tt
+eq_finite nan y i h = elim i [ ]
+eq_finite (inf _) y i h = elim i [ ]
 
 neg_finite_back : (x : Float) → IsFinite (neg x) → IsFinite x
 unfolding neg

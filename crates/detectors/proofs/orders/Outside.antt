@@ -210,12 +210,16 @@ sub_not_positive f x (fin t n d) i j h =
     own : (t : Bool) (a c : ℕ) → plus false (0 * 1 * c * c) + plus t (a * 1 * c) + minus t (a * (1 * c)) ≡ plus t (a * (1 * c)) + minus false (0 * 1 * c * c) + minus t (a * 1 * c)
     own true a c = omega arith
     own false a c = omega arith
+sub_not_positive f x nan i j h = elim j [ ]
+sub_not_positive f x (inf _) i j h = elim j [ ]
 
 less_nothing : (x : Float) → IsFinite x → T (fits binary32 x) → T (le (sub binary32 x nought) x) × T (le x (sub binary32 x nought))
 less_nothing (fin s m e) i p =
     let x = fin s m e in
     let q = add_zero_eq binary32 x true p (unfold is_nan in tt) in
     unfold sub neg in (Order.le_of_eq (add binary32 x (fin true 0 (pos 0))) x q, Order.ge_of_eq (add binary32 x (fin true 0 (pos 0))) x q)
+less_nothing nan i p = elim i [ ]
+less_nothing (inf _) i p = elim i [ ]
 
 -- The crossing of two values that are not negative is not inside.
 pub crossing_outside : (dA dB : Float) → T (fits binary32 dA) → IsFinite dA → IsFinite dB → T (le nought dA) → T (le nought dB) → inside (crossing dA dB) ≡ false

@@ -66,6 +66,8 @@ grid_of (fin s m e) f i h =
         no : (a d : ℕ) → 0 < d → 1 * 1 * d + a * 2 ^ 7 ≤ 0 + 0 → ⊥
         no a d p h = omega arith
     sign false a d p h = (refl, omega arith)
+grid_of nan f i h = elim i [ ]
+grid_of (inf _) f i h = elim i [ ]
 
 least_value : HasValue least false (2 ^ 23) (2 ^ 30)
 least_value = (refl, refl)
@@ -110,6 +112,8 @@ grid_sized (fin s m e) f i (inl h) =
     nil' : (s : Bool) → minus s 0 ≡ 0
     nil' true = refl
     nil' false = refl
+grid_sized nan f i (inl h) = elim i [ ]
+grid_sized (inf _) f i (inl h) = elim i [ ]
 
 turned : (s : Bool) (X : ℕ) → (plus (not s) X ≡ minus s X) × (minus (not s) X ≡ plus s X)
 turned true X = (refl, refl)
@@ -181,6 +185,8 @@ shrunk f x s i p j h =
 pub neg_finite : (x : Float) → IsFinite x → IsFinite (neg x)
 unfolding neg
 neg_finite (fin s m e) i = tt
+neg_finite nan i = elim i [ ]
+neg_finite (inf _) i = elim i [ ]
 
 from_nothing : (f : Format) (x : Float) → IsFinite x → T (fits f x) → T (le (sub f nought x) (neg x)) × T (le (neg x) (sub f nought x))
 unfolding sub

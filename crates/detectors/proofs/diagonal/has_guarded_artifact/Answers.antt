@@ -1,0 +1,6 @@
+-- `detectors::diagonal::has_guarded_artifact` meets its contract. Assumes nothing.
+use Rattle.std.proofs.Common.{rules}
+use Rattle.detectors.proofs.diagonal.has_guarded_artifact.Goals as goal
+
+pub returns : goal.returns
+returns c = rw c.before.before.diagonal_span.ensures at c.some_pair.ensures
