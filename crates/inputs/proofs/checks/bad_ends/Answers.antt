@@ -1,0 +1,24 @@
+-- `inputs::checks::bad_ends` meets its contract. Assumes nothing.
+use mathlib.Core.Path.{ap}
+use mathlib.Core.Bool.{not}
+use Prim.Native.Nat.{ℕ}
+use lib.Dec.{eqb, ltb}
+use lib.ListN.{length}
+use borrow.Author.Rules.{rules}
+use borrow.Author.Tests.{lt-ltb, le-ltb}
+use Rattle.inputs.specs.Checks.{bad_ends}
+use Rattle.ground.proofs.Laws.Bools.{or_taken, or_left}
+use Rattle.inputs.proofs.checks.bad_ends.Goals as goal
+
+pub returns-then-place-ends : goal.returns-then-place-ends
+unfolding bad_ends
+returns-then-place-ends c =
+    let b = c in
+    or_taken _ (ap (λ (k : ℕ). ltb k (length b.args.ends.now)) b.requires) (lt-ltb _ _ c.if-place-ends.true)
+
+pub returns-else-place-ends : goal.returns-else-place-ends
+unfolding bad_ends
+returns-else-place-ends c =
+    let b = c in
+    or_left (ap (λ (k : ℕ). ltb k (length b.args.ends.now)) b.requires) (le-ltb _ _ c.if-place-ends.false)
+    (ap (λ (k : ℕ). not (eqb k b.args.n)) c.end_before.ensures)

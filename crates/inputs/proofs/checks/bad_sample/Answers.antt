@@ -1,0 +1,11 @@
+-- `inputs::checks::bad_sample` meets its contract. Assumes nothing.
+use Rattle.inputs.specs.Checks.{oversize}
+use Rattle.inputs.proofs.checks.bad_sample.Goals as goal
+
+pub returns-then-v : goal.returns-then-v
+unfolding oversize
+returns-then-v c = simp c.if-v.true
+
+pub returns : goal.returns
+unfolding oversize
+returns c = simp c.if-v.false

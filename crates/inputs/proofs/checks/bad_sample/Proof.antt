@@ -1,8 +1,0 @@
--- `inputs::checks::bad_sample` meets its contract. Assumes nothing.
-use Rattle.inputs.specs.Checks.{oversize}
-use Rattle.inputs.proofs.checks.bad_sample.Statement.{statement}
-use Rattle.inputs.proofs.checks.bad_sample.Tie as tie
-
-pub bad_sample_spec : {M : Type 1} → statement M
-unfolding oversize
-bad_sample_spec = tie.close (tie.spec (λ c. simp c.if1.true) (λ c. simp c.if1.false))

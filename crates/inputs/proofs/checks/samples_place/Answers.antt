@@ -1,0 +1,33 @@
+-- `inputs::checks::samples_place` meets its contract: where all are not good, no sample before the loop's is bad. Assumes nothing.
+use Prim.Native.Nat.{◌-◌}
+use native.Mathlib.Omega.{arith}
+use lib.ListN.{length, get_or}
+use lib.Ieee.{binary32, nan}
+use borrow.Author.Rules.{rules}
+use Rattle.inputs.specs.Checks.{oversize, samples_place}
+use Rattle.ground.proofs.Laws.Search.{Searched, search_none, search_more, search_found, search_end}
+use Rattle.inputs.proofs.checks.samples_place.Goals as goal
+
+pub returns-then-all_good : goal.returns-then-all_good
+returns-then-all_good c = c.all_good.ensures c.if-all_good.true
+
+pub returns-then-bad_sample : goal.returns-then-bad_sample
+unfolding samples_place
+returns-then-bad_sample c =
+    let l = c in
+    search_found l.loop-i.invariant l.loop-i-test.true c.bad_sample.ensures c.if-bad_sample.true
+
+pub loop-i-preserved : goal.loop-i-preserved
+loop-i-preserved c =
+    let l = c in
+    search_more l.loop-i.invariant l.loop-i-test.true c.bad_sample.ensures c.if-bad_sample.false
+
+pub returns : goal.returns
+unfolding samples_place
+returns c = search_end c.loop-i.invariant c.loop-i-test.false
+
+pub loop-i-init : goal.loop-i-init
+loop-i-init c = search_none _ _
+
+pub loop-i-smaller : goal.loop-i-smaller
+loop-i-smaller c = omega arith
