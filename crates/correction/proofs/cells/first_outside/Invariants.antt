@@ -1,0 +1,13 @@
+-- `correction::cells::first_outside` meets its contract: no cell before the loop's is outside. Assumes nothing.
+use Prim.Native.Nat.{◌-◌}
+use native.Mathlib.Omega.{arith}
+use borrow.Author.Rules.{rules}
+use Rattle.ground.proofs.Laws.Search.{Searched, search_none, search_more, search_found, search_end}
+use Rattle.correction.specs.Sheet.{area_at, bad_area, first_outside}
+use Rattle.correction.proofs.cells.first_outside.Given as goal
+
+abbrev pub invariant-loop-c : goal.invariant-loop-c
+invariant-loop-c l = Searched (λ c. bad_area l.b.width l.b.height (area_at l.cells c)) l.n l.c
+
+abbrev pub decreases-loop-c : goal.decreases-loop-c
+decreases-loop-c l = l.n - l.c

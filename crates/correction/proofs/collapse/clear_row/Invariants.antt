@@ -1,0 +1,15 @@
+-- `correction::collapse::clear_row` meets its contract: the row is given up to column x. Assumes nothing.
+use mathlib.Core.Path.{refl}
+use Prim.Native.Nat.{◌-◌, ◌<◌}
+use native.Mathlib.Omega.{arith}
+use lib.ListN.{length}
+use Rattle.ground.specs.Lists.{painted}
+use Rattle.correction.proofs.bitmap.Stretch.{Stretched, stretch_none, stretch_held, stretch_next, stretch_all, upto_long}
+use Rattle.correction.proofs.collapse.Turns.{bare}
+use Rattle.correction.proofs.collapse.clear_row.Given as goal
+
+abbrev pub invariant-loop-x : goal.invariant-loop-x
+invariant-loop-x l = Stretched bare l.b l.initial.stencil l.y l.x l.stencil
+
+abbrev pub decreases-loop-x : goal.decreases-loop-x
+decreases-loop-x l = l.b.width - l.x

@@ -1,0 +1,31 @@
+-- `correction::corners::protect_corners` meets its contract: after each turn the stencil is painted by the contours before c. Assumes nothing.
+use mathlib.Core.Path.{◌≡◌, refl}
+use mathlib.Core.Bool.{Bool}
+use mathlib.Core.List.{List}
+use Prim.Native.Nat.{ℕ, ◌-◌, ◌/◌, ◌%◌, ◌≤◌}
+use native.Mathlib.Omega.{arith}
+use lib.ListN.{length, get_or}
+use lib.Ieee.{Float}
+use Rattle.ground.specs.Lists.{any}
+use Rattle.inputs.specs.declared.sizes.Window.{Window}
+use Rattle.correction.specs.Inner.{at_corner}
+use Rattle.correction.specs.Numbered.{start_at, contour_hits}
+use Rattle.inputs.proofs.Laws.Stencil.{both_again}
+use Rattle.correction.proofs.Laws.Contours.{start_next, start_le, corners_at}
+use Rattle.correction.proofs.corners.Strokes.{Painted, stroke_same, stroke_still, stroke_zero, stroke_turn}
+use Rattle.correction.proofs.corners.protect_corners.Given as goal
+
+-- contour j
+abbrev pub nth : ℕ → List ℕ → List Float → List ℕ → ℕ → ℕ → Bool
+nth w colours coords ends j k = contour_hits colours coords (start_at ends j) (get_or ends j 0) (k % w) (k / w)
+
+pub record Inv (st₀ : List ℕ) (g : Window) (colours : List ℕ) (coords : List Float) (ends st : List ℕ) (from c : ℕ) : Type 0 where
+  pub high : c ≤ length ends
+  pub start : from ≡ start_at ends c
+  pub done : Painted at_corner g (λ k. any c (λ j. nth g.width colours coords ends j k)) st₀ st
+
+abbrev pub invariant-loop-c : goal.invariant-loop-c
+invariant-loop-c l = Inv l.initial.stencil l.b l.colours l.coords l.ends l.stencil l.from l.c
+
+abbrev pub decreases-loop-c : goal.decreases-loop-c
+decreases-loop-c l = length l.ends - l.c

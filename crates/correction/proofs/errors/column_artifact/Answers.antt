@@ -1,0 +1,59 @@
+-- `correction::errors::column_artifact` meets its contract. Assumes nothing.
+use mathlib.Core.Path.{◌≡◌, refl, sym, ◌∙◌}
+use mathlib.Core.Logic.{⊎_elim}
+use Prim.Native.Nat.{◌-◌, ◌*◌, ◌<◌, ◌≤◌}
+use native.Mathlib.Omega.{arith}
+use borrow.Author.Tests.{leb-true, leb-false, not-false}
+use Rattle.inputs.specs.Window.{cell_in}
+use Rattle.correction.proofs.bitmap.Centres.{texel_read, texel_held}
+use Rattle.correction.proofs.errors.Beside.{in_bounds_law, before_row, past_row, known_alike, side_on, side_off, side_alike}
+use Rattle.correction.proofs.errors.column_artifact.Goals as goal
+use Rattle.correction.proofs.errors.column_artifact.Goals.{After-place-at, Then-ny-b}
+
+first : (c : Then-ny-b) → 0 < c.args.ny
+first c = c.if-ny-gt0.true
+
+last : (c : Then-ny-b) → c.args.ny ≤ c.args.b.height
+last c = leb-true _ _ c.if-ny-b.true-raw
+
+inside : (c : Then-ny-b) → c.args.ny - 1 < c.args.b.height
+inside c = omega (arith, first c, last c)
+
+pub alike-requires : goal.alike-requires
+alike-requires c = let p = c.requires in record { stencilled = p.stencilled.0; x_lt_width = (p.x_lt_width.0, inside c) }
+
+pub place-at-requires : goal.place-at-requires
+place-at-requires c =
+    let p = c.requires in record { fits = p.sampled.fits; x_lt_width = (p.x_lt_width.0, inside (goal.at.place-at-requires c).Then-ny-b, p.sampled.few) }
+
+-- where the samples of the neighbour stand
+placed : (c : After-place-at) → let a = c.args in c.place-at.result ≡ cell_in a.b a.t.x (a.ny - 1) * a.b.channels
+placed c = c.place-at.ensures
+
+pub side_artifact-requires : goal.side_artifact-requires
+side_artifact-requires c =
+    let p = c.requires in
+    texel_held _ _ _ p.x_lt_width.0 (inside (goal.at.side_artifact-requires c).Then-ny-b) _ p.sampled (placed c)
+
+pub returns-then-not-alike : goal.returns-then-not-alike
+returns-then-not-alike c =
+    let p = c.requires in
+    (rw (texel_read _ _ _ p.x_lt_width.0 (inside (goal.at.returns-then-not-alike c).Then-ny-b) _ p.sampled (placed (goal.at.returns-then-not-alike c).After-place-at)) at c.side_artifact.ensures)
+    ∙ side_on _ _ _ _ _ _ _ _ _ _ _ (in_bounds_law _ _ _ _ (omega arith) (omega (arith, p.x_lt_width.0)) (first (goal.at.returns-then-not-alike c).Then-ny-b) (last (goal.at.returns-then-not-alike c).Then-ny-b)) (omega arith) refl
+
+pub returns-else-not-alike : goal.returns-else-not-alike
+returns-else-not-alike c =
+    let p = c.requires in
+    let a = c.args in
+    let k = known_alike a.b a.xs.now a.stencil.now _ _ _ _ p.stencilled.1 p.x_lt_width.1 p.x_lt_width.0 (inside (goal.at.returns-else-not-alike c).Then-ny-b) (sym c.alike.ensures ∙ not-false _ c.if-not-alike.false-raw) in
+    side_alike _ _ _ _ _ _ _ _ _ _ _ (in_bounds_law _ _ _ _ (omega arith) (omega (arith, c.requires.x_lt_width.0)) (first (goal.at.returns-else-not-alike c).Then-ny-b) (last (goal.at.returns-else-not-alike c).Then-ny-b)) (omega arith) refl k.0 k.1
+
+pub returns-else-ny-gt0 : goal.returns-else-ny-gt0
+returns-else-ny-gt0 c =
+    ⊎_elim (λ w. side_off _ _ _ _ _ _ _ _ _ (past_row _ _ _ _ w.0.taken (leb-false _ _ w.2.left))) (λ w. side_off _ _ _ _ _ _ _ _ _ (before_row _ _ _ _ w.left)) c.else-ny-gt0.branch
+
+pub overflow_sub-ny : goal.overflow_sub-ny
+overflow_sub-ny c = first c
+
+pub overflow_sub-ny-then-not-alike : goal.overflow_sub-ny-then-not-alike
+overflow_sub-ny-then-not-alike c = first (goal.at.overflow_sub-ny-then-not-alike c).Then-ny-b

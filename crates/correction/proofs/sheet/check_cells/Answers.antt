@@ -1,0 +1,29 @@
+-- `correction::sheet::check_cells` meets its contract: the cells before the loop's pass their checks. Assumes nothing.
+use mathlib.Core.List.{[]}
+use Prim.Native.Nat.{◌-◌}
+use native.Mathlib.Omega.{arith}
+use lib.ListN.{length}
+use borrow.Author.Rules.{rules}
+use Rattle.correction.specs.Sheet.{sheet}
+use Rattle.correction.proofs.sheet.Contents.{Passing, passing_none, passing_more, content_found, content_none}
+use Rattle.correction.proofs.sheet.check_cells.Goals as goal
+
+pub check_cell-f-requires : goal.check_cell-f-requires
+check_cell-f-requires c = (c.requires, c.loop-c-test.true)
+
+pub returns-then-f-ne0 : goal.returns-then-f-ne0
+returns-then-f-ne0 c =
+    content_found _ c.loop-c.invariant c.loop-c-test.true c.check_cell-f.ensures c.if-f-ne0.true
+
+pub loop-c-preserved : goal.loop-c-preserved
+loop-c-preserved c =
+    passing_more _ c.loop-c.invariant c.loop-c-test.true c.check_cell-f.ensures.numbers c.if-f-ne0.false
+
+pub returns : goal.returns
+returns c = content_none _ c.loop-c.invariant c.loop-c-test.false
+
+pub loop-c-init : goal.loop-c-init
+loop-c-init c = passing_none _
+
+pub loop-c-smaller : goal.loop-c-smaller
+loop-c-smaller c = omega arith

@@ -1,0 +1,15 @@
+-- `correction::sheet::check_cells` meets its contract: the cells before the loop's pass their checks. Assumes nothing.
+use mathlib.Core.List.{[]}
+use Prim.Native.Nat.{◌-◌}
+use native.Mathlib.Omega.{arith}
+use lib.ListN.{length}
+use borrow.Author.Rules.{rules}
+use Rattle.correction.specs.Sheet.{sheet}
+use Rattle.correction.proofs.sheet.Contents.{Passing, passing_none, passing_more, content_found, content_none}
+use Rattle.correction.proofs.sheet.check_cells.Given as goal
+
+abbrev pub invariant-loop-c : goal.invariant-loop-c
+invariant-loop-c l = Passing (sheet l.b.width l.b.height l.b.channels l.xs [] [] l.cells l.modes l.settings l.colours l.coords l.ends) l.c
+
+abbrev pub decreases-loop-c : goal.decreases-loop-c
+decreases-loop-c l = length l.modes - l.c

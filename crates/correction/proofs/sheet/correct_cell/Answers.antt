@@ -1,0 +1,70 @@
+-- `correction::sheet::correct_cell` meets its contract: what is handed to the engine is the cell alone. Assumes nothing.
+use mathlib.Core.List.{[]}
+use native.Mathlib.Omega.{arith}
+use lib.ListN.{length}
+use borrow.Author.Rules.{rules}
+use Rattle.inputs.proofs.Laws.Windows.{still_stencilled}
+use Rattle.correction.specs.Sheet.{Sheet, sheet}
+use Rattle.correction.proofs.sheet.Laid.{sampled, stencilled}
+use Rattle.correction.proofs.sheet.Handed.{Held, cell_there, runs_held, room_enough, sampled_as, stencilled_as, cleared_as, outlined_as, leaves, writes, tallied}
+use Rattle.correction.proofs.sheet.correct_cell.Goals as goal
+use Rattle.correction.proofs.sheet.correct_cell.Goals.{After-cell_at-k, Start}
+
+-- the sheet
+abbrev given : Start → Sheet
+given c =
+    let a = c.args in
+    sheet a.b.width a.b.height a.b.channels a.xs.now a.stencil.now [] a.cells.now a.modes.now a.settings.now a.colours.now a.coords.now a.ends.now
+
+-- each run ends in its list
+held : (c : After-cell_at-k) → let a = c.args in Held c.cell_at-k.result (length a.colours.now) (length a.coords.now) (length a.ends.now)
+held c = runs_held (given (goal.at.After-cell_at-k c).Start) c.args.c c.cell_at-k.result c.cell_at-k.ensures c.requires.laid.0 c.requires.laid.1
+
+pub correct-tests-requires : goal.correct-tests-requires
+correct-tests-requires c =
+    let g = given (goal.at.correct-tests-requires c).Start in
+    let n = c.args.c in
+    let r = c.cell_at-k.result in
+    let e = c.cell_at-k.ensures in record { sampled = (sampled_as g n r e (sampled g n c.requires.laid.0 c.requires.laid.1), room_enough g n r e c.requires.laid.0 c.requires.laid.1 c.requires.width_in_bounds); stencilled = (stencilled_as g n r e (stencilled g n c.requires.laid.0 c.requires.stencil_len c.requires.laid.1), cleared_as g n r e c.requires.cleared); outlined = outlined_as g n r e c.requires.laid.2 }
+
+pub count_cells-n-requires : goal.count_cells-n-requires
+count_cells-n-requires c =
+    still_stencilled _ (stencilled_as (given (goal.at.count_cells-n-requires c).Start) c.args.c c.cell_at-k.result c.cell_at-k.ensures (stencilled (given (goal.at.count_cells-n-requires c).Start) c.args.c c.requires.laid.0 c.requires.stencil_len c.requires.laid.1)) _ c.correct-tests.ensures.leaves.long
+
+pub returns : goal.returns
+returns c =
+    let g = given (goal.at.returns c).Start in
+    let n = c.args.c in
+    let r = c.cell_at-k.result in
+    let e = c.cell_at-k.ensures in
+    let p = c.correct-tests.ensures in record { counts = tallied g n r e p.1.0 _ _ c.count_cells-n.ensures p.0; leaves = leaves g n r e p.1.0; writes = writes g n r e p.1.1 }
+
+pub cell_at-k-requires : goal.cell_at-k-requires
+cell_at-k-requires c = cell_there (given (goal.at.cell_at-k-requires c).Start) c.args.c c.requires.laid.0 c.requires.laid.1
+
+pub overflow_add-pe : goal.overflow_add-pe
+overflow_add-pe c = omega (arith, (held (goal.at.overflow_add-pe c).After-cell_at-k).colours, c.well_formed)
+
+pub overflow_add-qe : goal.overflow_add-qe
+overflow_add-qe c = omega (arith, (held (goal.at.overflow_add-qe c).After-cell_at-k).coords, c.well_formed)
+
+pub overflow_add-re : goal.overflow_add-re
+overflow_add-re c = omega (arith, (held (goal.at.overflow_add-re c).After-cell_at-k).ends, c.well_formed)
+
+pub bounds-modes-c : goal.bounds-modes-c
+bounds-modes-c c = c.requires.laid.1
+
+pub slice_bounds-correct-end : goal.slice_bounds-correct-end
+slice_bounds-correct-end c = (held (goal.at.slice_bounds-correct-end c).After-cell_at-k).colours
+
+pub offset_bounds-coords-q : goal.offset_bounds-coords-q
+offset_bounds-coords-q c = omega (arith, (held (goal.at.offset_bounds-coords-q c).After-cell_at-k).coords, c.well_formed)
+
+pub slice_bounds-correct-end-2 : goal.slice_bounds-correct-end-2
+slice_bounds-correct-end-2 c = (held (goal.at.slice_bounds-correct-end-2 c).After-cell_at-k).coords
+
+pub offset_bounds-ends-r : goal.offset_bounds-ends-r
+offset_bounds-ends-r c = omega (arith, (held (goal.at.offset_bounds-ends-r c).After-cell_at-k).ends, c.well_formed)
+
+pub slice_bounds-correct-end-3 : goal.slice_bounds-correct-end-3
+slice_bounds-correct-end-3 c = (held (goal.at.slice_bounds-correct-end-3 c).After-cell_at-k).ends

@@ -1,0 +1,46 @@
+-- `correction::window::protect_row` meets its contract: the row is given up to column x. Assumes nothing.
+use mathlib.Core.Path.{refl}
+use Prim.Native.Nat.{◌-◌, ◌<◌}
+use native.Mathlib.Omega.{arith}
+use lib.ListN.{length}
+use Rattle.ground.specs.Lists.{painted}
+use Rattle.correction.proofs.bitmap.Stretch.{Stretched, stretch_none, stretch_held, stretch_next, stretch_all, upto_long}
+use Rattle.correction.proofs.window.Rows.{alone}
+use Rattle.correction.proofs.window.protect_row.Goals as goal
+use Rattle.correction.proofs.window.protect_row.Goals.{After-cell-k}
+
+pub loop-x-init : goal.loop-x-init
+loop-x-init c = let p = c.requires in stretch_none alone _ _ _ p.stencilled p.y_lt_height
+
+pub cell-k-requires : goal.cell-k-requires
+cell-k-requires c = let p = c.requires in record { fits = p.stencilled.fits; x_lt_width = (c.loop-x-test.true, p.y_lt_height) }
+
+-- the cell is in the stencil
+there : (c : After-cell-k) → c.cell-k.result < length c.loop-x.stencil
+there c =
+    let p = c.requires in
+    stretch_held alone _ _ _ p.stencilled p.y_lt_height c.loop-x.invariant c.loop-x-test.true c.cell-k.ensures
+
+pub overflow_add-x : goal.overflow_add-x
+overflow_add-x c =
+    let f = c.requires.stencilled.fits in
+    omega (arith, c.loop-x-test.true, f.wide, f.broad)
+
+pub loop-x-preserved : goal.loop-x-preserved
+loop-x-preserved c =
+    stretch_next alone _ _ _ c.requires.stencilled c.requires.y_lt_height c.loop-x.invariant c.loop-x-test.true c.cell-k.ensures refl
+
+pub returns : goal.returns
+unfolding painted
+returns c =
+    let p = c.requires in
+    stretch_all alone _ _ _ p.stencilled p.y_lt_height c.loop-x.invariant c.loop-x-test.false
+
+pub bounds-stencil-k : goal.bounds-stencil-k
+bounds-stencil-k c = there c
+
+pub loop-x-smaller : goal.loop-x-smaller
+loop-x-smaller c = omega (arith, c.loop-x-test.true)
+
+pub shape_of-stencil : goal.shape_of-stencil
+shape_of-stencil c = upto_long _ _ _ c.loop-x.invariant
