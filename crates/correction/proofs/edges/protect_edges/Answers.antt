@@ -16,7 +16,7 @@ use Rattle.correction.proofs.bitmap.Stretch.{Rowed, rows_none, rows_next, rows_a
 use Rattle.correction.proofs.edges.Room.{row_kept}
 use Rattle.correction.proofs.edges.Byte.{byte, row_painted, all_painted}
 use Rattle.correction.proofs.edges.protect_edges.Goals as goal
-use Rattle.correction.proofs.edges.protect_edges.Goals.{After-radius-3, At-loop-y, Joined-b-gt0, Joined-y-b}
+use Rattle.correction.proofs.edges.protect_edges.Goals.{After-radius-3, At-loop-y, Joined-b-gt0, Joined-y-b, then-b-gt0, else-b-gt0, then-y-b, else-y-b}
 use Rattle.correction.proofs.edges.protect_edges.Invariants.{Inv}
 
 -- the radii of the three lengths
@@ -32,10 +32,10 @@ first : (c : Joined-b-gt0) → let a = c.args in (length c.if-b-gt0.room ≡ len
 first c =
     let a = c.args in
     let g : List Float → Type 0 = λ (room : List Float). (length room ≡ length a.room.now) × (0 < a.b.height → Medians a.b a.xs.now room 0) in
-    ⊎_elim
-    (λ w. subst g (sym w.5) (w.2.kept.0, λ h. w.2.ensures.0))
-    (λ w. subst g (sym w.1) (refl, λ h. absurd (omega (arith, w.0.left))))
-    c.if-b-gt0.branch
+    elim c.if-b-gt0.branch [
+      then-b-gt0 w ↦ subst g (sym w.room-is) (w.write_medians.auto.room, λ h. w.write_medians.ensures.here)
+    | else-b-gt0 w ↦ subst g (sym w.room-is) (refl, λ h. absurd (omega (arith, w.if-b-gt0.false)))
+    ]
 
 pub loop-y-init : goal.loop-y-init
 loop-y-init c =
@@ -57,10 +57,10 @@ second c =
     let a = c.args in
     let g : List Float → Type 0 = λ (room : List Float). (length room ≡ length c.loop-y.room) × Rows a.b a.xs.now room c.loop-y.y in
     let own = c.loop-y.invariant.there c.loop-y-test.true in
-    ⊎_elim
-    (λ w. subst g (sym w.5) (w.2.kept.0, record { own = row_kept a.b a.xs.now c.loop-y.room w.2.last.0 _ own w.2.ensures.1; next = λ h. w.2.ensures.0 }))
-    (λ w. subst g (sym w.1) (refl, record { own = own; next = λ h. absurd (omega (arith, w.0.left)) }))
-    c.if-y-b.branch
+    elim c.if-y-b.branch [
+      then-y-b w ↦ subst g (sym w.room-is) (w.write_medians-then-y-b.auto.room, record { own = row_kept a.b a.xs.now c.loop-y.room w.write_medians-then-y-b.new.room _ own w.write_medians-then-y-b.ensures.there; next = λ h. w.write_medians-then-y-b.ensures.here })
+    | else-y-b w ↦ subst g (sym w.room-is) (refl, record { own = own; next = λ h. absurd (omega (arith, w.if-y-b.false)) })
+    ]
 
 pub protect_row-requires : goal.protect_row-requires
 protect_row-requires c =

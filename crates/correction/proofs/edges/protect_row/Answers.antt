@@ -2,7 +2,6 @@
 use mathlib.Core.Path.{◌≡◌, sym, ◌∙◌, ap, subst}
 use mathlib.Core.Bool.{Bool, true, false, cond}
 use mathlib.Core.List.{List}
-use mathlib.Core.Logic.{⊎_elim}
 use Prim.Native.Nat.{ℕ, ◌+◌, ◌-◌, ◌*◌, ◌<◌, ◌≤◌}
 use native.Mathlib.Omega.{arith}
 use lib.ListN.{length, get_or, set}
@@ -18,7 +17,7 @@ use Rattle.correction.proofs.bitmap.Stretch.{Stretched, stretch_none, stretch_he
 use Rattle.correction.proofs.edges.Room.{row_lies}
 use Rattle.correction.proofs.edges.Byte.{edge, byte, row_painted}
 use Rattle.correction.proofs.edges.protect_row.Goals as goal
-use Rattle.correction.proofs.edges.protect_row.Goals.{After-cell-k, In-loop-x}
+use Rattle.correction.proofs.edges.protect_row.Goals.{After-cell-k, In-loop-x, then-some_edge, else-some_edge}
 
 pub loop-x-init : goal.loop-x-init
 loop-x-init c =
@@ -60,10 +59,10 @@ loop-x-preserved c =
     let h = c.requires.y_lt_height.0 in
     let g : List ℕ → Type 0 = λ (st : List ℕ). Stretched (byte (cut_samples a.b a.xs.now) a.b a.r) a.b a.stencil.now a.y (c.loop-x.x + 1) st in (
       omega (arith, c.loop-x-test.true),
-      ⊎_elim
-          (λ w. subst g (sym w.4) (stored _ _ _ _ c.requires.stencilled h c.loop-x-test.true c.loop-x.invariant.1 c.some_edge.ensures w.0.taken w.1.ensures w.3.ensures))
-          (λ w. subst g (sym w.1) (kept _ _ _ _ c.requires.stencilled h c.loop-x-test.true c.loop-x.invariant.1 c.some_edge.ensures w.0.left))
-          c.if-some_edge.branch,
+      elim c.if-some_edge.branch [
+        then-some_edge w ↦ subst g (sym w.stencil-is) (stored _ _ _ _ c.requires.stencilled h c.loop-x-test.true c.loop-x.invariant.1 c.some_edge.ensures w.if-some_edge.true w.cell-k.ensures w.set_protected.ensures)
+      | else-some_edge w ↦ subst g (sym w.stencil-is) (kept _ _ _ _ c.requires.stencilled h c.loop-x-test.true c.loop-x.invariant.1 c.some_edge.ensures w.if-some_edge.false)
+      ],
     )
 
 pub returns : goal.returns

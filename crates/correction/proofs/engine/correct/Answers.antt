@@ -6,19 +6,19 @@ use Rattle.correction.proofs.engine.Whole.{shielded_plain, written_ordered, left
 use Rattle.correction.proofs.engine.correct.Goals as goal
 
 pub returns-then-mode-eq-DISABLED : goal.returns-then-mode-eq-DISABLED
-returns-then-mode-eq-DISABLED c = let all : _ × _ × _ = left_alone _ _ _ _ _ _ _ _ c.if-mode-eq-DISABLED.true c.requires.stencilled.1 in record { makes = all.0; leaves = all.1.0; writes = all.1.1 }
+returns-then-mode-eq-DISABLED c = let all = left_alone _ _ _ _ _ _ _ _ c.if-mode-eq-DISABLED.true c.requires.stencilled.1 in record { makes = all.0; leaves = all.1.0; writes = all.1.1 }
 
 pub write_orders-requires : goal.write_orders-requires
 write_orders-requires c = record { sampled = c.requires.sampled.0; stencilled = (still_stencilled _ c.requires.stencilled.0 _ c.protect.ensures.long, shielded_plain _ _ _ _ _ _ _ c.protect.ensures) }
 
 pub find_errors-tests-requires : goal.find_errors-tests-requires
-find_errors-tests-requires c = record { sampled = c.requires.sampled.0; stencilled = ((
+find_errors-tests-requires c = record { sampled = c.requires.sampled.0; stencilled = (
         still_stencilled _ c.requires.stencilled.0 _ (c.write_orders.ensures.long ∙ c.protect.ensures.long),
         written_ordered _ _ (shielded_plain _ _ _ _ _ _ _ c.protect.ensures) c.write_orders.ensures,
-      ), ) }
+      ) }
 
 pub apply-requires : goal.apply-requires
 apply-requires c = record { sampled = c.requires.sampled.0; stencilled = still_stencilled _ c.requires.stencilled.0 _ (c.find_errors-tests.ensures.finds.long ∙ c.write_orders.ensures.long ∙ c.protect.ensures.long) }
 
 pub returns : goal.returns
-returns c = let all : _ × _ × _ = corrected _ _ _ _ _ _ _ c.requires.sampled.0 c.if-mode-eq-DISABLED.false c.protect.ensures c.write_orders.ensures c.find_errors-tests.ensures.finds c.find_errors-tests.ensures.makes c.apply.ensures.leaves c.apply.ensures.writes in record { makes = all.0; leaves = all.1.0; writes = all.1.1 }
+returns c = let all = corrected _ _ _ _ _ _ _ c.requires.sampled.0 c.if-mode-eq-DISABLED.false c.protect.ensures c.write_orders.ensures c.find_errors-tests.ensures.finds c.find_errors-tests.ensures.makes c.apply.ensures.leaves c.apply.ensures.writes in record { makes = all.0; leaves = all.1.0; writes = all.1.1 }

@@ -1,6 +1,5 @@
 -- `correction::errors::column_artifact` meets its contract. Assumes nothing.
 use mathlib.Core.Path.{◌≡◌, refl, sym, ◌∙◌}
-use mathlib.Core.Logic.{⊎_elim}
 use Prim.Native.Nat.{◌-◌, ◌*◌, ◌<◌, ◌≤◌}
 use native.Mathlib.Omega.{arith}
 use borrow.Author.Tests.{leb-true, leb-false, not-false}
@@ -8,7 +7,7 @@ use Rattle.inputs.specs.Window.{cell_in}
 use Rattle.correction.proofs.bitmap.Centres.{texel_read, texel_held}
 use Rattle.correction.proofs.errors.Beside.{in_bounds_law, before_row, past_row, known_alike, side_on, side_off, side_alike}
 use Rattle.correction.proofs.errors.column_artifact.Goals as goal
-use Rattle.correction.proofs.errors.column_artifact.Goals.{After-place-at, Then-ny-b}
+use Rattle.correction.proofs.errors.column_artifact.Goals.{After-place-at, Then-ny-b, else-ny-gt0-via-then-ny-gt0+else-ny-b, else-ny-gt0-via-else-ny-gt0}
 
 first : (c : Then-ny-b) → 0 < c.args.ny
 first c = c.if-ny-gt0.true
@@ -50,7 +49,10 @@ returns-else-not-alike c =
 
 pub returns-else-ny-gt0 : goal.returns-else-ny-gt0
 returns-else-ny-gt0 c =
-    ⊎_elim (λ w. side_off _ _ _ _ _ _ _ _ _ (past_row _ _ _ _ w.0.taken (leb-false _ _ w.2.left))) (λ w. side_off _ _ _ _ _ _ _ _ _ (before_row _ _ _ _ w.left)) c.else-ny-gt0.branch
+    elim c.else-ny-gt0.branch [
+      else-ny-gt0-via-then-ny-gt0+else-ny-b w ↦ side_off _ _ _ _ _ _ _ _ _ (past_row _ _ _ _ w.if-ny-gt0.true (leb-false _ _ w.if-ny-b.false-raw))
+    | else-ny-gt0-via-else-ny-gt0 w ↦ side_off _ _ _ _ _ _ _ _ _ (before_row _ _ _ _ w.if-ny-gt0.false)
+    ]
 
 pub overflow_sub-ny : goal.overflow_sub-ny
 overflow_sub-ny c = first c

@@ -1,7 +1,6 @@
 -- `correction::errors::lower_artifact` meets its contract: where the orders leave no pair in doubt there is nothing to find. Assumes nothing.
 use mathlib.Core.Path.{◌≡◌, refl, sym, ◌∙◌}
 use mathlib.Core.Bool.{◌&&◌}
-use mathlib.Core.Logic.{⊎_elim}
 use Prim.Native.Nat.{◌-◌, ◌<◌, ◌≤◌}
 use native.Mathlib.Omega.{arith}
 use lib.Dec.{leb, ltb}
@@ -14,11 +13,11 @@ use Rattle.correction.specs.Inner.{four_at, four_of}
 use Rattle.correction.proofs.bitmap.Centres.{texel_held}
 use Rattle.correction.proofs.errors.Beside.{in_bounds_law, before_row, outside_column, known_doubt, four_read, across_on, across_off, across_clear}
 use Rattle.correction.proofs.errors.lower_artifact.Goals as goal
-use Rattle.correction.proofs.errors.lower_artifact.Goals.{After-doubt_towards-q, After-place-across, After-struct_known-1, Joined-nx-gt0, Then-nx-b}
+use Rattle.correction.proofs.errors.lower_artifact.Goals.{After-doubt_towards-q, After-place-across, Joined-nx-gt0, Then-nx-b, then-nx-gt0, else-nx-gt0, else-t-gt0-via-then-t-gt0+else-nx-b, else-t-gt0-via-else-t-gt0}
 
 -- the test of the column
 flag : (c : Joined-nx-gt0) → let a = c.args in c.if-nx-gt0.t-15 ≡ (ltb 0 a.nx && leb a.nx a.b.width)
-flag c = ⊎_elim (λ w. and_taken refl (lt-ltb _ _ w.0.taken) w.2) (λ w. w.1 ∙ and_left _ refl (le-ltb _ _ w.0.left)) c.if-nx-gt0.branch
+flag c = elim c.if-nx-gt0.branch [ then-nx-gt0 w ↦ and_taken refl (lt-ltb _ _ w.if-nx-gt0.true) w.t-15-is | else-nx-gt0 w ↦ w.t-15-is ∙ and_left _ refl (le-ltb _ _ w.if-nx-gt0.false) ]
 
 -- where the neighbour lies that is inside
 first : (c : Then-nx-b) → 0 < c.args.nx
@@ -82,10 +81,12 @@ returns-else-q-gt0 c =
 
 pub returns-else-t-gt0 : goal.returns-else-t-gt0
 returns-else-t-gt0 c =
-    ⊎_elim
-    (λ w. across_off _ _ _ _ _ _ _ _ _ _ _ (outside_column _ _ _ _ (sym (flag (record { before = record { before = (goal.at.returns-else-t-gt0 c).After-struct_known-1; if1 = w.0 }; if2 = w.1 })) ∙ w.2.left)))
-    (λ w. across_off _ _ _ _ _ _ _ _ _ _ _ (before_row _ _ _ _ w.left))
-    c.else-t-gt0.branch
+    elim c.else-t-gt0.branch [
+      else-t-gt0-via-then-t-gt0+else-nx-b w ↦
+        let test : w.if-nx-gt0.t-15 ≡ (ltb 0 c.args.nx && leb c.args.nx c.args.b.width) = elim w.if-nx-gt0.branch [ then-nx-gt0 v ↦ and_taken refl (lt-ltb _ _ v.if-nx-gt0.true) v.t-15-is | else-nx-gt0 v ↦ v.t-15-is ∙ and_left _ refl (le-ltb _ _ v.if-nx-gt0.false) ] in
+        across_off _ _ _ _ _ _ _ _ _ _ _ (outside_column _ _ _ _ (sym test ∙ w.if-nx-b.false-raw))
+    | else-t-gt0-via-else-t-gt0 w ↦ across_off _ _ _ _ _ _ _ _ _ _ _ (before_row _ _ _ _ w.if-t-gt0.false)
+    ]
 
 pub overflow_sub-nx : goal.overflow_sub-nx
 overflow_sub-nx c = first c

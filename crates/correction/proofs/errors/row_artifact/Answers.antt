@@ -1,6 +1,5 @@
 -- `correction::errors::row_artifact` meets its contract. Assumes nothing.
 use mathlib.Core.Path.{◌≡◌, refl, sym, ◌∙◌}
-use mathlib.Core.Logic.{⊎_elim}
 use Prim.Native.Nat.{◌-◌, ◌*◌, ◌<◌, ◌≤◌}
 use native.Mathlib.Omega.{arith}
 use borrow.Author.Tests.{leb-true, leb-false, not-false}
@@ -8,7 +7,7 @@ use Rattle.inputs.specs.Window.{cell_in}
 use Rattle.correction.proofs.bitmap.Centres.{texel_read, texel_held}
 use Rattle.correction.proofs.errors.Beside.{in_bounds_law, before_column, past_column, known_alike, side_on, side_off, side_alike}
 use Rattle.correction.proofs.errors.row_artifact.Goals as goal
-use Rattle.correction.proofs.errors.row_artifact.Goals.{After-place-at, Then-nx-b}
+use Rattle.correction.proofs.errors.row_artifact.Goals.{After-place-at, Then-nx-b, else-nx-gt0-via-then-nx-gt0+else-nx-b, else-nx-gt0-via-else-nx-gt0}
 
 first : (c : Then-nx-b) → 0 < c.args.nx
 first c = c.if-nx-gt0.true
@@ -50,7 +49,10 @@ returns-else-not-alike c =
 
 pub returns-else-nx-gt0 : goal.returns-else-nx-gt0
 returns-else-nx-gt0 c =
-    ⊎_elim (λ w. side_off _ _ _ _ _ _ _ _ _ (past_column _ _ _ _ w.0.taken (leb-false _ _ w.2.left))) (λ w. side_off _ _ _ _ _ _ _ _ _ (before_column _ _ _ _ w.left)) c.else-nx-gt0.branch
+    elim c.else-nx-gt0.branch [
+      else-nx-gt0-via-then-nx-gt0+else-nx-b w ↦ side_off _ _ _ _ _ _ _ _ _ (past_column _ _ _ _ w.if-nx-gt0.true (leb-false _ _ w.if-nx-b.false-raw))
+    | else-nx-gt0-via-else-nx-gt0 w ↦ side_off _ _ _ _ _ _ _ _ _ (before_column _ _ _ _ w.if-nx-gt0.false)
+    ]
 
 pub overflow_sub-nx : goal.overflow_sub-nx
 overflow_sub-nx c = first c

@@ -1,7 +1,6 @@
 -- `correction::errors::upper_artifact` meets its contract: where the orders leave no pair in doubt there is nothing to find. Assumes nothing.
 use mathlib.Core.Path.{◌≡◌, refl, sym, ◌∙◌}
 use mathlib.Core.Bool.{◌&&◌}
-use mathlib.Core.Logic.{⊎_elim}
 use Prim.Native.Nat.{◌+◌, ◌-◌, ◌<◌, ◌≤◌}
 use native.Mathlib.Omega.{arith}
 use lib.Dec.{leb, ltb}
@@ -15,11 +14,11 @@ use Rattle.correction.specs.Inner.{four_at, four_of}
 use Rattle.correction.proofs.bitmap.Centres.{texel_held}
 use Rattle.correction.proofs.errors.Beside.{in_bounds_law, past_row, outside_column, known_doubt, four_read, across_on, across_off, across_clear}
 use Rattle.correction.proofs.errors.upper_artifact.Goals as goal
-use Rattle.correction.proofs.errors.upper_artifact.Goals.{After-doubt_towards-q, After-place-across, After-struct_known-2-1, Joined-nx-gt0, Then-nx-b}
+use Rattle.correction.proofs.errors.upper_artifact.Goals.{After-doubt_towards-q, After-place-across, Joined-nx-gt0, Then-nx-b, then-nx-gt0, else-nx-gt0, else-t-b-via-then-t-b+else-nx-b, else-t-b-via-else-t-b}
 
 -- the test of the column
 flag : (c : Joined-nx-gt0) → let a = c.args in c.if-nx-gt0.t-16 ≡ (ltb 0 a.nx && leb a.nx a.b.width)
-flag c = ⊎_elim (λ w. and_taken refl (lt-ltb _ _ w.0.taken) w.2) (λ w. w.1 ∙ and_left _ refl (le-ltb _ _ w.0.left)) c.if-nx-gt0.branch
+flag c = elim c.if-nx-gt0.branch [ then-nx-gt0 w ↦ and_taken refl (lt-ltb _ _ w.if-nx-gt0.true) w.t-16-is | else-nx-gt0 w ↦ w.t-16-is ∙ and_left _ refl (le-ltb _ _ w.if-nx-gt0.false) ]
 
 -- where the neighbour lies that is inside
 first : (c : Then-nx-b) → 0 < c.args.nx
@@ -80,10 +79,12 @@ returns-else-q-gt0 c =
 
 pub returns-else-t-b : goal.returns-else-t-b
 returns-else-t-b c =
-    ⊎_elim
-    (λ w. across_off _ _ _ _ _ _ _ _ _ _ _ (outside_column _ _ _ _ (sym (flag (record { before = record { before = (goal.at.returns-else-t-b c).After-struct_known-2-1; if1 = w.0 }; if2 = w.1 })) ∙ w.2.left)))
-    (λ w. across_off _ _ _ _ _ _ _ _ _ _ _ (past_row _ _ _ _ (omega arith) (omega (arith, w.left))))
-    c.else-t-b.branch
+    elim c.else-t-b.branch [
+      else-t-b-via-then-t-b+else-nx-b w ↦
+        let test : w.if-nx-gt0.t-16 ≡ (ltb 0 c.args.nx && leb c.args.nx c.args.b.width) = elim w.if-nx-gt0.branch [ then-nx-gt0 v ↦ and_taken refl (lt-ltb _ _ v.if-nx-gt0.true) v.t-16-is | else-nx-gt0 v ↦ v.t-16-is ∙ and_left _ refl (le-ltb _ _ v.if-nx-gt0.false) ] in
+        across_off _ _ _ _ _ _ _ _ _ _ _ (outside_column _ _ _ _ (sym test ∙ w.if-nx-b.false-raw))
+    | else-t-b-via-else-t-b w ↦ across_off _ _ _ _ _ _ _ _ _ _ _ (past_row _ _ _ _ (omega arith) (omega (arith, w.if-t-b.false)))
+    ]
 
 pub overflow_sub-nx : goal.overflow_sub-nx
 overflow_sub-nx c = first c

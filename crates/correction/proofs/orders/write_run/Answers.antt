@@ -21,22 +21,19 @@ pub cell-k-requires : goal.cell-k-requires
 cell-k-requires c =
     let p = c.requires in record { fits = p.sampled.fits; x_lt_width = (c.loop-x-test.true, p.y_lt_height.0) }
 
--- what a turn finds at k, the cell of its texel
+-- what a turn finds (goal.at.In-loop-x c).At-loop-x k, the cell of its texel
 module _ (c : In-loop-x) where
-  abbrev at : At-loop-x
-  at = (goal.at.In-loop-x c).At-loop-x
-
   abbrev start : Start
-  start = at.before.before.before
+  start = (goal.at.In-loop-x c).Start
 
-  module _ {k : ℕ} (e : k ≡ cell_in start.args.b at.loop-x.x start.args.y) where
+  module _ {k : ℕ} (e : k ≡ cell_in start.args.b c.loop-x.x start.args.y) where
     -- it is in the stencil
-    there : k < length at.loop-x.stencil
-    there = stretch_held (above start.args.b start.args.xs.now) _ _ _ start.requires.stencilled.0 start.requires.y_lt_height.0 at.loop-x.invariant c.loop-x-test.true e
+    there : k < length c.loop-x.stencil
+    there = stretch_held (above start.args.b start.args.xs.now) _ _ _ start.requires.stencilled.0 start.requires.y_lt_height.0 c.loop-x.invariant c.loop-x-test.true e
 
     -- its byte has no more than three bits
-    few : get_or at.loop-x.stencil k 0 < 8
-    few = rw (e, upto_at _ _ _ at.loop-x.invariant _ _ c.loop-x-test.true start.requires.y_lt_height.0 (le_refl _)) (start.requires.stencilled.1 _ c.loop-x-test.true)
+    few : get_or c.loop-x.stencil k 0 < 8
+    few = rw (e, upto_at _ _ _ c.loop-x.invariant _ _ c.loop-x-test.true start.requires.y_lt_height.0 (le_refl _)) (start.requires.stencilled.1 _ c.loop-x-test.true)
 
 -- the three samples of its texel are in the list
 last : (c : After-cell-k) → let s = start (goal.at.After-cell-k c).In-loop-x in c.cell-k.result * s.args.step + 2 < length s.args.xs.now
@@ -47,7 +44,7 @@ last c =
 pub loop-x-preserved : goal.loop-x-preserved
 loop-x-preserved c =
     let p = (start (goal.at.loop-x-preserved c).In-loop-x).requires in
-    order_next _ _ p.sampled c.loop-x-test.true p.y_lt_height.0 c.cell-k.ensures p.y_lt_height.1 _ p.stencilled.0 (at (goal.at.loop-x-preserved c).In-loop-x).loop-x.invariant (c.order_code.ensures.0 ∙ ap order_code c.samples_at.ensures)
+    order_next _ _ p.sampled c.loop-x-test.true p.y_lt_height.0 c.cell-k.ensures p.y_lt_height.1 _ p.stencilled.0 c.loop-x.invariant (c.order_code.ensures.0 ∙ ap order_code c.samples_at.ensures)
 
 pub returns : goal.returns
 unfolding row_orders

@@ -30,7 +30,7 @@ roomy c = sym c.bad_room.ensures ∙ c.if-bad_room.false
 -- checks 5 to 9 answer
 said : (c : After-check-f) → let i = given (goal.at.After-check-f c).Start in let r = c.check-f.result in (r.number ≡ refusal_number i) × (r.place ≡ refusal_place i)
 said c =
-    by_content (given (goal.at.After-check-f c).Start) c.size_refusal-n.ensures c.if-n-ne0.false (roomy (goal.at.After-check-f c).Else-bad_room) (windowed (given (goal.at.After-check-f c).Start) c.whole-g.ensures (fine (goal.at.After-check-f c).Else-n-ne0) c.check-f.ensures)
+    by_content (given (goal.at.After-check-f c).Start) c.size_refusal-n.ensures c.if-n-ne0.false (roomy (goal.at.After-check-f c).Else-bad_room) (windowed (given (goal.at.After-check-f c).Start) c.whole-g.ensures (fine (goal.at.After-check-f c).Else-n-ne0) (c.check-f.ensures.numbers, c.check-f.ensures.places))
 
 -- all have passed
 all : (c : Else-f-ne0) → refusal_number (given (goal.at.Else-f-ne0 c).Start) ≡ 0
@@ -38,17 +38,17 @@ all c = sym (said (goal.at.Else-f-ne0 c).After-check-f).0 ∙ c.if-f-ne0.false
 
 pub returns-then-n-ne0 : goal.returns-then-n-ne0
 returns-then-n-ne0 c =
-    let p = by_sizes_law (given (goal.at.returns-then-n-ne0 c).Start) c.size_refusal-n.ensures c.if-n-ne0.true in let all : _ × _ × _ × _ = refused (given (goal.at.returns-then-n-ne0 c).Start) _ _ p.0 p.1 c.if-n-ne0.true in record { answers = all.0; leaves = all.1.0; writes = all.1.1.0; clears = all.1.1.1 }
+    let p = by_sizes_law (given (goal.at.returns-then-n-ne0 c).Start) c.size_refusal-n.ensures c.if-n-ne0.true in let all = refused (given (goal.at.returns-then-n-ne0 c).Start) _ _ p.0 p.1 c.if-n-ne0.true in record { answers = all.0; leaves = all.1.0; writes = all.1.1.0; clears = all.1.1.1 }
 
 pub returns-then-bad_room : goal.returns-then-bad_room
 returns-then-bad_room c =
-    let p = by_room (given (goal.at.returns-then-bad_room c).Start) c.size_refusal-n.ensures c.if-n-ne0.false (sym c.bad_room.ensures ∙ c.if-bad_room.true) in let all : _ × _ × _ × _ = refused (given (goal.at.returns-then-bad_room c).Start) _ _ p.0 p.1 (λ z. absurd (omega arith)) in record { answers = all.0; leaves = all.1.0; writes = all.1.1.0; clears = all.1.1.1 }
+    let p = by_room (given (goal.at.returns-then-bad_room c).Start) c.size_refusal-n.ensures c.if-n-ne0.false (sym c.bad_room.ensures ∙ c.if-bad_room.true) in let all = refused (given (goal.at.returns-then-bad_room c).Start) _ _ p.0 p.1 (λ z. absurd (omega arith)) in record { answers = all.0; leaves = all.1.0; writes = all.1.1.0; clears = all.1.1.1 }
 
 pub check-f-requires : goal.check-f-requires
 check-f-requires c = held (given (goal.at.check-f-requires c).Start) c.whole-g.ensures (fine (goal.at.check-f-requires c).Else-n-ne0)
 
 pub returns-then-f-ne0 : goal.returns-then-f-ne0
-returns-then-f-ne0 c = let all : _ × _ × _ × _ = refused (given (goal.at.returns-then-f-ne0 c).Start) _ _ (said (goal.at.returns-then-f-ne0 c).After-check-f).0 (said (goal.at.returns-then-f-ne0 c).After-check-f).1 c.if-f-ne0.true in record { answers = all.0; leaves = all.1.0; writes = all.1.1.0; clears = all.1.1.1 }
+returns-then-f-ne0 c = let all = refused (given (goal.at.returns-then-f-ne0 c).Start) _ _ (said (goal.at.returns-then-f-ne0 c).After-check-f).0 (said (goal.at.returns-then-f-ne0 c).After-check-f).1 c.if-f-ne0.true in record { answers = all.0; leaves = all.1.0; writes = all.1.1.0; clears = all.1.1.1 }
 
 pub correct-tests-requires : goal.correct-tests-requires
 correct-tests-requires c =
@@ -61,4 +61,4 @@ returns c =
     let i = given (goal.at.returns c).Start in
     let z = all (goal.at.returns c).Else-f-ne0 in
     let r = ready i z in
-    let h = finished i c.whole-g.ensures r.0 r.1.0 _ c.fill.ensures c.correct-tests.ensures in let all : _ × _ × _ × _ = answered i _ _ _ _ _ z h.0 h.1.0 h.1.1 (c.clear.ensures ∙ ap (λ (n : ℕ). tab n (λ k. zero_of binary32)) c.correct-tests.auto.1.1.0) c.count_cells.ensures in record { answers = all.0; leaves = all.1.0; writes = all.1.1.0; clears = all.1.1.1 }
+    let h = finished i c.whole-g.ensures r.0 r.1.0 _ c.fill.ensures (c.correct-tests.ensures.makes, (c.correct-tests.ensures.leaves, c.correct-tests.ensures.writes)) in let all = answered i _ _ _ _ _ z h.0 h.1.0 h.1.1 (c.clear.ensures ∙ ap (λ (n : ℕ). tab n (λ k. zero_of binary32)) c.correct-tests.auto.room) c.count_cells.ensures in record { answers = all.0; leaves = all.1.0; writes = all.1.1.0; clears = all.1.1.1 }

@@ -24,10 +24,10 @@ check-requires c =
     sampled_as (given (goal.at.check-requires c).Start) c.args.c c.cell_at-k.result c.cell_at-k.ensures (sampled (given (goal.at.check-requires c).Start) c.args.c c.requires.0 c.requires.1)
 
 pub returns : goal.returns
-returns c = let all : _ × _ = judged (given (goal.at.returns c).Start) c.args.c c.cell_at-k.result c.cell_at-k.ensures c.check.ensures in record { numbers = all.0; places = all.1 }
+returns c = let all = judged (given (goal.at.returns c).Start) c.args.c c.cell_at-k.result c.cell_at-k.ensures (c.check.ensures.numbers, c.check.ensures.places) in record { numbers = all.0; places = all.1 }
 
 pub cell_at-k-requires : goal.cell_at-k-requires
-cell_at-k-requires c = cell_there (given (goal.at.cell_at-k-requires c).Start) c.args.c c.requires.0 c.requires.1
+cell_at-k-requires c = let all = cell_there (given (goal.at.cell_at-k-requires c).Start) c.args.c c.requires.0 c.requires.1 in record { c_in_bounds = all.0; area_inside = all.1 }
 
 pub overflow_add-pe : goal.overflow_add-pe
 overflow_add-pe c = omega (arith, (held (goal.at.overflow_add-pe c).After-cell_at-k).colours, c.well_formed)

@@ -13,7 +13,7 @@ check_cell-f-requires c = (c.requires, c.loop-c-test.true)
 
 pub returns-then-f-ne0 : goal.returns-then-f-ne0
 returns-then-f-ne0 c =
-    content_found _ c.loop-c.invariant c.loop-c-test.true c.check_cell-f.ensures c.if-f-ne0.true
+    content_found _ c.loop-c.invariant c.loop-c-test.true (c.check_cell-f.ensures.numbers, c.check_cell-f.ensures.places) c.if-f-ne0.true
 
 pub loop-c-preserved : goal.loop-c-preserved
 loop-c-preserved c =

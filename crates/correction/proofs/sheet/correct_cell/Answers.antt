@@ -37,10 +37,10 @@ returns c =
     let n = c.args.c in
     let r = c.cell_at-k.result in
     let e = c.cell_at-k.ensures in
-    let p = c.correct-tests.ensures in record { counts = tallied g n r e p.1.0 _ _ c.count_cells-n.ensures p.0; leaves = leaves g n r e p.1.0; writes = writes g n r e p.1.1 }
+    let p = c.correct-tests.ensures in record { counts = tallied g n r e p.leaves _ _ c.count_cells-n.ensures p.makes; leaves = leaves g n r e p.leaves; writes = writes g n r e p.writes }
 
 pub cell_at-k-requires : goal.cell_at-k-requires
-cell_at-k-requires c = cell_there (given (goal.at.cell_at-k-requires c).Start) c.args.c c.requires.laid.0 c.requires.laid.1
+cell_at-k-requires c = let all = cell_there (given (goal.at.cell_at-k-requires c).Start) c.args.c c.requires.laid.0 c.requires.laid.1 in record { c_in_bounds = all.0; area_inside = all.1 }
 
 pub overflow_add-pe : goal.overflow_add-pe
 overflow_add-pe c = omega (arith, (held (goal.at.overflow_add-pe c).After-cell_at-k).colours, c.well_formed)

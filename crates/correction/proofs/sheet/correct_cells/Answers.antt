@@ -55,7 +55,7 @@ loop-c-preserved c =
     let i = c.loop-c.invariant in
     let b = c.loop-c-test.true in
     let e = c.correct_cell-n.ensures in
-    (corrected_step (given (goal.at.loop-c-preserved c).Start) c.requires.ready _ b i.0 e.1.0 e.1.1, summed_step (given (goal.at.loop-c-preserved c).Start) _ _ _ _ _ _ i.1 (same_tally (given (goal.at.loop-c-preserved c).Start) c.requires.ready _ b i.0 e.0), omega arith, c.correct_cell-n.kept.1.1.0 ∙ i.3)
+    (corrected_step (given (goal.at.loop-c-preserved c).Start) c.requires.ready _ b i.0 e.leaves e.writes, summed_step (given (goal.at.loop-c-preserved c).Start) _ _ _ _ _ _ i.1 (same_tally (given (goal.at.loop-c-preserved c).Start) c.requires.ready _ b i.0 e.counts), omega arith, c.correct_cell-n.auto.room ∙ i.3)
 
 pub returns : goal.returns
 returns c =

@@ -14,7 +14,7 @@ use Rattle.correction.proofs.sheet.Laid.{stages, ready}
 use Rattle.correction.proofs.sheet.Filled.{ready_filled, filled_zeros, left_filled}
 use Rattle.correction.proofs.sheet.Answered.{refused, answered}
 use Rattle.correction.proofs.sheet.msdf_sheet_error_correction.Goals as goal
-use Rattle.correction.proofs.sheet.msdf_sheet_error_correction.Goals.{After-check-f, After-fill, Start}
+use Rattle.correction.proofs.sheet.msdf_sheet_error_correction.Goals.{Start}
 
 -- the sheet
 abbrev given : Start → Sheet
@@ -23,18 +23,18 @@ given c =
     sheet a.width a.height a.channels a.samples.now a.stencil.now a.room.now a.cells.now a.modes.now a.settings.now a.colours.now a.coords.now a.ends.now
 
 pub returns-then-f-ne0 : goal.returns-then-f-ne0
-returns-then-f-ne0 c = let all : _ × _ × _ × _ = refused (given (goal.at.returns-then-f-ne0 c).Start) _ c.check-f.ensures c.if-f-ne0.true in record { answers = all.0; leaves = all.1.0; writes = all.1.1.0; clears = all.1.1.1 }
+returns-then-f-ne0 c = let all = refused (given (goal.at.returns-then-f-ne0 c).Start) _ c.check-f.ensures c.if-f-ne0.true in record { answers = all.0; leaves = all.1.0; writes = all.1.1.0; clears = all.1.1.1 }
 
 pub correct_cells-n-requires : goal.correct_cells-n-requires
 correct_cells-n-requires c =
     let g = given (goal.at.correct_cells-n-requires c).Start in
-    let z = sym (ap (λ ((goal.at.correct_cells-n-requires c).After-fill : Failure). c.number) c.check-f.ensures) ∙ c.if-f-ne0.false in record { ready = ready_filled g _ (ap length c.fill.ensures ∙ tab_length _ _) (ready g z); stencil_value = filled_zeros _ _ c.fill.ensures; width_in_bounds = good_room _ _ (stages g z).room }
+    let z = sym (ap (λ (f : Failure). f.number) c.check-f.ensures) ∙ c.if-f-ne0.false in record { ready = ready_filled g _ (ap length c.fill.ensures ∙ tab_length _ _) (ready g z); stencil_value = filled_zeros _ _ c.fill.ensures; width_in_bounds = good_room _ _ (stages g z).room }
 
 pub returns : goal.returns
 returns c =
     let g = given (goal.at.returns c).Start in
     let e = c.correct_cells-n.ensures in
-    let l = left_filled g _ in let all : _ × _ × _ × _ = answered g _ _ _ _ _ c.check-f.ensures c.if-f-ne0.false (e.0 ∙ l.0) (e.1.0 ∙ l.1.0) (e.1.1 ∙ l.1.1) (c.clear.ensures ∙ ap (λ (n : ℕ). tab n (λ (goal.at.returns c).After-check-f. zero_of binary32)) c.correct_cells-n.auto.1.1.0) in record { answers = all.0; leaves = all.1.0; writes = all.1.1.0; clears = all.1.1.1 }
+    let l = left_filled g _ in let all = answered g _ _ _ _ _ c.check-f.ensures c.if-f-ne0.false (e.counts ∙ l.0) (e.leaves ∙ l.1.0) (e.writes ∙ l.1.1) (c.clear.ensures ∙ ap (λ (n : ℕ). tab n (λ k. zero_of binary32)) c.correct_cells-n.auto.room) in record { answers = all.0; leaves = all.1.0; writes = all.1.1.0; clears = all.1.1.1 }
 
 pub check-f-requires : goal.check-f-requires
 check-f-requires c = tt
