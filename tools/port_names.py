@@ -97,7 +97,7 @@ class Turn:
             return snake(word)
         if new is None or word in page["libraries"]:
             return word
-        if behind is not None and not (behind[:1].isupper() or word in self.fields):
+        if behind is not None and not (behind[:1].isupper() or behind in page["modules"] or word in self.fields):
             return word
         if (word in SHARED or word in TYPES) and (behind is not None or not page["shared"](word)):
             return word
@@ -164,6 +164,7 @@ class Turn:
             "libraries": set(from_libraries(t)),
             "declared": {self.table.get(m[3], m[3]) for m in DECLARED.finditer(t)} | {m[3] for m in DECLARED.finditer(t)},
             "aliases": {a for a in re.findall(r"^use \S+ as (\S+)$", t, re.M) if "-" in a},
+            "modules": {a for path, a in re.findall(r"\buse (\S+) as ([^\s;]+)", t) if OWN.match(path)},
             "shared": lambda w: p in self.homes[w] and "/proofs/" in p or w in imported,
         }
 

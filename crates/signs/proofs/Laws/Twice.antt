@@ -80,6 +80,8 @@ large_multiple j (fin s m e) p h =
   where
     parted : (z : ℕ) → j ≤ z → z ≡ z - j + j
     parted z h = omega arith
+large_multiple j lib.Ieee.nan p h = elim p [ ]
+large_multiple j (lib.Ieee.inf _) p h = elim p [ ]
 
 -- a whole number's size by its parts
 parts : (k : ℤ) → nat_abs k ≡ gain k + loss k

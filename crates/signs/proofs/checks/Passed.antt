@@ -28,7 +28,7 @@ Channels ch = (ch ≡ 1) ⊎ ((3 ≤ ch) × (ch ≤ 4))
 
 either : (ch : ℕ) (b : Bool) → eqb ch 1 ≡ b → (not b && Pass.bad_channels ch) ≡ false → Channels ch
 either ch true p h = inl (eqb-true ch 1 p)
-either ch false p h = inr (pass.channel-bound ch h)
+either ch false p h = inr (pass.channel_bound ch h)
 
 pub channels : (ch : ℕ) → bad_channels ch ≡ false → Channels ch
 unfolding bad_channels
@@ -53,8 +53,8 @@ pub sizes : (w h ch n : ℕ) → size_refusal w h ch n ≡ 0 → Sizes w h ch n
 unfolding size_refusal
 sizes w h ch n p =
     let q = all_pass (size_checks w h ch n) refl p in
-    let b = pass.size-bound w h q.1.0 in
-    record { wide = b.0; high = b.1; channels = channels ch q.0; few = channel_bound ch q.0; samples = pass.sample-count w h ch n q.1.1.0 }
+    let b = pass.size_bound w h q.1.0 in
+    record { wide = b.0; high = b.1; channels = channels ch q.0; few = channel_bound ch q.0; samples = pass.sample_count w h ch n q.1.1.0 }
 
 -- all checks
 pub record Passed (i : Input) : Type 0 where
@@ -79,21 +79,21 @@ passed i p =
     let f = all_pass (content_checks i) refl a.1 in
     record {
       sizes = sizes i.width i.height i.channels (length i.samples) a.0;
-      samples = pass.good-samples i.samples f.0;
+      samples = pass.good_samples i.samples f.0;
       zero = f.1.0;
       filled = filled_long (i.width * i.height) i.filled f.1.1.0;
       matches = matches_long (i.width * i.height) (length i.matches) f.1.1.1.0;
     }
 
 pub numbers : (i : Input) → Passed i → Numbers i.samples
-numbers i p = record { number = λ j l. pass.good-number binary32 (get_or i.samples j nan) (p.samples j l) }
+numbers i p = record { number = λ j l. pass.good_number binary32 (get_or i.samples j nan) (p.samples j l) }
 
 -- the samples are so many for each texel, and not too many, and the texels are rows of the width
 pub many : (i : Input) → Passed i → length i.samples ≡ length i.filled * i.channels
 many i p = p.sizes.samples ∙ ap (λ (n : ℕ). n * i.channels) (sym p.filled)
 
 pub few : (i : Input) → Passed i → length i.samples ≤ 67108864
-few i p = let s = p.sizes in rw s.samples (pass.volume-fits i.width i.height i.channels s.wide.1 s.high.1 s.few)
+few i p = let s = p.sizes in rw s.samples (pass.volume_fits i.width i.height i.channels s.wide.1 s.high.1 s.few)
 
 pub texels : (i : Input) → Passed i → length i.filled ≡ i.height * i.width
 texels i p = p.filled ∙ mul_comm i.width i.height

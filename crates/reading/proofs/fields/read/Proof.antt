@@ -265,7 +265,7 @@ module _ {M : Type 1} {𝓤 : Ura M} (𝓛 : Logic 𝓤) (mem : Memory → SProp
 
     -- a turn's postcondition: fewer turns are left, or the loop is left and the rest of the body runs
     abbrev Turned : Turn κ s → Out → SProp 𝓤
-    Turned t = after_turn 𝓤 H (Below 𝓛 (Nearer κ s) At t) (after_block 𝓤 H (after_seq 𝓤 H (Wp 𝓤 H 𝓣.C 𝓣.Λ En parts.t-4 (at_return 𝓤 H En Post)) (at_return 𝓤 H En Post)))
+    Turned t = after_turn 𝓤 H (Below 𝓛 (Nearer κ s) At t) (after_block 𝓤 H (after_seq 𝓤 H (Wp 𝓤 H 𝓣.C 𝓣.Λ En parts.t_4 (at_return 𝓤 H En Post)) (at_return 𝓤 H En Post)))
 
     typed_r : (r : Reader) (u : Val) → Is (B (κ, tt)) r (u ∷ []) → Holds (has_ty Rd u) × WT u
     typed_r r u is = ((LL.lawful (T.the_type αᵉ) (T'.the_laws αᵉ) 𝓛).typed r _ is).0
@@ -274,19 +274,19 @@ module _ {M : Type 1} {𝓤 : Ura M} (𝓛 : Logic 𝓤) (mem : Memory → SProp
     typed_l l y is = ((LL.lawful L.the_type L'.the_laws 𝓛).typed l _ is).0
 
     -- nothing is due: the layout is what is answered
-    ends : (t : Turn κ s) → t.l.due ≡ 0 → Sq 𝓛 (At t) (runs 𝓣.C 𝓣.Λ En parts.turn-1 (any_q (Turned t)))
+    ends : (t : Turn κ s) → t.l.due ≡ 0 → Sq 𝓛 (At t) (runs 𝓣.C 𝓣.Λ En parts.turn_1 (any_q (Turned t)))
     unfolding after_turn
     ends t none =
         assigns ! (bin ! (lit ! tt) (load ! (from ! (fld ! refl (stop !))) (look_in ! 11 (sub ! 0 refl (whole !)))) tt) (from ! (stop !)) (init ! 7 refl (tt, tt)) $
         rewrite ! 7 (λ (b : Bool). ‵ (fat full_share ty_bool l₅ 0 (vbool b))) (le-ltb 0 t.l.due (omega arith)) refl $
-        leaves_loop ! (load ! (from ! (stop !)) (look ! 7 refl)) $ exec ! 𝓣.C 𝓣.Λ En parts.t-4 (at_ret En Post) $
+        leaves_loop ! (load ! (from ! (stop !)) (look ! 7 refl)) $ exec ! 𝓣.C 𝓣.Λ En parts.t_4 (at_ret En Post) $
         assigns ! (of_opd ! (load ! (from ! (stop !)) (look ! 11 refl))) (from ! (stop !)) (init ! 17 refl (typed_l t.l _ t.fits)) $
         returns ! (look ! 17 refl) $ forget ! 7 refl $ forget ! 11 refl $ forget ! 13 refl $ forget ! 15 refl $ forget ! 17 refl $
         move ! (17 ∷ 18 ∷ []) $ free1 ! $ move ! (15 ∷ 16 ∷ []) $ free1 ! $ move ! (13 ∷ 14 ∷ []) $ free1 ! $ move ! (11 ∷ 12 ∷ []) $ free1 ! $ move ! (9 ∷ 10 ∷ []) $ free1 ! $ move ! (7 ∷ 8 ∷ []) $ free1 ! $ move ! (5 ∷ 6 ∷ []) $ free1 ! $ move ! (3 ∷ 4 ∷ []) $ free1 ! $ free0 ! $
         drop ! $ owned ! L.the_row (Is L.the_row) (LL.makes L.the_type L'.the_plain 𝓛) t.l _ t.fits $ by ! (exits t.l _ (read_due s.now t.r.at t.l none t.so_far))
 
     -- a tag is due: the field is told and judged, and the reader is put behind it
-    more : (t : Turn κ s) → 0 < t.l.due → Sq 𝓛 (At t) (runs 𝓣.C 𝓣.Λ En parts.turn-1 (any_q (Turned t)))
+    more : (t : Turn κ s) → 0 < t.l.due → Sq 𝓛 (At t) (runs 𝓣.C 𝓣.Λ En parts.turn_1 (any_q (Turned t)))
     unfolding after_turn
     more t due =
         assigns ! (bin ! (lit ! tt) (load ! (from ! (fld ! refl (stop !))) (look_in ! 11 (sub ! 0 refl (whole !)))) tt) (from ! (stop !)) (init ! 7 refl (tt, tt)) $
@@ -330,10 +330,10 @@ module _ {M : Type 1} {𝓤 : Ura M} (𝓛 : Logic 𝓤) (mem : Memory → SProp
         fewer : (f : Field) (r : Reader) (l : Layout) → Told t.r.src.now t.r.at f → r.at ≡ f.next → Stepped s.now f.at f.next t.l.due l → turns r.at l.due < turns t.r.at t.l.due
         fewer f r l told e stepped = rw (e, ← told.place) stepped.fewer
 
-    turned : (t : Turn κ s) → Sq 𝓛 (At t) (runs 𝓣.C 𝓣.Λ En parts.turn-1 (any_q (Turned t)))
+    turned : (t : Turn κ s) → Sq 𝓛 (At t) (runs 𝓣.C 𝓣.Λ En parts.turn_1 (any_q (Turned t)))
     turned t = dite (dec_lt 0 t.l.due) (more t) (λ n. ends t (omega arith))
 
-    looped : (t : Turn κ s) → Sq 𝓛 (At t) (runs 𝓣.C 𝓣.Λ En parts.t-3 (at_ret En Post))
+    looped : (t : Turn κ s) → Sq 𝓛 (At t) (runs 𝓣.C 𝓣.Λ En parts.t_3 (at_ret En Post))
     looped t = first ! $ blocks ! $ loops ! 𝓣 (Nearer κ s) (Nearer_wf κ s) At turned t
 
     -- the code before the loop: the reader is made, and the layout before the first field
@@ -341,7 +341,7 @@ module _ {M : Type 1} {𝓤 : Ura M} (𝓛 : Logic 𝓤) (mem : Memory → SProp
     Entered = ‵ (froom Rd l₇ 0) ∷ ‵ (fdies Rd l₇) ∷ ‵ (froom Rd l₆ 0) ∷ ‵ (fdies Rd l₆) ∷ ‵ (froom ty_bool l₅ 0) ∷ ‵ (fdies ty_bool l₅) ∷ ‵ (froom F'.mir l₄ 0) ∷ ‵ (fdies F'.mir l₄) ∷ ‵ (froom L'.mir l₃ 0) ∷ ‵ (fdies L'.mir l₃)
         ∷ ‵ (froom Rd l₂ 0) ∷ ‵ (fdies Rd l₂) ∷ ‵ (fat full_share Sl l₁ 0 v) ∷ ‵ (fdies Sl l₁) ∷ ‵ (froom L'.mir l₀ 0) ∷ ‵ (fdies L'.mir l₀) ∷ raw (on_entry 𝓛 read.signature (κ, tt) (q, tt) (s, tt) (v ∷ [], tt)) ∷ []
 
-    begins : Sq 𝓛 Entered (runs 𝓣.C 𝓣.Λ En parts.t-1 (at_ret En Post))
+    begins : Sq 𝓛 Entered (runs 𝓣.C 𝓣.Λ En parts.t_1 (at_ret En Post))
     begins =
         move ! (16 ∷ []) $ use1 𝓛 (raw ((New 𝓛 mem run).pre to_new) ⊛ ‵ Own) goes_new $ split ! $
         calls_at ! fm (New 𝓛 mem run) known.known_new to_new (and_then ! (load ! (from ! (stop !)) (look ! 14 refl)) (no_more !)) (λ u.
@@ -385,9 +385,9 @@ read_spec 𝓤 𝓛 𝓜 𝓡 =
     (tables 𝓤 𝓛.H 𝓜 𝓡 code.env).C (tables 𝓤 𝓛.H 𝓜 𝓡 code.env).Λ #reading·fields·read code.function (code.unfolded 𝓤 𝓛.H 𝓜 𝓡)
     (read_meets 𝓛 𝓜.mem 𝓡.run (tables_of 𝓤 𝓛.H 𝓜 (tables 𝓤 𝓛.H 𝓜 𝓡 code.env))
     (record {
-      known_new = cited 𝓤 𝓛.H (New 𝓛 𝓜.mem 𝓡.run) 𝓜 𝓡 code.env #reading·reader·new new_def.routine code.calls-reading::reader::new (new_thm.met 𝓤 𝓛 𝓜 𝓡);
-      known_tell = cited 𝓤 𝓛.H (Tell 𝓛 𝓜.mem 𝓡.run) 𝓜 𝓡 code.env #reading·reader·tell tell_def.routine code.calls-reading::reader::tell (tell_thm.met 𝓤 𝓛 𝓜 𝓡);
-      known_behind = cited 𝓤 𝓛.H (Behind 𝓛 𝓜.mem 𝓡.run) 𝓜 𝓡 code.env #reading·reader·behind behind_def.routine code.calls-reading::reader::behind (behind_thm.met 𝓤 𝓛 𝓜 𝓡);
-      known_start = cited 𝓤 𝓛.H (Start 𝓛 𝓜.mem 𝓡.run) 𝓜 𝓡 code.env #reading·fields·start start_def.routine code.calls-reading::fields::start (start_thm.met 𝓤 𝓛 𝓜 𝓡);
-      known_step = cited 𝓤 𝓛.H (One 𝓛 𝓜.mem 𝓡.run) 𝓜 𝓡 code.env #reading·fields·step step_def.routine code.calls-reading::fields::step (step_thm.met 𝓤 𝓛 𝓜 𝓡);
+      known_new = cited 𝓤 𝓛.H (New 𝓛 𝓜.mem 𝓡.run) 𝓜 𝓡 code.env #reading·reader·new new_def.routine code.calls_reading::reader::new (new_thm.met 𝓤 𝓛 𝓜 𝓡);
+      known_tell = cited 𝓤 𝓛.H (Tell 𝓛 𝓜.mem 𝓡.run) 𝓜 𝓡 code.env #reading·reader·tell tell_def.routine code.calls_reading::reader::tell (tell_thm.met 𝓤 𝓛 𝓜 𝓡);
+      known_behind = cited 𝓤 𝓛.H (Behind 𝓛 𝓜.mem 𝓡.run) 𝓜 𝓡 code.env #reading·reader·behind behind_def.routine code.calls_reading::reader::behind (behind_thm.met 𝓤 𝓛 𝓜 𝓡);
+      known_start = cited 𝓤 𝓛.H (Start 𝓛 𝓜.mem 𝓡.run) 𝓜 𝓡 code.env #reading·fields·start start_def.routine code.calls_reading::fields::start (start_thm.met 𝓤 𝓛 𝓜 𝓡);
+      known_step = cited 𝓤 𝓛.H (One 𝓛 𝓜.mem 𝓡.run) 𝓜 𝓡 code.env #reading·fields·step step_def.routine code.calls_reading::fields::step (step_thm.met 𝓤 𝓛 𝓜 𝓡);
     }))

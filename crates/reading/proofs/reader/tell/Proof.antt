@@ -166,4 +166,4 @@ tell_spec 𝓤 𝓛 𝓜 𝓡 =
     entered 𝓤 𝓛.H (triple_of 𝓛 tell.signature (tell.spec 𝓛 𝓜.mem 𝓡.run))
     (tables 𝓤 𝓛.H 𝓜 𝓡 code.env).C (tables 𝓤 𝓛.H 𝓜 𝓡 code.env).Λ #reading·reader·tell code.function (code.unfolded 𝓤 𝓛.H 𝓜 𝓡)
     (tell_meets 𝓛 𝓜.mem 𝓡.run (tables_of 𝓤 𝓛.H 𝓜 (tables 𝓤 𝓛.H 𝓜 𝓡 code.env))
-    (cited 𝓤 𝓛.H (FieldAt 𝓛 𝓜.mem 𝓡.run) 𝓜 𝓡 code.env #reading·reader·field-at field_at_def.routine code.calls-reading::reader::field-at (field_at_thm.met 𝓤 𝓛 𝓜 𝓡)))
+    (cited 𝓤 𝓛.H (FieldAt 𝓛 𝓜.mem 𝓡.run) 𝓜 𝓡 code.env #reading·reader·field-at field_at_def.routine code.calls_reading::reader::field_at (field_at_thm.met 𝓤 𝓛 𝓜 𝓡)))

@@ -1,0 +1,14 @@
+-- `signs::rasterization::flip_three` meets its contract. Assumes nothing.
+use native.Mathlib.Omega.{arith}
+use lib.ListN.{length-set}
+use borrow.Author.Rules.{rules}
+use Rattle.signs.specs.Inner.{flipped_at}
+use Rattle.signs.proofs.rasterization.flip_three.Goals as goal
+
+pub bounds-xs-at-5 : goal.bounds-xs-at-5
+bounds-xs-at-5 c = simp length-set (omega arith)
+
+pub returns : goal.returns
+unfolding flipped_at
+returns c =
+    rw (c.flip.ensures, c.flip-2.ensures, c.flip-3.ensures)

@@ -1,0 +1,19 @@
+-- `signs::rasterization::write_matches` meets its contract, by the laws of a loop that fills. Assumes nothing.
+use mathlib.Core.Path.{◌≡◌, sym, ◌∙◌, subst}
+use Prim.Native.Nat.{ℕ, ◌+◌, ◌-◌, ◌*◌, ◌<◌, ◌≤◌}
+use native.Mathlib.Omega.{arith}
+use lib.ListN.{length}
+use lib.IntN.{pos}
+use Rattle.ground.specs.Lists.{tab}
+use Rattle.ground.proofs.Laws.Fill.{Filled, filled_none, filled_more, filled_all}
+use Rattle.inputs.proofs.Laws.Places.{place_lt}
+use Rattle.signs.specs.Signs.{filled_at, median_at, match_at}
+use Rattle.signs.specs.Inner.{UpTo}
+use Rattle.signs.proofs.rasterization.Votes.{held8, match_small}
+use Rattle.signs.proofs.rasterization.write_matches.Given as goal
+
+abbrev pub invariant-loop-k : goal.invariant-loop-k
+invariant-loop-k l = (l.k ≤ length l.filled) × Filled (pos 0) (match_at l.xs l.ch l.zero l.filled) l.initial.matches l.k l.matches
+
+abbrev pub decreases-loop-k : goal.decreases-loop-k
+decreases-loop-k l = length l.filled - l.k
