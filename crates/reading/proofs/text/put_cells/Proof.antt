@@ -33,8 +33,8 @@ room_2 c =
     let s = start (first c) in
     written_room 27 27 c.put-named2.ensures (omega (arith, numbered_length s.args.c.error 32 (fits s).1)) (omega (arith, room (first c)))
 
-room_3 : (c : tie.After-put-all) → c.put_all_lem.result + 20 ≤ length c.put_all_lem.new.0
-room_3 c = written_room 7 20 c.put_all_lem.ensures (le_refl 7) (omega (arith, room_2 (second c)))
+room_3 : (c : tie.After-put-all) → c.put_all.result + 20 ≤ length c.put_all.new.0
+room_3 c = written_room 7 20 c.put_all.ensures (le_refl 7) (omega (arith, room_2 (second c)))
 
 put_named_requires_2 : tie.Need-put-named-requires-2
 put_named_requires_2 c κs = omega (arith, room c.before.before.before.before)
@@ -52,7 +52,7 @@ returns : tie.Need-returns
 unfolding cells_text
 returns c =
     let third = c.before.before.before.before.before.before in
-    written_then (first (second third)).put-named.ensures (written_then (second third).put-named2.ensures (written_then third.put_all_lem.ensures c.before.before.put-decimal.ensures))
+    written_then (first (second third)).put-named.ensures (written_then (second third).put-named2.ensures (written_then third.put_all.ensures c.before.before.put-decimal.ensures))
 
 pub put_cells_spec : {M : Type 1} → statement M
 put_cells_spec = tie.close (tie.spec (λ c. search rules) (λ c κs. search rules) (λ c. search rules) put_named_requires_2 (λ c. search rules) put_all_requires put_decimal_requires (λ c. search rules) returns)

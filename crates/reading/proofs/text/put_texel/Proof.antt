@@ -35,8 +35,8 @@ row_room c = let s = start (first c) in written_room 6 14 c.put-number2.ensures 
 bits_room : (c : tie.After-put-hex) → c.put-hex.result + 6 ≤ length c.put-hex.new.0
 bits_room c = written_room 8 6 c.put-hex.ensures (hex_length c.before.bits-of-float32.result) (omega (arith, row_room (second c)))
 
-name_room : (c : tie.After-put-all) → c.put_all_lem.result + 2 ≤ length c.put_all_lem.new.0
-name_room c = written_room 4 2 c.put_all_lem.ensures (omega arith) (omega (arith, bits_room (third c)))
+name_room : (c : tie.After-put-all) → c.put_all.result + 2 ≤ length c.put_all.new.0
+name_room c = written_room 4 2 c.put_all.ensures (omega arith) (omega (arith, bits_room (third c)))
 
 -- ---- the needs
 
@@ -67,7 +67,7 @@ returns c =
     let n = c.before.before.before.before.before.before in
     let h = third n in
     let r = second h in
-    written_then (first r).put-number.ensures (written_then r.put-number2.ensures (written_then (written_as _ (ap hex h.before.bits-of-float32.ensures) h.put-hex.ensures) (written_then n.put_all_lem.ensures c.before.before.put-number3.ensures)))
+    written_then (first r).put-number.ensures (written_then r.put-number2.ensures (written_then (written_as _ (ap hex h.before.bits-of-float32.ensures) h.put-hex.ensures) (written_then n.put_all.ensures c.before.before.put-number3.ensures)))
 
 pub put_texel_spec : {M : Type 1} → statement M
 put_texel_spec =

@@ -1,9 +1,0 @@
--- `plain::checks::bad_coordinate` meets its contract. Assumes nothing.
-use Rattle.std.proofs.Common.{refl}
-use Rattle.inputs.specs.Checks.{oversize}
-use Rattle.plain.proofs.checks.bad_coordinate.Statement.{statement}
-use Rattle.plain.proofs.checks.bad_coordinate.Tie as tie
-
-pub bad_coordinate_spec : {M : Type 1} → statement M
-unfolding oversize
-bad_coordinate_spec = tie.close (tie.spec (λ c. refl))

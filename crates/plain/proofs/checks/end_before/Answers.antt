@@ -1,0 +1,12 @@
+-- `plain::checks::end_before` meets its contract. Assumes nothing.
+use Rattle.std.proofs.Common.{rules, eq-eqb, ne_eqb}
+use Rattle.inputs.specs.Checks.{end_before}
+use Rattle.plain.proofs.checks.end_before.Goals as goal
+
+pub returns-then-i-eq0 : goal.returns-then-i-eq0
+unfolding end_before
+returns-then-i-eq0 c = simp (eq-eqb _ _ c.if-i-eq0.true)
+
+pub returns-else-i-eq0 : goal.returns-else-i-eq0
+unfolding end_before
+returns-else-i-eq0 c = simp (ne_eqb _ _ c.if-i-eq0.false)

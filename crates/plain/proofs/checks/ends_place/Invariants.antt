@@ -1,0 +1,11 @@
+-- `plain::checks::ends_place` meets its contract: the place is that of the first bad end from the loop's on. Assumes nothing.
+use Rattle.std.proofs.Common.{length, arith, rules}
+use Rattle.inputs.specs.Checks.{bad_end, ends_place}
+use Rattle.ground.proofs.Laws.Search.{Kept, kept_none, kept_more, kept_all}
+use Rattle.plain.proofs.checks.ends_place.Given as goal
+
+abbrev pub invariant-loop-i : goal.invariant-loop-i
+invariant-loop-i l = Kept (bad_end l.ends l.n) (length l.ends) l.i l.place
+
+abbrev pub decreases-loop-i : goal.decreases-loop-i
+decreases-loop-i l = l.i

@@ -1,0 +1,12 @@
+-- `plain::checks::samples_place` meets its contract: the place is that of the first bad sample from the loop's on. Assumes nothing.
+use Rattle.std.proofs.Common.{length, get_or, arith, rules}
+use lib.Ieee.{binary32, nan}
+use Rattle.inputs.specs.Checks.{oversize, samples_place}
+use Rattle.ground.proofs.Laws.Search.{Kept, kept_none, kept_more, kept_all}
+use Rattle.plain.proofs.checks.samples_place.Given as goal
+
+abbrev pub invariant-loop-j : goal.invariant-loop-j
+invariant-loop-j l = Kept (λ k. oversize binary32 (get_or l.xs k nan)) (length l.xs) l.j l.place
+
+abbrev pub decreases-loop-j : goal.decreases-loop-j
+decreases-loop-j l = l.j

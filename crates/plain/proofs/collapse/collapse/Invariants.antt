@@ -1,0 +1,10 @@
+-- `plain::collapse::collapse` meets its contract, by the laws of a loop that collapses. Assumes nothing.
+use Rattle.std.proofs.Common.{◌-◌, length, arith, rules}
+use Rattle.plain.proofs.collapse.Turns.{flags, Turned, turned_none, third_below, place_small, turned_more, turned_all}
+use Rattle.plain.proofs.collapse.collapse.Given as goal
+
+abbrev pub invariant-loop-k : goal.invariant-loop-k
+invariant-loop-k l = Turned (flags l.stencil) l.initial.xs l.channels l.xs l.k
+
+abbrev pub decreases-loop-k : goal.decreases-loop-k
+decreases-loop-k l = length l.stencil - l.k

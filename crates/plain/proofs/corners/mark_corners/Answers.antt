@@ -1,0 +1,60 @@
+-- `plain::corners::mark_corners` meets its contract: after each turn the stencil is painted by the contours before c. Assumes nothing.
+use Rattle.std.proofs.Common.{◌≡◌, ℕ, zero, suc, ◌-◌, ◌/◌, ◌%◌, ◌≤◌, Bool, List, length, get_or, refl, ◌∙◌, arith, ne_eqb}
+use lib.Ieee.{Float}
+use Rattle.ground.specs.Lists.{painted, any}
+use Rattle.ground.proofs.Laws.Painted.{painted_zero, painted_same, painted_long, painted_turn}
+use Rattle.inputs.proofs.Laws.Places.{still_celled}
+use Rattle.inputs.specs.Checks.{end_before}
+use Rattle.correction.specs.Numbered.{start_at, contour_hits}
+use Rattle.correction.proofs.Laws.Contours.{start_le, corners_at}
+use Rattle.plain.specs.Inner.{corner}
+use Rattle.plain.proofs.corners.mark_corners.Goals as goal
+use Rattle.plain.proofs.corners.mark_corners.Invariants.{nth, Inv}
+
+-- a contour starts at the end before its own
+starts : (ends : List ℕ) (c : ℕ) → end_before ends c ≡ start_at ends c
+unfolding end_before
+starts ends zero = refl
+starts ends (suc c) = let e : suc c - 1 ≡ c = omega arith in rw (ne_eqb (suc c) 0 (omega arith), e)
+
+pub loop-c-init : goal.loop-c-init
+loop-c-init c =
+    let a = c.args in
+    record { high = omega arith; done = painted_zero corner (nth a.b.width a.colours.now a.coords.now a.ends.now) a.stencil.now }
+
+pub mark_contour-requires : goal.mark_contour-requires
+mark_contour-requires c =
+    let l = c.loop-c in
+    let r = c.requires in
+    let o = r.outlined in
+    let from = c.end_before-from.ensures ∙ starts _ _ in record { celled = still_celled r.celled (painted_long corner (λ v. refl) _ _ _ _ l.invariant.done); coords_len = (o.twice, o.few); from_le_end = (omega (arith, from, start_le o l.c c.loop-c-test.true), o.within l.c c.loop-c-test.true) }
+
+pub loop-c-preserved : goal.loop-c-preserved
+loop-c-preserved c =
+    let l = c.loop-c in
+    record { high = omega (arith, c.loop-c-test.true); done = painted_turn corner (λ v. refl) _ _ _ _ l.invariant.done _ _ (λ k. rw (c.end_before-from.ensures ∙ starts _ _)) c.mark_contour.ensures }
+
+pub returns : goal.returns
+returns c =
+    let v = c.loop-c.invariant in
+    let e : c.loop-c.c ≡ length c.args.ends.now = omega (arith, v.high) in
+    rw e at v.done
+    ∙ painted_same corner _ _ _ (λ k. corners_at _ _ _ c.requires.outlined _ _)
+
+pub end_before-from-requires : goal.end_before-from-requires
+end_before-from-requires c = omega (arith, c.loop-c-test.true)
+
+pub offset_bounds-ends-c : goal.offset_bounds-ends-c
+offset_bounds-ends-c c = omega (arith, c.well_formed, c.loop-c-test.true)
+
+pub bounds-ends-c : goal.bounds-ends-c
+bounds-ends-c c = c.loop-c-test.true
+
+pub overflow_add-c : goal.overflow_add-c
+overflow_add-c c = omega (arith, c.well_formed, c.loop-c-test.true)
+
+pub loop-c-smaller : goal.loop-c-smaller
+loop-c-smaller c = omega (arith, c.loop-c-test.true)
+
+pub shape_of-stencil : goal.shape_of-stencil
+shape_of-stencil c = painted_long corner (λ v. refl) _ _ _ _ c.loop-c.invariant.done

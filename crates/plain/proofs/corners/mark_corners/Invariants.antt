@@ -1,0 +1,25 @@
+-- `plain::corners::mark_corners` meets its contract: after each turn the stencil is painted by the contours before c. Assumes nothing.
+use Rattle.std.proofs.Common.{◌≡◌, ℕ, zero, suc, ◌-◌, ◌/◌, ◌%◌, ◌≤◌, Bool, List, length, get_or, refl, ◌∙◌, arith, ne_eqb}
+use lib.Ieee.{Float}
+use Rattle.ground.specs.Lists.{painted, any}
+use Rattle.ground.proofs.Laws.Painted.{painted_zero, painted_same, painted_long, painted_turn}
+use Rattle.inputs.proofs.Laws.Places.{still_celled}
+use Rattle.inputs.specs.Checks.{end_before}
+use Rattle.correction.specs.Numbered.{start_at, contour_hits}
+use Rattle.correction.proofs.Laws.Contours.{start_le, corners_at}
+use Rattle.plain.specs.Inner.{corner}
+use Rattle.plain.proofs.corners.mark_corners.Given as goal
+
+-- contour j
+abbrev pub nth : ℕ → List ℕ → List Float → List ℕ → ℕ → ℕ → Bool
+nth w colours coords ends j k = contour_hits colours coords (start_at ends j) (get_or ends j 0) (k % w) (k / w)
+
+pub record Inv (st₀ : List ℕ) (w : ℕ) (colours : List ℕ) (coords : List Float) (ends st : List ℕ) (c : ℕ) : Type 0 where
+  pub high : c ≤ length ends
+  pub done : st ≡ painted corner (λ k. any c (λ j. nth w colours coords ends j k)) st₀
+
+abbrev pub invariant-loop-c : goal.invariant-loop-c
+invariant-loop-c l = Inv l.initial.stencil l.b.width l.colours l.coords l.ends l.stencil l.c
+
+abbrev pub decreases-loop-c : goal.decreases-loop-c
+decreases-loop-c l = length l.ends - l.c

@@ -1,0 +1,9 @@
+-- `plain::edges::some_lower` meets its contract. Assumes nothing.
+use Rattle.std.proofs.Common.{refl, rules}
+use Rattle.plain.proofs.texels.Counted.{four_lower}
+use Rattle.plain.proofs.edges.some_lower.Goals as goal
+
+pub returns : goal.returns
+returns c =
+    four_lower _ _ _ _ _ c.requires.sized.wide c.requires.sized.high c.requires.x_lt_width.0 c.requires.x_lt_width.1 c.previous.ensures refl _ _ _
+    (rw c.radius.ensures at c.as_lower-right.ensures) (rw c.radius-2.ensures at c.as_lower-upper.ensures) (rw c.radius-across.ensures at c.as_lower-upper_right.ensures) (rw c.radius-across.ensures at c.as_lower-upper_left.ensures)

@@ -1,0 +1,9 @@
+-- `plain::edges::some_upper` meets its contract. Assumes nothing.
+use Rattle.plain.proofs.texels.Counted.{four_upper}
+use Rattle.std.proofs.Common.{rules}
+use Rattle.plain.proofs.edges.some_upper.Goals as goal
+
+pub returns : goal.returns
+returns c =
+    four_upper _ _ _ _ _ c.requires.sized.wide c.requires.sized.high c.requires.x_lt_width.0 c.requires.x_lt_width.1 c.previous-left.ensures c.previous-below.ensures _ _ _
+    (rw c.radius.ensures at c.as_upper-side.ensures) (rw c.radius-2.ensures at c.as_upper-lower.ensures) (rw c.radius-across.ensures at c.as_upper-lower_left.ensures) (rw c.radius-across.ensures at c.as_upper-lower_right.ensures)

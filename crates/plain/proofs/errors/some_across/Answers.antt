@@ -1,0 +1,10 @@
+-- `plain::errors::some_across` meets its contract. Assumes nothing.
+use Rattle.ranges.specs.Config.{diagonal_span}
+use Rattle.plain.proofs.texels.Counted.{four_across}
+use Rattle.std.proofs.Common.{rules}
+use Rattle.plain.proofs.errors.some_across.Goals as goal
+
+pub returns : goal.returns
+unfolding diagonal_span
+returns c =
+    four_across _ _ _ _ _ c.requires.sized.wide c.requires.sized.high c.requires.x_lt_width.0 c.requires.x_lt_width.1 c.previous-left.ensures c.previous-below.ensures _ _ c.towards_across-lower_left.ensures c.towards_across-lower_right.ensures c.towards_across-upper_left.ensures c.towards_across-upper_right.ensures

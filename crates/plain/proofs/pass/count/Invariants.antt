@@ -1,0 +1,18 @@
+-- `plain::pass::count` meets its contract: before cell k the three numbers count the cells below it. Assumes nothing.
+use Rattle.std.proofs.Common.{◌≡◌, ℕ, ◌+◌, ◌-◌, ◌/◌, ◌%◌, ◌<◌, ◌≤◌, List, length, get_or, sym, refl, le_antisymm, arith}
+use Rattle.ground.specs.Lists.{count}
+use Rattle.ground.proofs.Laws.Count.{none_counted, one_more, count_small}
+use Rattle.inputs.specs.Stencil.{has_corner, is_protected, is_error, protected_count, error_count, corner_count}
+use Rattle.plain.proofs.pass.count.Given as goal
+
+pub record Counted (st : List ℕ) (p e c k : ℕ) : Type 0 where
+  pub in_range_law : k ≤ length st
+  pub protected : p ≡ count k (λ j. is_protected (get_or st j 0))
+  pub error : e ≡ count k (λ j. is_error (get_or st j 0))
+  pub corner : c ≡ count k (λ j. has_corner (get_or st j 0))
+
+abbrev pub invariant-loop-k : goal.invariant-loop-k
+invariant-loop-k l = Counted l.stencil l.protected l.error l.corner l.k
+
+abbrev pub decreases-loop-k : goal.decreases-loop-k
+decreases-loop-k l = length l.stencil - l.k

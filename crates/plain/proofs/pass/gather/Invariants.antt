@@ -1,0 +1,19 @@
+-- `plain::pass::gather` meets its contract, by the laws of a loop that fills: a cell is read before it is written. Assumes nothing.
+use Rattle.std.proofs.Common.{◌≡◌, ℕ, ◌-◌, ◌*◌, ◌/◌, ◌%◌, ◌<◌, ◌≤◌, eqb, List, length, get_or, ◌∙◌, subst, le_refl, arith}
+use lib.Ieee.{Float}
+use Rattle.ground.proofs.Laws.Fill.{Filled, filled_none, filled_more, filled_all}
+use Rattle.ranges.specs.declared.config.Settings.{Settings}
+use Rattle.inputs.proofs.Laws.Places.{cell_inside}
+use Rattle.correction.specs.Bitmap.{texel}
+use Rattle.plain.specs.Inner.{byte_by}
+use Rattle.plain.proofs.pass.gather.Given as goal
+
+-- the byte of cell k of a stencil
+abbrev pub gathered : List Float → ℕ → ℕ → ℕ → ℕ → Settings → List ℕ → ℕ → ℕ
+gathered xs w h ch mode s st k = byte_by (texel xs w ch) w h mode s (eqb (get_or st k 0) 4) (k % w) (k / w)
+
+abbrev pub invariant-loop-k : goal.invariant-loop-k
+invariant-loop-k l = Filled 0 (gathered l.xs l.b.width l.b.height l.b.channels l.mode l.s l.initial.stencil) l.initial.stencil l.k l.stencil
+
+abbrev pub decreases-loop-k : goal.decreases-loop-k
+decreases-loop-k l = length l.initial.stencil - l.k

@@ -1,0 +1,8 @@
+-- `plain::texels::is_texel` meets its contract. Assumes nothing.
+use Rattle.std.proofs.Common.{refl}
+use Rattle.plain.specs.Inner.{is_texel}
+use Rattle.plain.proofs.texels.is_texel.Goals as goal
+
+pub returns : goal.returns
+unfolding is_texel
+returns c = refl
