@@ -1,0 +1,49 @@
+-- `reading::decode::contour_coords` meets its contract: before segment j those below it are decoded. Assumes nothing.
+use mathlib.Core.List.{List, [], ◌∷◌}
+use mathlib.Core.Path.{◌≡◌, refl, ◌∙◌}
+use Prim.Native.Nat.{ℕ, ◌+◌, ◌-◌, ◌*◌, ◌≤◌}
+use native.Mathlib.Omega.{arith}
+use lib.Ieee.{Float}
+use lib.ListN.{length}
+use Rattle.ground.specs.Lists.{joined}
+use Rattle.ground.specs.Bytes.{f64_at}
+use Rattle.ground.specs.Write.{Written}
+use Rattle.ground.proofs.Laws.Write.{joined_none, joined_next, joined_all, written_length}
+use Rattle.reading.specs.Case.{segment_at, contour_coords}
+use Rattle.reading.proofs.decode.contour_coords.Goals as goal
+use Rattle.reading.proofs.decode.contour_coords.Invariants.{pair}
+
+pub loop-j-init : goal.loop-j-init
+loop-j-init c = (omega arith, refl, omega arith, joined_none _ _ _)
+
+pub segment_coords-next-requires : goal.segment_coords-next-requires
+segment_coords-next-requires c = (omega arith, omega arith)
+
+pub loop-j-preserved : goal.loop-j-preserved
+loop-j-preserved c =
+    let i = c.loop-j.invariant in
+    let d = c.args in
+    let w = c.segment_coords-next.ensures in
+    (omega arith, written_length w ∙ i.1, omega (arith, w.to, i.2), joined_next _ (pair d.s.now d.from) i.3 w)
+
+pub returns : goal.returns
+unfolding contour_coords
+returns c = joined_all _ (pair _ _) c.loop-j.invariant.3 (omega arith)
+
+pub overflow_add-from : goal.overflow_add-from
+overflow_add-from c = omega arith
+
+pub overflow_mul-j : goal.overflow_mul-j
+overflow_mul-j c = omega arith
+
+pub overflow_add-from-in-loop-j : goal.overflow_add-from-in-loop-j
+overflow_add-from-in-loop-j c = omega arith
+
+pub overflow_add-j : goal.overflow_add-j
+overflow_add-j c = omega arith
+
+pub loop-j-smaller : goal.loop-j-smaller
+loop-j-smaller c = omega arith
+
+pub shape_of-out : goal.shape_of-out
+shape_of-out c = c.loop-j.invariant.1

@@ -1,0 +1,23 @@
+-- `reading::decode::contour_coords` meets its contract: before segment j those below it are decoded. Assumes nothing.
+use mathlib.Core.List.{List, [], ◌∷◌}
+use mathlib.Core.Path.{◌≡◌, refl, ◌∙◌}
+use Prim.Native.Nat.{ℕ, ◌+◌, ◌-◌, ◌*◌, ◌≤◌}
+use native.Mathlib.Omega.{arith}
+use lib.Ieee.{Float}
+use lib.ListN.{length}
+use Rattle.ground.specs.Lists.{joined}
+use Rattle.ground.specs.Bytes.{f64_at}
+use Rattle.ground.specs.Write.{Written}
+use Rattle.ground.proofs.Laws.Write.{joined_none, joined_next, joined_all, written_length}
+use Rattle.reading.specs.Case.{segment_at, contour_coords}
+use Rattle.reading.proofs.decode.contour_coords.Given as goal
+
+-- coordinates j of the contour at a place
+abbrev pub pair : List ℕ → ℕ → ℕ → List Float
+pair s from j = f64_at s (segment_at from j + 1) ∷ f64_at s (segment_at from j + 9) ∷ []
+
+abbrev pub invariant-loop-j : goal.invariant-loop-j
+invariant-loop-j l = (l.j ≤ l.n) × (length l.out ≡ length l.initial.out) × (l.next ≡ l.at + 2 * l.j) × Written l.initial.out l.at (joined l.j (pair l.s l.from)) l.next l.out
+
+abbrev pub decreases-loop-j : goal.decreases-loop-j
+decreases-loop-j l = l.n - l.j

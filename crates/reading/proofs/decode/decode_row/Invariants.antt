@@ -1,0 +1,24 @@
+-- `reading::decode::decode_row` meets its contract: before sample j those below it are decoded. Assumes nothing.
+use mathlib.Core.List.{List}
+use mathlib.Core.Path.{◌≡◌, refl, sym, ap}
+use Prim.Native.Nat.{ℕ, ◌+◌, ◌-◌, ◌*◌, ◌≤◌}
+use native.Mathlib.Nat.{add-zero, add_assoc}
+use native.Mathlib.Omega.{arith}
+use lib.Ieee.{Float}
+use lib.ListN.{length, length-set}
+use Rattle.ground.specs.Lists.{tab}
+use Rattle.ground.specs.Bytes.{f32_at}
+use Rattle.ground.specs.Write.{Written}
+use Rattle.ground.proofs.Laws.Write.{written_to, tab_all, tab_none, tab_next}
+use Rattle.reading.specs.Case.{row_samples}
+use Rattle.reading.proofs.decode.decode_row.Given as goal
+
+-- sample j of the row at a place
+abbrev pub sample : List ℕ → ℕ → ℕ → Float
+sample s from j = f32_at s (from + 3 + 4 * j)
+
+abbrev pub invariant-loop-j : goal.invariant-loop-j
+invariant-loop-j l = (l.j ≤ l.n) × (length l.out ≡ length l.initial.out) × Written l.initial.out l.at (tab l.j (sample l.s l.from)) (l.at + l.j) l.out
+
+abbrev pub decreases-loop-j : goal.decreases-loop-j
+decreases-loop-j l = l.n - l.j

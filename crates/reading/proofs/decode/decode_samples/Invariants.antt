@@ -1,0 +1,32 @@
+-- `reading::decode::decode_samples` meets its contract: before row y those below it are decoded. Assumes nothing.
+use mathlib.Core.List.{List}
+use mathlib.Core.Path.{◌≡◌, refl, ◌∙◌, ap}
+use Prim.Native.Nat.{ℕ, ◌+◌, ◌-◌, ◌*◌, ◌≤◌, ◌<◌}
+use native.Mathlib.Nat.{zero-mul}
+use native.Mathlib.Omega.{arith}
+use lib.Ieee.{Float}
+use lib.ListN.{length}
+use Rattle.ground.specs.Lists.{joined}
+use Rattle.ground.specs.Write.{Written}
+use Rattle.ground.proofs.Laws.Write.{joined_none, joined_next, joined_all, written_as, written_length}
+use Rattle.reading.specs.Case.{row_samples}
+use Rattle.reading.proofs.decode.Decoded.{row_length}
+use Rattle.reading.proofs.fields.Sizes.{next_row, row_within}
+use Rattle.reading.proofs.decode.decode_samples.Given as goal
+
+-- row y
+abbrev pub row : List ℕ → ℕ → ℕ → ℕ → List Float
+row s from n y = row_samples s (from + y * (3 + 4 * n)) n
+
+pub record Inv (s : List ℕ) (from h n : ℕ) (out₀ out : List Float) (at place y : ℕ) : Type 0 where
+  pub within : y ≤ h
+  pub there : place ≡ from + y * (3 + 4 * n)
+  pub count : at ≡ y * n
+  pub len : length out ≡ length out₀
+  pub written : Written out₀ 0 (joined y (row s from n)) at out
+
+abbrev pub invariant-loop-y : goal.invariant-loop-y
+invariant-loop-y l = Inv l.s l.from l.h l.n l.initial.out l.out l.at l.place l.y
+
+abbrev pub decreases-loop-y : goal.decreases-loop-y
+decreases-loop-y l = l.h - l.y

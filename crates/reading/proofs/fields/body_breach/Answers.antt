@@ -1,0 +1,16 @@
+-- `reading::fields::body_breach` meets its contract. Assumes nothing.
+use Prim.Native.Nat.{◌+◌}
+use native.Mathlib.Omega.{arith}
+use lib.ListN.{length}
+use borrow.Author.Rules.{rules}
+use borrow.Author.Tests.{lt-ltb, le-ltb}
+use Rattle.reading.specs.Grammar.{body_breach}
+use Rattle.reading.proofs.fields.body_breach.Goals as goal
+
+pub returns-then-s-f : goal.returns-then-s-f
+unfolding body_breach
+returns-then-s-f c = let d = c.args in simp (lt-ltb (length d.s.now) (d.f.at + 3 + d.f.len) (omega arith))
+
+pub returns : goal.returns
+unfolding body_breach
+returns c = let d = c.args in simp (le-ltb (length d.s.now) (d.f.at + 3 + d.f.len) (omega arith))

@@ -1,0 +1,8 @@
+-- `reading::text::put_bad` meets its contract. Assumes nothing.
+use borrow.Author.Rules.{rules}
+use Rattle.reading.specs.Text.{bad_text}
+use Rattle.reading.proofs.text.put_bad.Goals as goal
+
+pub returns : goal.returns
+unfolding bad_text
+returns c = c.put_named.ensures

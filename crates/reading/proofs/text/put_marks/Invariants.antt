@@ -1,0 +1,22 @@
+-- `reading::text::put_marks` meets its contract: before cell x those below it are written. Assumes nothing.
+use mathlib.Core.List.{List}
+use mathlib.Core.Path.{◌≡◌, refl, sym, ap}
+use Prim.Native.Nat.{ℕ, ◌+◌, ◌-◌, ◌≤◌}
+use native.Mathlib.Nat.{add-zero, add_assoc}
+use native.Mathlib.Omega.{arith}
+use lib.ListN.{length, get_or, length-set}
+use Rattle.ground.specs.Lists.{tab}
+use Rattle.ground.specs.Write.{Written}
+use Rattle.ground.proofs.Laws.Write.{tab_none, tab_next, tab_all, written_to}
+use Rattle.reading.specs.Text.{mark, marks_text}
+use Rattle.reading.proofs.text.put_marks.Given as goal
+
+-- the mark of cell x
+abbrev pub cell : List ℕ → ℕ → ℕ → ℕ
+cell st from x = mark (get_or st (from + x) 0)
+
+abbrev pub invariant-loop-x : goal.invariant-loop-x
+invariant-loop-x l = (l.x ≤ l.w) × (length l.out ≡ length l.initial.out) × Written l.initial.out l.at (tab l.x (cell l.st l.from)) (l.at + l.x) l.out
+
+abbrev pub decreases-loop-x : goal.decreases-loop-x
+decreases-loop-x l = l.w - l.x

@@ -1,0 +1,15 @@
+-- `reading::text::put_named` meets its contract: a number with the byte after it has at most 21 bytes. Assumes nothing.
+use native.Mathlib.Nat.{le_refl}
+use native.Mathlib.Omega.{arith}
+use borrow.Author.Rules.{rules}
+use Rattle.ground.proofs.Laws.Write.{written_then, written_room}
+use Rattle.reading.proofs.text.Lengths.{numbered_length}
+use Rattle.reading.proofs.text.put_named.Goals as goal
+
+pub put_number-requires : goal.put_number-requires
+put_number-requires c =
+    let r = written_room _ 21 c.put_all-a.ensures (le_refl _) c.requires in
+    omega (arith, r, numbered_length c.args.n c.args.b (omega arith))
+
+pub returns : goal.returns
+returns c = written_then c.put_all-a.ensures c.put_number.ensures

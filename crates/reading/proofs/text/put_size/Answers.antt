@@ -1,0 +1,25 @@
+-- `reading::text::put_size` meets its contract. Assumes nothing.
+use native.Mathlib.Omega.{arith}
+use borrow.Author.Rules.{rules}
+use Rattle.ground.proofs.Laws.Write.{written_then, written_room}
+use Rattle.reading.specs.Text.{size_text}
+use Rattle.reading.proofs.text.Lengths.{numbered_length}
+use Rattle.reading.proofs.text.put_size.Goals as goal
+
+pub put_number-c-requires : goal.put_number-c-requires
+put_number-c-requires c =
+    let b = c.args.b in
+    let r = written_room 26 42 c.put_named-h.ensures (omega (arith, numbered_length b.width 32 (omega arith))) (omega arith) in
+    omega (arith, r, numbered_length b.height 32 (omega arith))
+
+pub put_number-requires : goal.put_number-requires
+put_number-requires c =
+    let b = c.args.b in
+    let r1 = written_room 26 42 c.put_named-h.ensures (omega (arith, numbered_length b.width 32 (omega arith))) (omega arith) in
+    let r2 = written_room 21 21 c.put_number-c.ensures (numbered_length b.height 32 (omega arith)) (omega (arith, r1)) in
+    omega (arith, r2, numbered_length b.channels 10 (omega arith))
+
+pub returns : goal.returns
+unfolding size_text
+returns c =
+    written_then c.put_named-h.ensures (written_then c.put_number-c.ensures c.put_number.ensures)

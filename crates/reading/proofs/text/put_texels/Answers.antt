@@ -1,0 +1,46 @@
+-- `reading::text::put_texels` meets its contract: before cell k those below it are written. Assumes nothing.
+use mathlib.Core.Path.{◌≡◌, refl, ◌∙◌}
+use Prim.Native.Nat.{◌+◌, ◌-◌, ◌*◌, ◌≤◌}
+use native.Mathlib.Omega.{arith}
+use Rattle.correction.specs.Bitmap.{cell_texel}
+use lib.ListN.{length}
+use Rattle.ground.specs.Lists.{joined}
+use Rattle.ground.specs.Write.{Written}
+use Rattle.ground.proofs.Laws.Write.{joined_none, joined_next, joined_all, written_length}
+use Rattle.reading.specs.Text.{flagged_text}
+use Rattle.reading.proofs.text.Lengths.{flagged_length}
+use Rattle.reading.proofs.fields.Sizes.{row_within}
+use Rattle.reading.proofs.text.put_texels.Goals as goal
+
+pub loop-k-init : goal.loop-k-init
+loop-k-init c = (omega arith, refl, omega arith, joined_none _ _ _)
+
+pub put_flagged-next-requires : goal.put_flagged-next-requires
+put_flagged-next-requires c = record { at_in_bounds = (omega arith, omega arith); channels_in_bounds = (omega (arith, row_within c.args.b.channels c.loop-k-test.true), c.requires.channels_in_bounds.2, omega arith) }
+
+pub loop-k-preserved : goal.loop-k-preserved
+loop-k-preserved c =
+    let i = c.loop-k.invariant in
+    let d = c.args in
+    let w = c.put_flagged-next.ensures in
+    let k = c.loop-k.k in (
+      omega arith,
+      written_length w ∙ i.1,
+      omega (arith, w.to, i.2, flagged_length d.b.width d.st.now (cell_texel d.xs.now d.b.channels) k (omega arith)),
+      joined_next k _ i.3 w,
+    )
+
+pub returns : goal.returns
+returns c = joined_all _ _ c.loop-k.invariant.3 (omega arith)
+
+pub overflow_mul-n : goal.overflow_mul-n
+overflow_mul-n c = omega arith
+
+pub overflow_add-k : goal.overflow_add-k
+overflow_add-k c = omega arith
+
+pub loop-k-smaller : goal.loop-k-smaller
+loop-k-smaller c = omega arith
+
+pub shape_of-out : goal.shape_of-out
+shape_of-out c = c.loop-k.invariant.1
