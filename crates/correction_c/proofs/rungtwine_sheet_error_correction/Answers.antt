@@ -10,8 +10,7 @@ use Rattle.correction.specs.declared.sheet.Failure.{Failure}
 use Rattle.correction.specs.Sheet.{Sheet, failure, sheet_accepted, sheet_counts, sheet_tests, sheet_answer}
 use Rattle.correction.proofs.Laws.Failure.{no_failure}
 use Rattle.correction_c.specs.Call.{sheet_protected, sheet_errors, sheet_corners, sheet_test_count}
-use Rattle.correction_c.proofs.rungtwine_sheet_error_correction.Statement.{statement}
-use Rattle.correction_c.proofs.rungtwine_sheet_error_correction.Tie as tie
+use Rattle.correction_c.proofs.rungtwine_sheet_error_correction.Goals as goal
 
 -- number, cell, place, counts and tests are those of the sheet
 abbrev Parts : Sheet → ℕ → ℕ → ℕ → ℕ → ℕ → ℕ → ℕ → Type 0
@@ -39,20 +38,16 @@ told : (s : Sheet) (r r' : Answer) → r ≡ r' → r ≡ sheet_answer s → Tol
 unfolding sheet_answer
 told s r r' e a = subst (Told s) (sym a ∙ e) (by_case s (sheet_accepted s) refl)
 
-returns : tie.Need-returns
+pub returns-in-Accepted : goal.returns-in-Accepted
 unfolding Told
-returns c =
-    let p = c.before.before.before.before.before.before.before.before.before.msdf-sheet-error-correction.ensures in
-    let e = told _ _ _ c.before.c.given.1 p.0 in
-    (e.0, (e.1.0, (e.1.1.0, (e.1.1.1.0, (e.1.1.1.1.0, (e.1.1.1.1.1.0, (e.1.1.1.1.1.1, p.1)))))))
+returns-in-Accepted c =
+    let p = c.msdf_sheet_error_correction.ensures in
+    let e = told _ _ _ refl c.in-Accepted.ensures.answers in
+    record { numbers = e.0; names = e.1.0; places = e.1.1.0; protects = e.1.1.1.0; flags = e.1.1.1.1.0; corners = e.1.1.1.1.1.0; tests = e.1.1.1.1.1.1; leaves = p.leaves; writes = p.writes; clears = p.clears }
 
-returns_2 : tie.Need-returns-2
+pub returns-in-Refused : goal.returns-in-Refused
 unfolding Told
-returns_2 c =
-    let p = c.before.before.before.before.before.before.before.before.before.msdf-sheet-error-correction.ensures in
-    let e = told _ _ _ c.before.n.given.1 p.0 in
-    (e.0, (e.1.0, (e.1.1.0, (e.1.1.1.0, (e.1.1.1.1.0, (e.1.1.1.1.1.0, (e.1.1.1.1.1.1, p.1)))))))
-
-pub rungtwine_sheet_error_correction_spec : {M : Type 1} → statement M
-rungtwine_sheet_error_correction_spec =
-    tie.close (tie.spec (λ c κs. search rules) (λ c. search rules) (λ c. search rules) (λ c. search rules) (λ c. search rules) (λ c. search rules) returns (λ c. search rules) (λ c. search rules) (λ c. search rules) returns_2)
+returns-in-Refused c =
+    let p = c.msdf_sheet_error_correction.ensures in
+    let e = told _ _ _ refl c.in-Refused.ensures.answers in
+    record { numbers = e.0; names = e.1.0; places = e.1.1.0; protects = e.1.1.1.0; flags = e.1.1.1.1.0; corners = e.1.1.1.1.1.0; tests = e.1.1.1.1.1.1; leaves = p.leaves; writes = p.writes; clears = p.clears }
