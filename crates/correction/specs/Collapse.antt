@@ -1,5 +1,5 @@
 -- Collapsing: the first three channels of flagged texels become their median. Definitions only.
-use Rattle.std.specs.Prelude.{ℕ, ◌+◌, ◌*◌, ◌/◌, ◌%◌, Bool, cond, ◌&&◌, List, get_or, length, ltb, Float}
+use Rattle.std.specs.Prelude.{ℕ, ◌/◌, ◌%◌, Bool, cond, ◌&&◌, List, get_or, length, ltb, Float}
 use Rattle.std.specs.Float.{nan}
 use Rattle.ground.specs.Lists.{tab}
 use Rattle.detectors.specs.Texel.{texel_median}

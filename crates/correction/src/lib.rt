@@ -1,4 +1,6 @@
 // The SDF-only error-correction pass of msdfgen: `correction/mod.rs` of bymsdfgen, section by section.
+#![tactic(auto)]
+
 mod bitmap;
 mod cells;
 mod collapse;

@@ -1,5 +1,7 @@
 // The pass by each of its two engines, on a bitmap and on the cells of a sheet, the checks of a sheet, the correction of signs, a field as bytes and back, the texel view
 // and the channel of a texel's median for C and Rust to call.
+#![tactic(auto)]
+
 ghost use Rattle.std.specs.Prelude.{◌≡◌, [], ◌∷◌, length};
 ghost use Rattle.detectors.specs.Texel.{texel_middle};
 ghost use Rattle.inputs.specs.Checks as Checks;

@@ -1,4 +1,6 @@
 // What comes in: a bitmap's sizes, the stencil's bytes, the room, and the checks.
+#![tactic(auto)]
+
 pub mod checks;
 pub mod room;
 pub mod sizes;

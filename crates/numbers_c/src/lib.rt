@@ -1,4 +1,6 @@
 // The functions of `numbers` for C and Rust to call.
+#![tactic(auto)]
+
 ghost use Rattle.std.specs.Prelude.{◌≡◌, length, get_or};
 ghost use Rattle.std.specs.Float.{binary64};
 ghost use Rattle.numbers.specs.Constants.{zero_of};

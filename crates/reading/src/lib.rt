@@ -1,4 +1,6 @@
 // The reading program's library: the input's fields, the case that they mean, and the text that is printed.
+#![tactic(auto)]
+
 ghost use Rattle.std.specs.Prelude.{◌≡◌, ◌≤◌, ◌++◌, length, drop};
 ghost use Rattle.reading.specs.Answer.{written, written_plainly};
 ghost use Rattle.reading.specs.Inner.{printed_by, written_by};

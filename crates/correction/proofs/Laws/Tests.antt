@@ -6,14 +6,13 @@
 --     errors_tested                      and at least as many as texels are flagged
 --     refused_tests, disabled_tests      none for a refusal and in Disabled
 --     promise_tests, promise_errors      the same bounds of a run of the public function, by its promise
-use mathlib.Core.Path.{◌≡◌, refl, sym, ◌∙◌, ap, subst}
+use mathlib.Core.Path.{◌≡◌, refl, sym, ◌∙◌, subst}
 use mathlib.Core.Bool.{Bool, true, false, cond, not, ◌&&◌, ◌||◌, true≢false}
 use mathlib.Core.List.{List, [], ◌∷◌}
 use Prim.Native.Nat.{ℕ, ◌+◌, ◌*◌, ◌/◌, ◌%◌, ◌<◌, ◌≤◌}
-use native.Mathlib.Nat.{mul_comm, mul-le-mul}
+use native.Mathlib.Nat.{mul-le-mul}
 use native.Mathlib.Omega.{arith}
 use lib.Dec.{eqb}
-use lib.ListN.{length, get_or}
 use lib.Ieee.{Float}
 use contract.Lifetimes.{Lfts}
 use borrow.Fn.Kinds.{Dens}
@@ -30,10 +29,9 @@ use Rattle.inputs.specs.Checks.{Input, accepted}
 use Rattle.inputs.specs.Stencil.{error_count}
 use Rattle.inputs.proofs.Laws.Stencil.{error_under}
 use Rattle.inputs.proofs.Laws.Checks.{sizes, passed}
-use Rattle.correction.specs.declared.pass.Answer.{Answer}
 use Rattle.inputs.specs.Bounds.{in_bounds}
 use Rattle.correction.specs.Errors.{side_artifact, some_side, diagonal_artifact, some_diagonal, some_artifact, has_artifact, side_tests, across_tests, in_order, linear_made, diagonal_made, some_made, tests_made}
-use Rattle.correction.specs.Pass.{texels, protects, flags, tests_at, pass_stencil, pass_tests, errors_in, tests_in, error_cells, test_count, Answers, stencil_after}
+use Rattle.correction.specs.Pass.{texels, protects, flags, tests_at, pass_tests, errors_in, tests_in, error_cells, test_count, stencil_after}
 use Rattle.correction.proofs.pass.msdf_error_correction.Kinds.{ps}
 use Rattle.correction.proofs.pass.msdf_error_correction.Reads as entry
 use Rattle.correction.proofs.Laws.Leaves.{number_zero, accepted_leaves, cell_error, stencil_length, given}

@@ -1,6 +1,5 @@
 -- `correction_c::rungtwine_error_correction` meets its contract: each arm is given which answer the pass gave, and the pass's promise says what that is. Assumes nothing.
 use mathlib.Core.Path.{◌≡◌, refl, sym, ◌∙◌, ap}
-use borrow.Author.Rules.{rules}
 use Rattle.correction.specs.declared.pass.Answer.{Answer}
 use Rattle.inputs.specs.Checks.{Input, refusal_number, refusal_place}
 use Rattle.correction.specs.Pass.{number_of, place_in, protected_in, errors_in, corners_in, tests_in, protected_cells, error_cells, corner_cells, test_count, Answers}

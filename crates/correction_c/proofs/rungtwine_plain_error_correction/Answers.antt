@@ -1,6 +1,5 @@
 -- `correction_c::rungtwine_plain_error_correction` meets its contract: each arm is given which answer the plain engine gave, and its promise says what that is. Assumes nothing.
 use mathlib.Core.Path.{◌≡◌, refl, sym, ◌∙◌, ap}
-use borrow.Author.Rules.{rules}
 use Rattle.plain.specs.declared.pass.Answer.{Answer}
 use Rattle.inputs.specs.Checks.{Input, refusal_number, refusal_place}
 use Rattle.correction.specs.Pass.{protected_cells, error_cells, corner_cells}

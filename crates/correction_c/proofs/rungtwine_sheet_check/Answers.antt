@@ -1,5 +1,4 @@
 -- `correction_c::rungtwine_sheet_check` meets its contract: the checks of a sheet answer a failure, and its parts are handed on. Assumes nothing.
-use borrow.Author.Rules.{rules}
 use mathlib.Core.Path.{ap}
 use Rattle.correction.specs.declared.sheet.Failure.{Failure}
 use Rattle.correction_c.proofs.rungtwine_sheet_check.Goals as goal

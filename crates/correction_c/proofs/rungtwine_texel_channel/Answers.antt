@@ -1,5 +1,4 @@
 -- `correction_c::rungtwine_texel_channel` meets its contract. Assumes nothing.
-use borrow.Author.Rules.{rules}
 use mathlib.Core.Path.{ap}
 use Rattle.numbers.specs.declared.scalar.Middle.{Middle}
 use Rattle.correction_c.proofs.rungtwine_texel_channel.Goals as goal

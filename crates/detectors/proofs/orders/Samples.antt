@@ -1,5 +1,5 @@
 -- From the samples of four texels to their differences: what a classification of each texel by itself has to say. Assumes nothing.
-use Rattle.std.proofs.Common.{◌≡◌, ℕ, false, T, ◌⊎◌, pos, ap, subst, lit≤}
+use Rattle.std.proofs.Common.{◌≡◌, ℕ, false, T, ◌⊎◌, pos, subst, lit≤}
 use lib.Ieee.{Float, binary32, fin, add, sub, neg, le, fits}
 use lib.Ieee.Fits.{neg-fits, sub-fits}
 use Rattle.numbers.proofs.Laws.Order as Order

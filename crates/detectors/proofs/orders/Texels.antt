@@ -1,5 +1,5 @@
 -- Four texels, each of whose pairs of samples is level or rises by 2 ^ -6 at least, or each level or falling so: no root is inside. Assumes nothing.
-use Rattle.std.proofs.Common.{◌≡◌, ℕ, ◌+◌, ◌*◌, ◌^◌, ◌≤◌, Bool, true, false, not, T, ◌⊎◌, negsuc, sym, refl, ap, subst, inl, inr, le_trans, le_of_eq, le_refl, lt_of_le_of_lt, add-le-add, mul-le-mul_right, mul_right_comm, le_of_mul-le-mul_right, arith, lit<, lit≤, pow_pos}
+use Rattle.std.proofs.Common.{◌≡◌, ℕ, ◌+◌, ◌*◌, ◌^◌, ◌≤◌, Bool, true, false, not, T, ◌⊎◌, negsuc, sym, refl, subst, inl, inr, le_trans, le_of_eq, le_refl, lt_of_le_of_lt, add-le-add, mul-le-mul_right, mul_right_comm, le_of_mul-le-mul_right, arith, lit<, lit≤, pow_pos}
 use lib.Ieee.{Float, nan, inf, fin, binary32, down, add, sub, neg, le, eq, fits, of_bits}
 use lib.Ieee.Fits.{down_pos, neg-fits}
 use lib.Ieee.Exact.{HasValue}

@@ -1,5 +1,5 @@
 -- Order and quotients of values that are whole numbers of units. Assumes nothing.
-use Rattle.std.proofs.Common.{◌≡◌, ℕ, zero, suc, ◌+◌, ◌*◌, ◌^◌, ◌<◌, ◌≤◌, Bool, true, false, not, ◌&&◌, T, ℤ, pos, negsuc, sym, refl, ap, ◌∙◌, subst, le_trans, le_of_eq, lt_of_lt_of_le, lt_irrefl, mul-le-mul_right, zero-lt-suc, mul_assoc, mul_comm, mul-pos, zero-mul, mul_right_comm, le_of_mul-le-mul_right, arith, pow_pos}
+use Rattle.std.proofs.Common.{◌≡◌, ℕ, zero, suc, ◌+◌, ◌*◌, ◌^◌, ◌<◌, ◌≤◌, Bool, true, false, not, ◌&&◌, T, ℤ, pos, negsuc, sym, refl, ap, ◌∙◌, subst, le_of_eq, lt_of_lt_of_le, lt_irrefl, mul-le-mul_right, zero-lt-suc, mul_assoc, mul_comm, mul-pos, zero-mul, mul_right_comm, le_of_mul-le-mul_right, arith, pow_pos}
 use lib.Dec.{not_T}
 use lib.Ieee.{Float, nan, inf, fin, binary64, up, down, unlike, round, add, sub, div, neg, le, lt, eq, fits, of_bits}
 use lib.Ieee.Fits.{up_pos, down_pos, and_l}

@@ -3,7 +3,7 @@
 --     Counted      the sum is no NaN, and its pattern is that of 2 ^ 52 and q units
 --     add_counts   so it is with the q that is nearest
 --     add_ones     with 2 ^ 52 itself the unit is 1
-use Rattle.std.proofs.Common.{◌≡◌, ℕ, ◌+◌, ◌-◌, ◌*◌, ◌/◌, ◌%◌, ◌^◌, ◌<◌, ◌≤◌, Bool, false, not, T, sym, refl, ap, ◌∙◌, subst, inr, le_trans, le_of_eq, lt_of_lt_of_le, mul-le-mul_right, mul_assoc, div-lt_iff_lt-mul, mul-lt-mul_of_pos_right, mul-pos, arith, lit<, pow_pos, pow-add}
+use Rattle.std.proofs.Common.{◌≡◌, ℕ, ◌+◌, ◌*◌, ◌/◌, ◌%◌, ◌^◌, ◌<◌, ◌≤◌, Bool, false, not, T, sym, refl, ap, ◌∙◌, subst, inr, le_trans, le_of_eq, lt_of_lt_of_le, mul-le-mul_right, mul_assoc, div-lt_iff_lt-mul, mul-lt-mul_of_pos_right, mul-pos, arith, lit<, pow_pos, pow-add}
 use Prim.Native.Nat.{compare}
 use lib.Ieee.{Float, binary64, units, round, add, is_nan, of_bits, to_bits}
 use lib.Ieee.Fits.{nearest-le}

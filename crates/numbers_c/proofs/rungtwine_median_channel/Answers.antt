@@ -1,5 +1,4 @@
 -- `numbers_c::rungtwine_median_channel` meets its contract. Assumes nothing.
-use borrow.Author.Rules.{rules}
 use mathlib.Core.Path.{ap}
 use Rattle.numbers.specs.declared.scalar.Middle.{Middle}
 use Rattle.numbers_c.proofs.rungtwine_median_channel.Goals as goal

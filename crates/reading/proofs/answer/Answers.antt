@@ -1,5 +1,4 @@
 -- `reading::answer` meets its contract: it is `answer_by` with the first engine. Assumes nothing.
-use borrow.Author.Rules.{rules}
 use Rattle.reading.specs.Inner.{written_by}
 use Rattle.reading.proofs.answer.Goals as goal
 

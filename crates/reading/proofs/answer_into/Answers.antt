@@ -6,7 +6,6 @@ use Rattle.reading.specs.Inner.{printed_by}
 use Rattle.reading.specs.Text.{bad_text}
 use native.Mathlib.Omega.{arith}
 use mathlib.Core.Path.{sym, ◌∙◌, ap}
-use borrow.Author.Rules.{rules}
 use Rattle.reading.proofs.answer_into.Goals as goal
 
 pub returns-then-l-ne-FINE : goal.returns-then-l-ne-FINE

@@ -1,5 +1,4 @@
 -- `reading::answer_plainly` meets its contract: it is `answer_by` with the plain engine. Assumes nothing.
-use borrow.Author.Rules.{rules}
 use Rattle.reading.specs.Inner.{written_by}
 use Rattle.reading.proofs.answer_plainly.Goals as goal
 

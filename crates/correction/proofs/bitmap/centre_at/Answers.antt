@@ -1,5 +1,4 @@
 -- `correction::bitmap::centre_at` meets its contract. Assumes nothing.
-use borrow.Author.Rules.{rules}
 use Rattle.correction.proofs.bitmap.centre_at.Goals as goal
 
 pub returns : goal.returns

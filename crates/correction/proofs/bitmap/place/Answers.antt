@@ -1,7 +1,6 @@
 -- `correction::bitmap::place` meets its contract. Assumes nothing.
 use native.Mathlib.Nat.{mul-le-mul_left}
 use native.Mathlib.Omega.{arith}
-use borrow.Author.Rules.{rules}
 use Rattle.inputs.proofs.Laws.Windows.{near_small}
 use Rattle.correction.proofs.bitmap.place.Goals as goal
 

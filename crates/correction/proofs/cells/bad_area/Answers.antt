@@ -1,6 +1,5 @@
 -- `correction::cells::bad_area` meets its contract. Assumes nothing.
 use mathlib.Core.Path.{refl}
-use borrow.Author.Rules.{rules}
 use borrow.Author.Tests.{eq-eqb, ne_eqb}
 use Rattle.ground.proofs.Laws.Bools.{or_taken, or_left}
 use Rattle.correction.specs.Sheet.{bad_area}

@@ -1,5 +1,4 @@
 -- `correction::cells::bad_run` meets its contract. Assumes nothing.
-use borrow.Author.Rules.{rules}
 use Rattle.correction.specs.Sheet.{bad_run}
 use Rattle.correction.proofs.cells.bad_run.Goals as goal
 

@@ -1,6 +1,5 @@
 -- `correction::cells::bad_runs` meets its contract. Assumes nothing.
 use mathlib.Core.Path.{◌≡◌}
-use borrow.Author.Rules.{rules}
 use Rattle.ground.proofs.Laws.Bools.{or_taken, or_left}
 use Rattle.correction.specs.Sheet.{colours_run, coords_run, ends_run, bad_run, bad_runs}
 use Rattle.correction.proofs.cells.bad_runs.Goals as goal

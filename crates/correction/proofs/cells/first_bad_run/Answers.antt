@@ -1,9 +1,7 @@
 -- `correction::cells::first_bad_run` meets its contract: no cell before the loop's has a run outside its list. Assumes nothing.
-use Prim.Native.Nat.{◌-◌}
 use native.Mathlib.Omega.{arith}
-use borrow.Author.Rules.{rules}
-use Rattle.ground.proofs.Laws.Search.{Searched, search_none, search_more, search_found, search_end}
-use Rattle.correction.specs.Sheet.{bad_runs, first_bad_run}
+use Rattle.ground.proofs.Laws.Search.{search_none, search_more, search_found, search_end}
+use Rattle.correction.specs.Sheet.{first_bad_run}
 use Rattle.correction.proofs.cells.first_bad_run.Goals as goal
 
 pub bad_runs-requires : goal.bad_runs-requires

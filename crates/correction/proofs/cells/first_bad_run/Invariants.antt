@@ -1,9 +1,7 @@
 -- `correction::cells::first_bad_run` meets its contract: no cell before the loop's has a run outside its list. Assumes nothing.
 use Prim.Native.Nat.{◌-◌}
-use native.Mathlib.Omega.{arith}
-use borrow.Author.Rules.{rules}
-use Rattle.ground.proofs.Laws.Search.{Searched, search_none, search_more, search_found, search_end}
-use Rattle.correction.specs.Sheet.{bad_runs, first_bad_run}
+use Rattle.ground.proofs.Laws.Search.{Searched}
+use Rattle.correction.specs.Sheet.{bad_runs}
 use Rattle.correction.proofs.cells.first_bad_run.Given as goal
 
 abbrev pub invariant-loop-c : goal.invariant-loop-c

@@ -1,9 +1,7 @@
 -- `correction::cells::first_outside` meets its contract: no cell before the loop's is outside. Assumes nothing.
-use Prim.Native.Nat.{◌-◌}
 use native.Mathlib.Omega.{arith}
-use borrow.Author.Rules.{rules}
-use Rattle.ground.proofs.Laws.Search.{Searched, search_none, search_more, search_found, search_end}
-use Rattle.correction.specs.Sheet.{area_at, bad_area, first_outside}
+use Rattle.ground.proofs.Laws.Search.{search_none, search_more, search_found, search_end}
+use Rattle.correction.specs.Sheet.{first_outside}
 use Rattle.correction.proofs.cells.first_outside.Goals as goal
 
 pub area_at-requires : goal.area_at-requires

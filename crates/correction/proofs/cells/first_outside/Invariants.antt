@@ -1,9 +1,7 @@
 -- `correction::cells::first_outside` meets its contract: no cell before the loop's is outside. Assumes nothing.
 use Prim.Native.Nat.{◌-◌}
-use native.Mathlib.Omega.{arith}
-use borrow.Author.Rules.{rules}
-use Rattle.ground.proofs.Laws.Search.{Searched, search_none, search_more, search_found, search_end}
-use Rattle.correction.specs.Sheet.{area_at, bad_area, first_outside}
+use Rattle.ground.proofs.Laws.Search.{Searched}
+use Rattle.correction.specs.Sheet.{area_at, bad_area}
 use Rattle.correction.proofs.cells.first_outside.Given as goal
 
 abbrev pub invariant-loop-c : goal.invariant-loop-c

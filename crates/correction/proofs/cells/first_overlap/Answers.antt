@@ -1,9 +1,8 @@
 -- `correction::cells::first_overlap` meets its contract: no cell before the loop's overlaps an earlier one. Assumes nothing.
-use Prim.Native.Nat.{◌+◌, ◌-◌}
+use Prim.Native.Nat.{◌+◌}
 use native.Mathlib.Omega.{arith}
-use borrow.Author.Rules.{rules}
-use Rattle.ground.proofs.Laws.Search.{Searched, search_none, search_more, search_found, search_end}
-use Rattle.correction.specs.Sheet.{overlaps_earlier, first_overlap}
+use Rattle.ground.proofs.Laws.Search.{search_none, search_more, search_found, search_end}
+use Rattle.correction.specs.Sheet.{first_overlap}
 use Rattle.correction.proofs.cells.Areas.{areas_fewer}
 use Rattle.correction.proofs.cells.first_overlap.Goals as goal
 

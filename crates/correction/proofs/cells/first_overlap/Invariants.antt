@@ -1,10 +1,7 @@
 -- `correction::cells::first_overlap` meets its contract: no cell before the loop's overlaps an earlier one. Assumes nothing.
-use Prim.Native.Nat.{◌+◌, ◌-◌}
-use native.Mathlib.Omega.{arith}
-use borrow.Author.Rules.{rules}
-use Rattle.ground.proofs.Laws.Search.{Searched, search_none, search_more, search_found, search_end}
-use Rattle.correction.specs.Sheet.{overlaps_earlier, first_overlap}
-use Rattle.correction.proofs.cells.Areas.{areas_fewer}
+use Prim.Native.Nat.{◌-◌}
+use Rattle.ground.proofs.Laws.Search.{Searched}
+use Rattle.correction.specs.Sheet.{overlaps_earlier}
 use Rattle.correction.proofs.cells.first_overlap.Given as goal
 
 abbrev pub invariant-loop-c : goal.invariant-loop-c

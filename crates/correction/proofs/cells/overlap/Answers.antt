@@ -1,6 +1,5 @@
 -- `correction::cells::overlap` meets its contract. Assumes nothing.
 use mathlib.Core.Path.{refl}
-use borrow.Author.Rules.{rules}
 use borrow.Author.Tests.{lt-ltb, le-ltb}
 use Rattle.ground.proofs.Laws.Bools.{and_taken, and_left}
 use Rattle.correction.specs.Sheet.{overlap}

@@ -1,10 +1,8 @@
 -- `correction::cells::overlaps_earlier` meets its contract: no cell before the loop's overlaps the cell. Assumes nothing.
 use mathlib.Core.Path.{◌≡◌, sym, ◌∙◌}
-use Prim.Native.Nat.{◌-◌}
 use native.Mathlib.Nat.{le_antisymm}
 use native.Mathlib.Omega.{arith}
-use borrow.Author.Rules.{rules}
-use Rattle.ground.proofs.Laws.Search.{Searched, search_none, search_more, any_at}
+use Rattle.ground.proofs.Laws.Search.{search_none, search_more, any_at}
 use Rattle.correction.specs.Sheet.{area_at, overlap, overlaps_earlier}
 use Rattle.correction.proofs.cells.overlaps_earlier.Goals as goal
 use Rattle.correction.proofs.cells.overlaps_earlier.Goals.{After-overlap}

@@ -1,7 +1,6 @@
 -- `correction::cells::window_of` meets its contract. Assumes nothing.
 use Prim.Native.Nat.{◌+◌, ◌*◌, ◌<◌}
 use native.Mathlib.Omega.{arith}
-use borrow.Author.Rules.{rules}
 use Rattle.inputs.proofs.Laws.Places.{cell_small}
 use Rattle.correction.proofs.cells.window_of.Goals as goal
 use Rattle.correction.proofs.cells.window_of.Goals.{Start}

@@ -1,6 +1,5 @@
 -- `correction::collapse::apply` meets its contract: row by row. Assumes nothing.
 use mathlib.Core.Path.{ap}
-use Prim.Native.Nat.{◌-◌, ◌*◌}
 use native.Mathlib.Nat.{mul-le-mul_right}
 use native.Mathlib.Omega.{arith}
 use Rattle.ground.specs.Lists.{painted}
@@ -9,8 +8,8 @@ use Rattle.inputs.specs.Window.{cut_cells}
 use Rattle.inputs.specs.Inner.{Stencilled}
 use Rattle.inputs.proofs.Laws.Windows.{still_stencilled}
 use Rattle.correction.specs.Inner.{without_orders}
-use Rattle.correction.proofs.bitmap.Stretch.{Rowed, rows_none, rows_next, rows_all, upto_long}
-use Rattle.correction.proofs.collapse.Turns.{flags, bare, Turning, turning_none, turning_sampled, turning_row, turning_all}
+use Rattle.correction.proofs.bitmap.Stretch.{rows_none, rows_next, rows_all, upto_long}
+use Rattle.correction.proofs.collapse.Turns.{flags, bare, turning_none, turning_sampled, turning_row, turning_all}
 use Rattle.correction.proofs.collapse.apply.Goals as goal
 use Rattle.correction.proofs.collapse.apply.Goals.{At-loop-y}
 

@@ -1,16 +1,8 @@
 -- `correction::collapse::apply` meets its contract: row by row. Assumes nothing.
-use mathlib.Core.Path.{ap}
 use Prim.Native.Nat.{◌-◌, ◌*◌}
-use native.Mathlib.Nat.{mul-le-mul_right}
-use native.Mathlib.Omega.{arith}
-use Rattle.ground.specs.Lists.{painted}
-use Rattle.inputs.specs.Stencil.{is_error}
 use Rattle.inputs.specs.Window.{cut_cells}
-use Rattle.inputs.specs.Inner.{Stencilled}
-use Rattle.inputs.proofs.Laws.Windows.{still_stencilled}
-use Rattle.correction.specs.Inner.{without_orders}
-use Rattle.correction.proofs.bitmap.Stretch.{Rowed, rows_none, rows_next, rows_all, upto_long}
-use Rattle.correction.proofs.collapse.Turns.{flags, bare, Turning, turning_none, turning_sampled, turning_row, turning_all}
+use Rattle.correction.proofs.bitmap.Stretch.{Rowed}
+use Rattle.correction.proofs.collapse.Turns.{flags, bare, Turning}
 use Rattle.correction.proofs.collapse.apply.Given as goal
 
 abbrev pub invariant-loop-y : goal.invariant-loop-y

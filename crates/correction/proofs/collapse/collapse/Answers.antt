@@ -1,7 +1,6 @@
 -- `correction::collapse::collapse` meets its contract. Assumes nothing.
 use native.Mathlib.Omega.{arith}
 use lib.ListN.{length-set}
-use borrow.Author.Rules.{rules}
 use Rattle.correction.proofs.collapse.collapse.Goals as goal
 
 pub bounds-xs-at-5 : goal.bounds-xs-at-5

@@ -1,7 +1,6 @@
 -- `correction::collapse::collapse_flagged` meets its contract. Assumes nothing.
 use mathlib.Core.Path.{sym, ◌∙◌}
 use native.Mathlib.Omega.{arith}
-use borrow.Author.Rules.{rules}
 use Rattle.correction.proofs.collapse.collapse_flagged.Goals as goal
 
 pub collapse-requires : goal.collapse-requires

@@ -1,9 +1,8 @@
 -- `correction::collapse::collapse_row` meets its contract: the texels of the row are collapsed up to column x. Assumes nothing.
 use Prim.Native.Nat.{◌-◌}
-use native.Mathlib.Omega.{arith}
 use Rattle.inputs.specs.Window.{cut_cells}
 use Rattle.correction.specs.Bitmap.{cell}
-use Rattle.correction.proofs.collapse.Turns.{flags, in_row, Turning, flag_at, turning_sampled, turning_next, row_none, row_all}
+use Rattle.correction.proofs.collapse.Turns.{flags, in_row, Turning}
 use Rattle.correction.proofs.collapse.collapse_row.Given as goal
 
 abbrev pub invariant-loop-x : goal.invariant-loop-x

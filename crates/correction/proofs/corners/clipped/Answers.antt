@@ -1,5 +1,4 @@
 -- `correction::corners::clipped` meets its contract. Assumes nothing.
-use borrow.Author.Rules.{rules}
 use Rattle.correction.proofs.corners.Clips.{at_far, at_near, cast, at_in, at_out}
 use Rattle.correction.proofs.corners.clipped.Goals as goal
 

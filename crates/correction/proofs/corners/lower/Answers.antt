@@ -3,7 +3,6 @@ use mathlib.Core.Path.{◌∙◌, ap}
 use lib.IntN.{ℤ}
 use mir.ValLaws.{to_z-of_z}
 use mir.Syntax.{w64}
-use borrow.Author.Rules.{rules}
 use Rattle.correction.specs.Corners.{lower}
 use Rattle.correction.specs.Inner.{clip}
 use Rattle.correction.proofs.corners.lower.Goals as goal

@@ -1,6 +1,5 @@
 -- `correction::corners::mark_around` meets its contract. Assumes nothing.
 use native.Mathlib.Nat.{le_trans}
-use borrow.Author.Rules.{rules}
 use Rattle.correction.proofs.corners.Around.{next_fits, marked_around}
 use Rattle.correction.proofs.corners.Strokes.{stroke_still}
 use Rattle.correction.proofs.corners.mark_around.Goals as goal

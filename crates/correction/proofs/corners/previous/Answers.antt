@@ -1,7 +1,6 @@
 -- `correction::corners::previous` meets its contract. Assumes nothing.
 use native.Mathlib.Omega.{arith}
 use borrow.Author.Tests.{eq-eqb, ne_eqb}
-use borrow.Author.Rules.{rules}
 use Rattle.correction.proofs.corners.previous.Goals as goal
 
 pub returns-then-i-c : goal.returns-then-i-c

@@ -1,19 +1,15 @@
 -- `correction::corners::protect_contour` meets its contract: after each turn the stencil is painted by the segments before i. Assumes nothing.
 use mathlib.Core.Path.{◌≡◌}
 use mathlib.Core.Bool.{Bool}
-use mathlib.Core.List.{List}
-use Prim.Native.Nat.{ℕ, ◌+◌, ◌-◌, ◌/◌, ◌%◌, ◌≤◌}
+use Prim.Native.Nat.{ℕ, ◌+◌, ◌-◌}
 use native.Mathlib.Nat.{sub_self}
 use native.Mathlib.Omega.{arith}
-use lib.Ieee.{Float}
-use Rattle.ground.specs.Lists.{any}
-use Rattle.inputs.specs.declared.sizes.Window.{Window}
 use Rattle.correction.specs.Inner.{at_corner}
-use Rattle.correction.specs.Numbered.{corner_hits, contour_hits}
+use Rattle.correction.specs.Numbered.{contour_hits}
 use Rattle.inputs.proofs.Laws.Stencil.{both_again}
-use Rattle.correction.proofs.corners.Strokes.{Painted, stroke_still, stroke_zero, stroke_turn}
+use Rattle.correction.proofs.corners.Strokes.{stroke_still, stroke_zero, stroke_turn}
 use Rattle.correction.proofs.corners.protect_contour.Goals as goal
-use Rattle.correction.proofs.corners.protect_contour.Invariants.{nth, Inv}
+use Rattle.correction.proofs.corners.protect_contour.Invariants.{nth}
 
 pub loop-i-init : goal.loop-i-init
 loop-i-init c =

@@ -1,5 +1,4 @@
 -- `correction::corners::protect_corner` meets its contract. Assumes nothing.
-use borrow.Author.Rules.{rules}
 use Rattle.correction.proofs.corners.Contours.{hit, miss}
 use Rattle.correction.proofs.corners.protect_corner.Goals as goal
 

@@ -1,18 +1,15 @@
 -- `correction::corners::protect_corners` meets its contract: after each turn the stencil is painted by the contours before c. Assumes nothing.
-use mathlib.Core.Path.{◌≡◌, refl}
+use mathlib.Core.Path.{◌≡◌}
 use mathlib.Core.Bool.{Bool}
 use mathlib.Core.List.{List}
 use Prim.Native.Nat.{ℕ, ◌-◌, ◌/◌, ◌%◌, ◌≤◌}
-use native.Mathlib.Omega.{arith}
 use lib.ListN.{length, get_or}
 use lib.Ieee.{Float}
 use Rattle.ground.specs.Lists.{any}
 use Rattle.inputs.specs.declared.sizes.Window.{Window}
 use Rattle.correction.specs.Inner.{at_corner}
 use Rattle.correction.specs.Numbered.{start_at, contour_hits}
-use Rattle.inputs.proofs.Laws.Stencil.{both_again}
-use Rattle.correction.proofs.Laws.Contours.{start_next, start_le, corners_at}
-use Rattle.correction.proofs.corners.Strokes.{Painted, stroke_same, stroke_still, stroke_zero, stroke_turn}
+use Rattle.correction.proofs.corners.Strokes.{Painted}
 use Rattle.correction.proofs.corners.protect_corners.Given as goal
 
 -- contour j

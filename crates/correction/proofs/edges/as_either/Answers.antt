@@ -1,7 +1,6 @@
 -- `correction::edges::as_either` meets its contract. Assumes nothing.
 use mathlib.Core.Path.{sym, ◌∙◌}
 use native.Mathlib.Omega.{arith}
-use borrow.Author.Rules.{rules}
 use Rattle.ground.proofs.Laws.Bools.{and_taken, and_left}
 use Rattle.correction.specs.Inner.{as_either}
 use Rattle.inputs.proofs.Laws.Bounds.{Inside, inside}

@@ -2,7 +2,6 @@
 use Prim.Native.Nat.{◌+◌, ◌<◌}
 use native.Mathlib.Omega.{arith}
 use lib.ListN.{length}
-use borrow.Author.Rules.{rules}
 use Rattle.correction.proofs.edges.Room.{row_lies}
 use Rattle.correction.proofs.edges.median_near.Goals as goal
 use Rattle.correction.proofs.edges.median_near.Goals.{After-row_place}

@@ -1,23 +1,20 @@
 -- `correction::edges::protect_edges` meets its contract: before row y the rows below it are given, and its medians are in the room. Assumes nothing.
 use mathlib.Core.Path.{◌≡◌, refl, sym, ◌∙◌, subst}
 use mathlib.Core.List.{List}
-use mathlib.Core.Logic.{⊎_elim}
-use Prim.Native.Nat.{ℕ, ◌-◌, ◌*◌, ◌<◌, ◌≤◌}
+use Prim.Native.Nat.{ℕ, ◌*◌, ◌<◌, ◌≤◌}
 use native.Mathlib.Omega.{arith}
 use lib.ListN.{length}
 use lib.Ieee.{Float}
 use Rattle.ground.proofs.Laws.Picked.{pasted_as}
-use Rattle.inputs.specs.declared.sizes.Window.{Window}
 use Rattle.inputs.specs.Window.{cell_shown, cut_cells, cut_samples}
 use Rattle.inputs.proofs.Laws.Windows.{still_stencilled}
 use Rattle.correction.specs.declared.edges.Radii.{Radii}
 use Rattle.correction.specs.Inner.{Medians, Rows}
-use Rattle.correction.proofs.bitmap.Stretch.{Rowed, rows_none, rows_next, rows_all, upto_long}
+use Rattle.correction.proofs.bitmap.Stretch.{rows_none, rows_next, rows_all, upto_long}
 use Rattle.correction.proofs.edges.Room.{row_kept}
 use Rattle.correction.proofs.edges.Byte.{byte, row_painted, all_painted}
 use Rattle.correction.proofs.edges.protect_edges.Goals as goal
 use Rattle.correction.proofs.edges.protect_edges.Goals.{After-radius-3, At-loop-y, Joined-b-gt0, Joined-y-b, then-b-gt0, else-b-gt0, then-y-b, else-y-b}
-use Rattle.correction.proofs.edges.protect_edges.Invariants.{Inv}
 
 -- the radii of the three lengths
 abbrev radii : After-radius-3 → Radii
@@ -33,8 +30,8 @@ first c =
     let a = c.args in
     let g : List Float → Type 0 = λ (room : List Float). (length room ≡ length a.room.now) × (0 < a.b.height → Medians a.b a.xs.now room 0) in
     elim c.if-b-gt0.branch [
-      then-b-gt0 w ↦ subst g (sym w.room-is) (w.write_medians.auto.room, λ h. w.write_medians.ensures.here)
-    | else-b-gt0 w ↦ subst g (sym w.room-is) (refl, λ h. absurd (omega (arith, w.if-b-gt0.false)))
+      | then-b-gt0 w ↦ subst g (sym w.room-is) (w.write_medians.auto.room, λ h. w.write_medians.ensures.here)
+      | else-b-gt0 w ↦ subst g (sym w.room-is) (refl, λ h. absurd (omega (arith, w.if-b-gt0.false)))
     ]
 
 pub loop-y-init : goal.loop-y-init
@@ -58,8 +55,8 @@ second c =
     let g : List Float → Type 0 = λ (room : List Float). (length room ≡ length c.loop-y.room) × Rows a.b a.xs.now room c.loop-y.y in
     let own = c.loop-y.invariant.there c.loop-y-test.true in
     elim c.if-y-b.branch [
-      then-y-b w ↦ subst g (sym w.room-is) (w.write_medians-then-y-b.auto.room, record { own = row_kept a.b a.xs.now c.loop-y.room w.write_medians-then-y-b.new.room _ own w.write_medians-then-y-b.ensures.there; next = λ h. w.write_medians-then-y-b.ensures.here })
-    | else-y-b w ↦ subst g (sym w.room-is) (refl, record { own = own; next = λ h. absurd (omega (arith, w.if-y-b.false)) })
+      | then-y-b w ↦ subst g (sym w.room-is) (w.write_medians-then-y-b.auto.room, record { own = row_kept a.b a.xs.now c.loop-y.room w.write_medians-then-y-b.new.room _ own w.write_medians-then-y-b.ensures.there; next = λ h. w.write_medians-then-y-b.ensures.here })
+      | else-y-b w ↦ subst g (sym w.room-is) (refl, record { own = own; next = λ h. absurd (omega (arith, w.if-y-b.false)) })
     ]
 
 pub protect_row-requires : goal.protect_row-requires

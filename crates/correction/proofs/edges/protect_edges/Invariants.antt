@@ -1,20 +1,15 @@
 -- `correction::edges::protect_edges` meets its contract: before row y the rows below it are given, and its medians are in the room. Assumes nothing.
-use mathlib.Core.Path.{◌≡◌, refl, sym, ◌∙◌, subst}
+use mathlib.Core.Path.{◌≡◌}
 use mathlib.Core.List.{List}
-use mathlib.Core.Logic.{⊎_elim}
-use Prim.Native.Nat.{ℕ, ◌-◌, ◌*◌, ◌<◌, ◌≤◌}
-use native.Mathlib.Omega.{arith}
+use Prim.Native.Nat.{ℕ, ◌-◌, ◌<◌, ◌≤◌}
 use lib.ListN.{length}
 use lib.Ieee.{Float}
-use Rattle.ground.proofs.Laws.Picked.{pasted_as}
 use Rattle.inputs.specs.declared.sizes.Window.{Window}
-use Rattle.inputs.specs.Window.{cell_shown, cut_cells, cut_samples}
-use Rattle.inputs.proofs.Laws.Windows.{still_stencilled}
+use Rattle.inputs.specs.Window.{cut_samples}
 use Rattle.correction.specs.declared.edges.Radii.{Radii}
-use Rattle.correction.specs.Inner.{Medians, Rows}
-use Rattle.correction.proofs.bitmap.Stretch.{Rowed, rows_none, rows_next, rows_all, upto_long}
-use Rattle.correction.proofs.edges.Room.{row_kept}
-use Rattle.correction.proofs.edges.Byte.{byte, row_painted, all_painted}
+use Rattle.correction.specs.Inner.{Medians}
+use Rattle.correction.proofs.bitmap.Stretch.{Rowed}
+use Rattle.correction.proofs.edges.Byte.{byte}
 use Rattle.correction.proofs.edges.protect_edges.Given as goal
 
 pub record Inv (st₀ : List ℕ) (xs room₀ : List Float) (g : Window) (r : Radii) (st : List ℕ) (room : List Float) (y : ℕ) : Type 0 where

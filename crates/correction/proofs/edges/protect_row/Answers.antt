@@ -2,11 +2,10 @@
 use mathlib.Core.Path.{◌≡◌, sym, ◌∙◌, ap, subst}
 use mathlib.Core.Bool.{Bool, true, false, cond}
 use mathlib.Core.List.{List}
-use Prim.Native.Nat.{ℕ, ◌+◌, ◌-◌, ◌*◌, ◌<◌, ◌≤◌}
+use Prim.Native.Nat.{ℕ, ◌+◌, ◌*◌, ◌<◌}
 use native.Mathlib.Omega.{arith}
 use lib.ListN.{length, get_or, set}
 use lib.Ieee.{Float}
-use borrow.Author.Rules.{rules}
 use Rattle.ground.proofs.Laws.Picked.{pasted_as}
 use Rattle.inputs.specs.declared.sizes.Window.{Window}
 use Rattle.inputs.specs.Window.{cell_in, cell_shown, cut_samples, cut_cells}
@@ -60,8 +59,8 @@ loop-x-preserved c =
     let g : List ℕ → Type 0 = λ (st : List ℕ). Stretched (byte (cut_samples a.b a.xs.now) a.b a.r) a.b a.stencil.now a.y (c.loop-x.x + 1) st in (
       omega (arith, c.loop-x-test.true),
       elim c.if-some_edge.branch [
-        then-some_edge w ↦ subst g (sym w.stencil-is) (stored _ _ _ _ c.requires.stencilled h c.loop-x-test.true c.loop-x.invariant.1 c.some_edge.ensures w.if-some_edge.true w.cell-k.ensures w.set_protected.ensures)
-      | else-some_edge w ↦ subst g (sym w.stencil-is) (kept _ _ _ _ c.requires.stencilled h c.loop-x-test.true c.loop-x.invariant.1 c.some_edge.ensures w.if-some_edge.false)
+        | then-some_edge w ↦ subst g (sym w.stencil-is) (stored _ _ _ _ c.requires.stencilled h c.loop-x-test.true c.loop-x.invariant.1 c.some_edge.ensures w.if-some_edge.true w.cell-k.ensures w.set_protected.ensures)
+        | else-some_edge w ↦ subst g (sym w.stencil-is) (kept _ _ _ _ c.requires.stencilled h c.loop-x-test.true c.loop-x.invariant.1 c.some_edge.ensures w.if-some_edge.false)
       ],
     )
 

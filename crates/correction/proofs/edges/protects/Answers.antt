@@ -1,5 +1,4 @@
 -- `correction::edges::protects` meets its contract. Assumes nothing.
-use borrow.Author.Rules.{rules}
 use Rattle.detectors.specs.Edge.{protects_lower, protects_upper}
 use Rattle.correction.specs.Inner.{protects_as}
 use Rattle.correction.proofs.edges.protects.Goals as goal

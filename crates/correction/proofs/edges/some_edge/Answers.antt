@@ -1,7 +1,6 @@
 -- `correction::edges::some_edge` meets its contract. Assumes nothing.
 use mathlib.Core.Path.{sym, ap, ◌∙◌}
 use native.Mathlib.Omega.{arith}
-use borrow.Author.Rules.{rules}
 use borrow.Author.Tests.{not-true}
 use Rattle.ground.proofs.Laws.Bools.{or_taken, or_left}
 use Rattle.detectors.specs.Texel.{texel_median}

@@ -2,7 +2,6 @@
 use mathlib.Core.Path.{sym, ◌∙◌}
 use mathlib.Core.Bool.{or-true}
 use native.Mathlib.Omega.{arith}
-use borrow.Author.Rules.{rules}
 use Rattle.ground.proofs.Laws.Bools.{or_taken, or_left}
 use Rattle.correction.specs.Inner.{some_of}
 use Rattle.correction.proofs.edges.some_of.Goals as goal

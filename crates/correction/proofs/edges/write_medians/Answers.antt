@@ -1,11 +1,10 @@
 -- `correction::edges::write_medians` meets its contract. Assumes nothing.
 use mathlib.Core.Path.{ap}
-use Prim.Native.Nat.{ℕ, ◌+◌, ◌-◌, ◌<◌}
+use Prim.Native.Nat.{ℕ, ◌+◌, ◌<◌}
 use native.Mathlib.Nat.{lt_of_lt_of_le}
 use native.Mathlib.Omega.{arith}
 use lib.ListN.{length}
-use borrow.Author.Rules.{rules}
-use Rattle.correction.proofs.edges.Room.{row_lies, Written, written_none, written_more}
+use Rattle.correction.proofs.edges.Room.{row_lies, written_none, written_more}
 use Rattle.correction.proofs.edges.write_medians.Goals as goal
 use Rattle.correction.proofs.edges.write_medians.Goals.{After-median-m}
 

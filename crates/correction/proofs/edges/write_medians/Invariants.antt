@@ -1,11 +1,6 @@
 -- `correction::edges::write_medians` meets its contract. Assumes nothing.
-use mathlib.Core.Path.{ap}
-use Prim.Native.Nat.{ℕ, ◌+◌, ◌-◌, ◌<◌}
-use native.Mathlib.Nat.{lt_of_lt_of_le}
-use native.Mathlib.Omega.{arith}
-use lib.ListN.{length}
-use borrow.Author.Rules.{rules}
-use Rattle.correction.proofs.edges.Room.{row_lies, Written, written_none, written_more}
+use Prim.Native.Nat.{◌-◌}
+use Rattle.correction.proofs.edges.Room.{Written}
 use Rattle.correction.proofs.edges.write_medians.Given as goal
 
 abbrev pub invariant-loop-x : goal.invariant-loop-x

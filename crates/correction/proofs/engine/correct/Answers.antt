@@ -1,6 +1,5 @@
 -- `correction::engine::correct` meets its contract: the stages put together. Assumes nothing.
 use mathlib.Core.Path.{◌∙◌}
-use borrow.Author.Rules.{rules}
 use Rattle.inputs.proofs.Laws.Windows.{still_stencilled}
 use Rattle.correction.proofs.engine.Whole.{shielded_plain, written_ordered, left_alone, corrected}
 use Rattle.correction.proofs.engine.correct.Goals as goal
@@ -12,10 +11,13 @@ pub write_orders-requires : goal.write_orders-requires
 write_orders-requires c = record { sampled = c.requires.sampled.0; stencilled = (still_stencilled _ c.requires.stencilled.0 _ c.protect.ensures.long, shielded_plain _ _ _ _ _ _ _ c.protect.ensures) }
 
 pub find_errors-tests-requires : goal.find_errors-tests-requires
-find_errors-tests-requires c = record { sampled = c.requires.sampled.0; stencilled = (
-        still_stencilled _ c.requires.stencilled.0 _ (c.write_orders.ensures.long ∙ c.protect.ensures.long),
-        written_ordered _ _ (shielded_plain _ _ _ _ _ _ _ c.protect.ensures) c.write_orders.ensures,
-      ) }
+find_errors-tests-requires c = record {
+  sampled = c.requires.sampled.0;
+  stencilled = (
+    still_stencilled _ c.requires.stencilled.0 _ (c.write_orders.ensures.long ∙ c.protect.ensures.long),
+    written_ordered _ _ (shielded_plain _ _ _ _ _ _ _ c.protect.ensures) c.write_orders.ensures,
+  );
+}
 
 pub apply-requires : goal.apply-requires
 apply-requires c = record { sampled = c.requires.sampled.0; stencilled = still_stencilled _ c.requires.stencilled.0 _ (c.find_errors-tests.ensures.finds.long ∙ c.write_orders.ensures.long ∙ c.protect.ensures.long) }

@@ -1,5 +1,4 @@
 -- `correction::engine::protect` meets its contract: each mode has its law. Assumes nothing.
-use borrow.Author.Rules.{rules}
 use Rattle.inputs.proofs.Laws.Windows.{still_stencilled}
 use Rattle.correction.proofs.engine.Whole.{shielded_all, shielded_none, shielded_some}
 use Rattle.correction.proofs.engine.protect.Goals as goal

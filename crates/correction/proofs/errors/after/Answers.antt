@@ -1,5 +1,4 @@
 -- `correction::errors::after` meets its contract. Assumes nothing.
-use borrow.Author.Rules.{rules}
 use borrow.Author.Tests.{lt-ltb, le-ltb}
 use Rattle.correction.proofs.errors.after.Goals as goal
 

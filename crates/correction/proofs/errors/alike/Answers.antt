@@ -1,5 +1,4 @@
 -- `correction::errors::alike` meets its contract. Assumes nothing.
-use borrow.Author.Rules.{rules}
 use Rattle.correction.proofs.errors.alike.Goals as goal
 
 pub returns : goal.returns

@@ -3,7 +3,6 @@ use mathlib.Core.Path.{◌≡◌, sym, subst}
 use mathlib.Core.Bool.{Bool, true, false, cond, ◌&&◌}
 use Prim.Native.Nat.{ℕ, ◌<◌}
 use lib.Dec.{eqb}
-use borrow.Author.Rules.{rules}
 use Rattle.correction.specs.Inner.{column_in}
 use Rattle.correction.proofs.errors.Nearby.{next_inside, column_seen}
 use Rattle.correction.proofs.errors.column.Goals as goal

@@ -50,8 +50,8 @@ returns-else-not-alike c =
 pub returns-else-ny-gt0 : goal.returns-else-ny-gt0
 returns-else-ny-gt0 c =
     elim c.else-ny-gt0.branch [
-      else-ny-gt0-via-then-ny-gt0+else-ny-b w ↦ side_off _ _ _ _ _ _ _ _ _ (past_row _ _ _ _ w.if-ny-gt0.true (leb-false _ _ w.if-ny-b.false-raw))
-    | else-ny-gt0-via-else-ny-gt0 w ↦ side_off _ _ _ _ _ _ _ _ _ (before_row _ _ _ _ w.if-ny-gt0.false)
+      | else-ny-gt0-via-then-ny-gt0+else-ny-b w ↦ side_off _ _ _ _ _ _ _ _ _ (past_row _ _ _ _ w.if-ny-gt0.true (leb-false _ _ w.if-ny-b.false-raw))
+      | else-ny-gt0-via-else-ny-gt0 w ↦ side_off _ _ _ _ _ _ _ _ _ (before_row _ _ _ _ w.if-ny-gt0.false)
     ]
 
 pub overflow_sub-ny : goal.overflow_sub-ny

@@ -1,6 +1,5 @@
 -- `correction::errors::diagonal_artifact` meets its contract. Assumes nothing.
 use mathlib.Core.Path.{◌≡◌, sym, ◌∙◌, ap}
-use borrow.Author.Rules.{rules}
 use Rattle.numbers.specs.declared.scalar.Middle.{Middle}
 use Rattle.detectors.specs.Texel.{texel_median}
 use Rattle.detectors.proofs.Laws.Guard.{untested, tested}

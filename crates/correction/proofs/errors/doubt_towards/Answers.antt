@@ -1,5 +1,4 @@
 -- `correction::errors::doubt_towards` meets its contract. Assumes nothing.
-use borrow.Author.Rules.{rules}
 use Rattle.correction.proofs.errors.doubt_towards.Goals as goal
 
 pub returns : goal.returns

@@ -1,9 +1,7 @@
 -- `correction::errors::find_errors` meets its contract: row by row. Assumes nothing.
-use Prim.Native.Nat.{◌-◌}
 use native.Mathlib.Omega.{arith}
-use borrow.Author.Rules.{rules}
 use Rattle.correction.proofs.bitmap.Stretch.{upto_long}
-use Rattle.correction.proofs.errors.Rows.{FoundRows, rows_begin, rows_ordered, rows_stencilled, rows_then, rows_few, rows_found, rows_made}
+use Rattle.correction.proofs.errors.Rows.{rows_begin, rows_ordered, rows_stencilled, rows_then, rows_few, rows_found, rows_made}
 use Rattle.correction.proofs.errors.find_errors.Goals as goal
 
 pub loop-y-init : goal.loop-y-init

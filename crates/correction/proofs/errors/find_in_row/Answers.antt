@@ -1,11 +1,10 @@
 -- `correction::errors::find_in_row` meets its contract: a turn stores at one texel and passes over the settled ones behind it. Assumes nothing.
 use mathlib.Core.Path.{◌≡◌, refl, sym, subst}
 use mathlib.Core.List.{List}
-use Prim.Native.Nat.{ℕ, ◌+◌, ◌-◌, ◌%◌, ◌<◌}
+use Prim.Native.Nat.{ℕ, ◌+◌, ◌%◌, ◌<◌}
 use native.Mathlib.Nat.{le_antisymm}
 use native.Mathlib.Omega.{arith}
 use lib.ListN.{length, set}
-use borrow.Author.Rules.{rules}
 use Rattle.inputs.specs.Window.{cell_in}
 use Rattle.inputs.specs.Inner.{Stencilled}
 use Rattle.inputs.proofs.Laws.Windows.{still_stencilled}

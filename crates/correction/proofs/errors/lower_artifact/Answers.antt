@@ -82,10 +82,10 @@ returns-else-q-gt0 c =
 pub returns-else-t-gt0 : goal.returns-else-t-gt0
 returns-else-t-gt0 c =
     elim c.else-t-gt0.branch [
-      else-t-gt0-via-then-t-gt0+else-nx-b w ↦
-        let test : w.if-nx-gt0.t-15 ≡ (ltb 0 c.args.nx && leb c.args.nx c.args.b.width) = elim w.if-nx-gt0.branch [ then-nx-gt0 v ↦ and_taken refl (lt-ltb _ _ v.if-nx-gt0.true) v.t-15-is | else-nx-gt0 v ↦ v.t-15-is ∙ and_left _ refl (le-ltb _ _ v.if-nx-gt0.false) ] in
-        across_off _ _ _ _ _ _ _ _ _ _ _ (outside_column _ _ _ _ (sym test ∙ w.if-nx-b.false-raw))
-    | else-t-gt0-via-else-t-gt0 w ↦ across_off _ _ _ _ _ _ _ _ _ _ _ (before_row _ _ _ _ w.if-t-gt0.false)
+      | else-t-gt0-via-then-t-gt0+else-nx-b w ↦
+          let test : w.if-nx-gt0.t-15 ≡ (ltb 0 c.args.nx && leb c.args.nx c.args.b.width) = elim w.if-nx-gt0.branch [ then-nx-gt0 v ↦ and_taken refl (lt-ltb _ _ v.if-nx-gt0.true) v.t-15-is | else-nx-gt0 v ↦ v.t-15-is ∙ and_left _ refl (le-ltb _ _ v.if-nx-gt0.false) ] in
+          across_off _ _ _ _ _ _ _ _ _ _ _ (outside_column _ _ _ _ (sym test ∙ w.if-nx-b.false-raw))
+      | else-t-gt0-via-else-t-gt0 w ↦ across_off _ _ _ _ _ _ _ _ _ _ _ (before_row _ _ _ _ w.if-t-gt0.false)
     ]
 
 pub overflow_sub-nx : goal.overflow_sub-nx

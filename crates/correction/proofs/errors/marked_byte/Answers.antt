@@ -1,5 +1,4 @@
 -- `correction::errors::marked_byte` meets its contract. Assumes nothing.
-use borrow.Author.Rules.{rules}
 use borrow.Author.Tests.{le-leb, lt-leb}
 use Rattle.correction.proofs.errors.marked_byte.Goals as goal
 

@@ -2,7 +2,6 @@
 use mathlib.Core.Path.{sym, subst}
 use Prim.Native.Nat.{ℕ, ◌<◌}
 use lib.ListN.{length}
-use borrow.Author.Rules.{rules}
 use Rattle.correction.proofs.errors.order_at.Goals as goal
 
 pub bounds-stencil-k : goal.bounds-stencil-k

@@ -50,8 +50,8 @@ returns-else-not-alike c =
 pub returns-else-nx-gt0 : goal.returns-else-nx-gt0
 returns-else-nx-gt0 c =
     elim c.else-nx-gt0.branch [
-      else-nx-gt0-via-then-nx-gt0+else-nx-b w ↦ side_off _ _ _ _ _ _ _ _ _ (past_column _ _ _ _ w.if-nx-gt0.true (leb-false _ _ w.if-nx-b.false-raw))
-    | else-nx-gt0-via-else-nx-gt0 w ↦ side_off _ _ _ _ _ _ _ _ _ (before_column _ _ _ _ w.if-nx-gt0.false)
+      | else-nx-gt0-via-then-nx-gt0+else-nx-b w ↦ side_off _ _ _ _ _ _ _ _ _ (past_column _ _ _ _ w.if-nx-gt0.true (leb-false _ _ w.if-nx-b.false-raw))
+      | else-nx-gt0-via-else-nx-gt0 w ↦ side_off _ _ _ _ _ _ _ _ _ (before_column _ _ _ _ w.if-nx-gt0.false)
     ]
 
 pub overflow_sub-nx : goal.overflow_sub-nx

@@ -1,5 +1,4 @@
 -- `correction::errors::side_artifact` meets its contract. Assumes nothing.
-use borrow.Author.Rules.{rules}
 use Rattle.correction.proofs.errors.side_artifact.Goals as goal
 
 pub returns : goal.returns

@@ -1,7 +1,6 @@
 -- `correction::errors::step` meets its contract. Assumes nothing.
 use mathlib.Core.Path.{refl, sym, subst}
 use Prim.Native.Nat.{ℕ, ◌<◌}
-use borrow.Author.Rules.{rules}
 use Rattle.correction.proofs.errors.Nearby.{next_inside}
 use Rattle.correction.proofs.errors.step.Goals as goal
 

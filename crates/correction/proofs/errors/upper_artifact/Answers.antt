@@ -4,7 +4,6 @@ use mathlib.Core.Bool.{◌&&◌}
 use Prim.Native.Nat.{◌+◌, ◌-◌, ◌<◌, ◌≤◌}
 use native.Mathlib.Omega.{arith}
 use lib.Dec.{leb, ltb}
-use borrow.Author.Rules.{rules}
 use borrow.Author.Tests.{ltb-true, leb-true, lt-ltb, le-ltb}
 use Rattle.ground.proofs.Laws.Bools.{and_taken, and_left, both_hold}
 use Rattle.detectors.specs.Orders.{doubt, Doubts, order_code}
@@ -80,10 +79,10 @@ returns-else-q-gt0 c =
 pub returns-else-t-b : goal.returns-else-t-b
 returns-else-t-b c =
     elim c.else-t-b.branch [
-      else-t-b-via-then-t-b+else-nx-b w ↦
-        let test : w.if-nx-gt0.t-16 ≡ (ltb 0 c.args.nx && leb c.args.nx c.args.b.width) = elim w.if-nx-gt0.branch [ then-nx-gt0 v ↦ and_taken refl (lt-ltb _ _ v.if-nx-gt0.true) v.t-16-is | else-nx-gt0 v ↦ v.t-16-is ∙ and_left _ refl (le-ltb _ _ v.if-nx-gt0.false) ] in
-        across_off _ _ _ _ _ _ _ _ _ _ _ (outside_column _ _ _ _ (sym test ∙ w.if-nx-b.false-raw))
-    | else-t-b-via-else-t-b w ↦ across_off _ _ _ _ _ _ _ _ _ _ _ (past_row _ _ _ _ (omega arith) (omega (arith, w.if-t-b.false)))
+      | else-t-b-via-then-t-b+else-nx-b w ↦
+          let test : w.if-nx-gt0.t-16 ≡ (ltb 0 c.args.nx && leb c.args.nx c.args.b.width) = elim w.if-nx-gt0.branch [ then-nx-gt0 v ↦ and_taken refl (lt-ltb _ _ v.if-nx-gt0.true) v.t-16-is | else-nx-gt0 v ↦ v.t-16-is ∙ and_left _ refl (le-ltb _ _ v.if-nx-gt0.false) ] in
+          across_off _ _ _ _ _ _ _ _ _ _ _ (outside_column _ _ _ _ (sym test ∙ w.if-nx-b.false-raw))
+      | else-t-b-via-else-t-b w ↦ across_off _ _ _ _ _ _ _ _ _ _ _ (past_row _ _ _ _ (omega arith) (omega (arith, w.if-t-b.false)))
     ]
 
 pub overflow_sub-nx : goal.overflow_sub-nx

@@ -1,7 +1,6 @@
 -- `correction::errors::verdict_at` meets its contract. Assumes nothing.
 use mathlib.Core.Path.{◌∙◌, ap}
 use Prim.Native.Nat.{ℕ, ◌/◌}
-use borrow.Author.Rules.{rules}
 use Rattle.correction.specs.Errors.{has_artifact, tests_made}
 use Rattle.correction.specs.Inner.{made_for}
 use Rattle.correction.proofs.errors.verdict_at.Goals as goal

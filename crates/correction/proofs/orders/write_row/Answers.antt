@@ -1,7 +1,6 @@
 -- `correction::orders::write_row` meets its contract: the channels are three, or else four. Assumes nothing.
 use mathlib.Core.Path.{sym}
 use native.Mathlib.Omega.{arith}
-use borrow.Author.Rules.{rules}
 use Rattle.correction.proofs.orders.write_row.Goals as goal
 
 pub write_run-requires : goal.write_run-requires

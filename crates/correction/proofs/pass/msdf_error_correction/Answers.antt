@@ -5,7 +5,6 @@ use Prim.Native.Nat.{ℕ}
 use native.Mathlib.Omega.{arith}
 use lib.ListN.{length}
 use lib.Ieee.{binary32}
-use borrow.Author.Rules.{rules}
 use Rattle.numbers.specs.Constants.{zero_of}
 use Rattle.ground.specs.Lists.{tab}
 use Rattle.inputs.specs.Inner.{Sized}

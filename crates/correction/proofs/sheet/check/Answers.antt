@@ -1,5 +1,4 @@
 -- `correction::sheet::check` meets its contract. Assumes nothing.
-use borrow.Author.Rules.{rules}
 use Rattle.correction.specs.Sheet.{Sheet, sheet}
 use Rattle.correction.proofs.sheet.Failures.{by_sheet, sheet_passes, by_outside, all_inside, by_overlap, by_run, all_laid, by_cells}
 use Rattle.correction.proofs.sheet.check.Goals as goal

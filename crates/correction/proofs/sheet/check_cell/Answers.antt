@@ -2,7 +2,6 @@
 use mathlib.Core.List.{[]}
 use native.Mathlib.Omega.{arith}
 use lib.ListN.{length}
-use borrow.Author.Rules.{rules}
 use Rattle.correction.specs.Sheet.{Sheet, sheet}
 use Rattle.correction.proofs.sheet.Laid.{sampled}
 use Rattle.correction.proofs.sheet.Handed.{Held, cell_there, runs_held, sampled_as, judged}

@@ -1,11 +1,6 @@
 -- `correction::sheet::check_cells` meets its contract: the cells before the loop's pass their checks. Assumes nothing.
-use mathlib.Core.List.{[]}
-use Prim.Native.Nat.{◌-◌}
 use native.Mathlib.Omega.{arith}
-use lib.ListN.{length}
-use borrow.Author.Rules.{rules}
-use Rattle.correction.specs.Sheet.{sheet}
-use Rattle.correction.proofs.sheet.Contents.{Passing, passing_none, passing_more, content_found, content_none}
+use Rattle.correction.proofs.sheet.Contents.{passing_none, passing_more, content_found, content_none}
 use Rattle.correction.proofs.sheet.check_cells.Goals as goal
 
 pub check_cell-f-requires : goal.check_cell-f-requires

@@ -2,7 +2,6 @@
 use mathlib.Core.List.{[]}
 use native.Mathlib.Omega.{arith}
 use lib.ListN.{length}
-use borrow.Author.Rules.{rules}
 use Rattle.inputs.proofs.Laws.Windows.{still_stencilled}
 use Rattle.correction.specs.Sheet.{Sheet, sheet}
 use Rattle.correction.proofs.sheet.Laid.{sampled, stencilled}

@@ -1,14 +1,11 @@
 -- `correction::sheet::correct_cells` meets its contract: the cells before the loop's are corrected, and counted. Assumes nothing.
-use mathlib.Core.Path.{◌≡◌, refl, ◌∙◌}
+use mathlib.Core.Path.{◌≡◌}
 use mathlib.Core.List.{[]}
-use Prim.Native.Nat.{◌-◌, ◌*◌, ◌<◌, ◌≤◌}
-use native.Mathlib.Nat.{mul_comm}
-use native.Mathlib.Omega.{arith}
+use Prim.Native.Nat.{◌-◌, ◌≤◌}
 use lib.ListN.{length}
-use Rattle.correction.specs.Sheet.{Sheet, sheet}
-use Rattle.correction.proofs.sheet.Laid.{laid_with}
-use Rattle.correction.proofs.sheet.Corrected.{Corrected, ended, corrected_none, all_cells, all_samples}
-use Rattle.correction.proofs.sheet.Summed.{Summed, corrected_step, same_tally, summed_none, summed_step, summed_all, summed_small, tally_small}
+use Rattle.correction.specs.Sheet.{sheet}
+use Rattle.correction.proofs.sheet.Corrected.{Corrected}
+use Rattle.correction.proofs.sheet.Summed.{Summed}
 use Rattle.correction.proofs.sheet.correct_cells.Given as goal
 
 abbrev pub invariant-loop-c : goal.invariant-loop-c

@@ -2,7 +2,6 @@
 use mathlib.Core.List.{[]}
 use native.Mathlib.Nat.{mul-le-mul, le_trans}
 use native.Mathlib.Omega.{arith}
-use borrow.Author.Rules.{rules}
 use Rattle.ground.proofs.Laws.Picked.{picked_length}
 use Rattle.inputs.specs.Checks.{Input, input}
 use Rattle.inputs.specs.Window.{cut_samples}

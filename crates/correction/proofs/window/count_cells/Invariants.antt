@@ -1,8 +1,6 @@
 -- `correction::window::count_cells` meets its contract: the cells of the rows before the loop's are counted. Assumes nothing.
-use Prim.Native.Nat.{◌+◌, ◌-◌, ◌≤◌}
-use native.Mathlib.Omega.{arith}
-use borrow.Author.Rules.{rules}
-use Rattle.correction.proofs.window.Rows.{Counted, counted_none, counted_more, counted_small, counted_all, cell_row}
+use Prim.Native.Nat.{◌-◌}
+use Rattle.correction.proofs.window.Rows.{Counted}
 use Rattle.correction.proofs.window.count_cells.Given as goal
 
 abbrev pub invariant-loop-y : goal.invariant-loop-y

@@ -1,10 +1,6 @@
 -- `correction::window::protect_row` meets its contract: the row is given up to column x. Assumes nothing.
-use mathlib.Core.Path.{refl}
-use Prim.Native.Nat.{◌-◌, ◌<◌}
-use native.Mathlib.Omega.{arith}
-use lib.ListN.{length}
-use Rattle.ground.specs.Lists.{painted}
-use Rattle.correction.proofs.bitmap.Stretch.{Stretched, stretch_none, stretch_held, stretch_next, stretch_all, upto_long}
+use Prim.Native.Nat.{◌-◌}
+use Rattle.correction.proofs.bitmap.Stretch.{Stretched}
 use Rattle.correction.proofs.window.Rows.{alone}
 use Rattle.correction.proofs.window.protect_row.Given as goal
 

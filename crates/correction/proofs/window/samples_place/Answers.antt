@@ -1,11 +1,9 @@
 -- `correction::window::samples_place` meets its contract: no sample of a row before the loop's is bad. Assumes nothing.
 use mathlib.Core.Path.{sym, subst}
-use Prim.Native.Nat.{◌-◌, ◌*◌}
 use native.Mathlib.Nat.{zero-mul}
 use native.Mathlib.Omega.{arith}
-use borrow.Author.Rules.{rules}
 use Rattle.ground.proofs.Laws.Search.{Searched, search_none}
-use Rattle.correction.proofs.window.Rows.{bad, samples_few, samples_all, sample_row, row_searched, row_found_law, rows_searched}
+use Rattle.correction.proofs.window.Rows.{samples_few, samples_all, sample_row, row_searched, row_found_law, rows_searched}
 use Rattle.correction.proofs.window.samples_place.Goals as goal
 
 pub overflow_mul-n : goal.overflow_mul-n

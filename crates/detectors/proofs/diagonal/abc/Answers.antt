@@ -1,5 +1,5 @@
 -- `detectors::diagonal::abc` meets its contract. Assumes nothing.
-use Rattle.std.proofs.Common.{refl, rules}
+use Rattle.std.proofs.Common.{refl}
 use Rattle.detectors.specs.Diagonal.{abc}
 use Rattle.detectors.proofs.diagonal.abc.Goals as goal
 

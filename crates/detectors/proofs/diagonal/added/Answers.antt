@@ -1,5 +1,5 @@
 -- `detectors::diagonal::added` meets its contract. Assumes nothing.
-use Rattle.std.proofs.Common.{sym, ◌∙◌, arith, rules}
+use Rattle.std.proofs.Common.{sym, ◌∙◌, arith}
 use Rattle.detectors.proofs.diagonal.added.Goals as goal
 
 pub returns-then-turns : goal.returns-then-turns

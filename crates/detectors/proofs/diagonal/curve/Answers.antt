@@ -1,5 +1,4 @@
 -- `detectors::diagonal::curve` meets its contract. Assumes nothing.
-use Rattle.std.proofs.Common.{rules}
 use Rattle.detectors.specs.Diagonal.{curve}
 use Rattle.detectors.proofs.diagonal.curve.Goals as goal
 

@@ -1,5 +1,4 @@
 -- `detectors::diagonal::curve_channel` meets its contract. Assumes nothing.
-use Rattle.std.proofs.Common.{rules}
 use Rattle.detectors.specs.Diagonal.{curve_channel}
 use Rattle.detectors.proofs.diagonal.curve_channel.Goals as goal
 

@@ -1,5 +1,5 @@
 -- `detectors::diagonal::diagonal_at` meets its contract. Assumes nothing.
-use Rattle.std.proofs.Common.{◌≡◌, sym, ◌∙◌, rules}
+use Rattle.std.proofs.Common.{◌≡◌, sym, ◌∙◌}
 use Rattle.detectors.specs.Verdict.{verdict}
 use Rattle.detectors.specs.Diagonal.{root_tests, diagonal_at, root_test_count, diagonal_tests_at}
 use Rattle.detectors.proofs.Laws.Verdict.{as_found, as_clear, guarded_off, guarded_on}

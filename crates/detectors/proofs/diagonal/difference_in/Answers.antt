@@ -1,5 +1,4 @@
 -- `detectors::diagonal::difference_in` meets its contract. Assumes nothing.
-use Rattle.std.proofs.Common.{rules}
 use Rattle.detectors.specs.Pairs.{difference}
 use Rattle.detectors.proofs.diagonal.difference_in.Goals as goal
 

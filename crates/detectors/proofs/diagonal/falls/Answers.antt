@@ -1,5 +1,5 @@
 -- `detectors::diagonal::falls` meets its contract. Assumes nothing.
-use Rattle.std.proofs.Common.{T, sym, subst, rules}
+use Rattle.std.proofs.Common.{T, sym, subst}
 use lib.Ieee.{neg, of_bits}
 use Rattle.detectors.proofs.diagonal.Signs.{falling}
 use Rattle.detectors.proofs.diagonal.falls.Goals as goal

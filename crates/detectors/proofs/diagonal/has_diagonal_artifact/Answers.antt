@@ -1,5 +1,5 @@
 -- `detectors::diagonal::has_diagonal_artifact` meets its contract. Assumes nothing.
-use Rattle.std.proofs.Common.{List, sym, ap, ◌∙◌, arith, rules}
+use Rattle.std.proofs.Common.{List, sym, ap, ◌∙◌, arith}
 use lib.Ieee.{Float}
 use Rattle.numbers.specs.declared.scalar.Middle.{Middle}
 use Rattle.detectors.specs.Orders.{Doubts}

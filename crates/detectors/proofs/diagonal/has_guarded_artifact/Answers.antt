@@ -1,5 +1,4 @@
 -- `detectors::diagonal::has_guarded_artifact` meets its contract. Assumes nothing.
-use Rattle.std.proofs.Common.{rules}
 use Rattle.detectors.proofs.diagonal.has_guarded_artifact.Goals as goal
 
 pub returns : goal.returns

@@ -1,5 +1,4 @@
 -- `detectors::diagonal::interpolated_median_quad` meets its contract. Assumes nothing.
-use Rattle.std.proofs.Common.{rules}
 use Rattle.detectors.specs.Diagonal.{curve_median}
 use Rattle.detectors.proofs.diagonal.interpolated_median_quad.Goals as goal
 

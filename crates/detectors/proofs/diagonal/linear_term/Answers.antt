@@ -1,5 +1,4 @@
 -- `detectors::diagonal::linear_term` meets its contract. Assumes nothing.
-use Rattle.std.proofs.Common.{rules}
 use Rattle.detectors.specs.Diagonal.{linear_term}
 use Rattle.detectors.proofs.diagonal.linear_term.Goals as goal
 

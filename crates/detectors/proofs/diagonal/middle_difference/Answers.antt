@@ -1,5 +1,4 @@
 -- `detectors::diagonal::middle_difference` meets its contract. Assumes nothing.
-use Rattle.std.proofs.Common.{rules}
 use Rattle.detectors.specs.Diagonal.{middle_difference}
 use Rattle.detectors.proofs.diagonal.middle_difference.Goals as goal
 

@@ -1,5 +1,4 @@
 -- `detectors::diagonal::moved_end` meets its contract. Assumes nothing.
-use Rattle.std.proofs.Common.{rules}
 use Rattle.detectors.specs.Diagonal.{moved_end}
 use Rattle.detectors.proofs.diagonal.moved_end.Goals as goal
 

@@ -1,5 +1,4 @@
 -- `detectors::diagonal::pair_roots` meets its contract: a widened number is the number. Assumes nothing.
-use Rattle.std.proofs.Common.{rules}
 use Rattle.detectors.specs.Discriminant.{normal_quadratic_roots}
 use Rattle.detectors.proofs.diagonal.pair_roots.Goals as goal
 

@@ -1,5 +1,5 @@
 -- `detectors::diagonal::rises` meets its contract. Assumes nothing.
-use Rattle.std.proofs.Common.{T, sym, subst, rules}
+use Rattle.std.proofs.Common.{T, sym, subst}
 use lib.Ieee.{of_bits}
 use Rattle.detectors.proofs.diagonal.Signs.{rising}
 use Rattle.detectors.proofs.diagonal.rises.Goals as goal

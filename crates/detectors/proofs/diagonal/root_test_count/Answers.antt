@@ -1,5 +1,5 @@
 -- `detectors::diagonal::root_test_count` meets its contract. Assumes nothing.
-use Rattle.std.proofs.Common.{arith, rules}
+use Rattle.std.proofs.Common.{arith}
 use Rattle.detectors.proofs.diagonal.root_test_count.Goals as goal
 
 pub returns : goal.returns

@@ -1,5 +1,4 @@
 -- `detectors::diagonal::root_tests` meets its contract. Assumes nothing.
-use Rattle.std.proofs.Common.{rules}
 use Rattle.ground.proofs.Laws.Bools.{or_taken, or_left}
 use Rattle.detectors.proofs.diagonal.root_tests.Goals as goal
 

@@ -1,5 +1,5 @@
 -- `detectors::diagonal::roots_tried` meets its contract: a pair that is not in doubt is not tried, and none has a root inside whose differences are of one sign. Assumes nothing.
-use Rattle.std.proofs.Common.{◌≡◌, Bool, true, false, ◌||◌, sym, refl, ◌∙◌, inl, inr, rules}
+use Rattle.std.proofs.Common.{◌≡◌, Bool, true, false, ◌||◌, sym, refl, ◌∙◌, inl, inr}
 use borrow.Author.Tests.{not-true, not-false}
 use Rattle.detectors.specs.Diagonal.{pair_roots}
 use Rattle.detectors.specs.Discriminant.{normal_pair_roots}

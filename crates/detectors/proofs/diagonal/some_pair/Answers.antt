@@ -1,5 +1,5 @@
 -- `detectors::diagonal::some_pair` meets its contract: no pair below p and no root tried of pair p below i is an artifact, and the tests are those of all of them. Assumes nothing.
-use Rattle.std.proofs.Common.{◌≡◌, ℕ, ◌+◌, ◌-◌, ◌<◌, ◌≤◌, Bool, true, false, List, sym, refl, ap, ◌∙◌, arith, rules}
+use Rattle.std.proofs.Common.{◌≡◌, ℕ, ◌+◌, ◌<◌, ◌≤◌, Bool, true, false, List, sym, refl, ap, ◌∙◌, arith}
 use lib.Ieee.{Float}
 use Rattle.ground.specs.Lists.{any, spent}
 use Rattle.ground.proofs.Laws.Search.{none_zero, none_more, any_at}

@@ -1,16 +1,9 @@
 -- `detectors::diagonal::some_pair` meets its contract: no pair below p and no root tried of pair p below i is an artifact, and the tests are those of all of them. Assumes nothing.
-use Rattle.std.proofs.Common.{◌≡◌, ℕ, ◌+◌, ◌-◌, ◌<◌, ◌≤◌, Bool, true, false, List, sym, refl, ap, ◌∙◌, arith, rules}
-use lib.Ieee.{Float}
+use Rattle.std.proofs.Common.{◌≡◌, ℕ, ◌+◌, ◌-◌, ◌≤◌, Bool, false}
 use Rattle.ground.specs.Lists.{any, spent}
-use Rattle.ground.proofs.Laws.Search.{none_zero, none_more, any_at}
-use Rattle.ground.proofs.Laws.Spent.{spent_none, spent_more, spent_ended, spent_small}
-use Rattle.detectors.specs.Inner.{root_at, Tried}
-use Rattle.detectors.specs.Verdict.{verdict}
+use Rattle.detectors.specs.Inner.{root_at}
 use Rattle.detectors.specs.Diagonal.{diagonal_at, diagonal_tests_at}
 use Rattle.detectors.specs.Orders.{doubted_pair, doubted_tests}
-use Rattle.detectors.proofs.Laws.Verdict.{as_found, as_clear, verdict_le, found, clear}
-use Rattle.detectors.proofs.Laws.Tests.{diagonal_at_le, doubted_le}
-use Rattle.detectors.proofs.diagonal.Searched.{tried_few, tried_any, tried_spent}
 use Rattle.detectors.proofs.diagonal.some_pair.Given as goal
 
 abbrev pub invariant-loop-i : goal.invariant-loop-i

@@ -1,5 +1,4 @@
 -- `detectors::diagonal::square_term` meets its contract. Assumes nothing.
-use Rattle.std.proofs.Common.{rules}
 use Rattle.detectors.specs.Diagonal.{square_term}
 use Rattle.detectors.proofs.diagonal.square_term.Goals as goal
 

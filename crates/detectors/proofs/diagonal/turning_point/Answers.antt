@@ -1,5 +1,4 @@
 -- `detectors::diagonal::turning_point` meets its contract. Assumes nothing.
-use Rattle.std.proofs.Common.{rules}
 use Rattle.detectors.specs.Diagonal.{turning_point}
 use Rattle.detectors.proofs.diagonal.turning_point.Goals as goal
 

@@ -1,5 +1,4 @@
 -- `detectors::diagonal::turning_test` meets its contract. Assumes nothing.
-use Rattle.std.proofs.Common.{rules}
 use Rattle.detectors.specs.Diagonal.{turning_test}
 use Rattle.ground.proofs.Laws.Bools.{and_taken, and_left}
 use Rattle.detectors.proofs.diagonal.turning_test.Goals as goal

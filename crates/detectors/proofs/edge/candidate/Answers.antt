@@ -1,5 +1,4 @@
 -- `detectors::edge::candidate` meets its contract. Assumes nothing.
-use Rattle.std.proofs.Common.{rules}
 use Rattle.detectors.proofs.edge.candidate.Goals as goal
 
 pub returns : goal.returns

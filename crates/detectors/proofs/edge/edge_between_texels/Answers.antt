@@ -1,5 +1,5 @@
 -- `detectors::edge::edge_between_texels` meets its contract: its tests are the definition's in another order. Assumes nothing.
-use Rattle.std.proofs.Common.{◌≡◌, ℕ, Bool, true, false, not, ◌&&◌, ◌||◌, List, sym, refl, ap, ◌∙◌, rules}
+use Rattle.std.proofs.Common.{◌≡◌, ℕ, Bool, true, false, not, ◌&&◌, ◌||◌, List, sym, refl, ap, ◌∙◌}
 use mathlib.Core.Bool.{false≢true}
 use lib.Ieee.{Float, binary64, lt, eq, ne}
 use Rattle.numbers.specs.Constants.{zero_of, one_of}

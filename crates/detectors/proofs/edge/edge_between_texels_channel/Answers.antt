@@ -1,5 +1,5 @@
 -- `detectors::edge::edge_between_texels_channel` meets its contract. Assumes nothing.
-use Rattle.std.proofs.Common.{◌≡◌, Bool, true, false, not, ◌&&◌, refl, true≢false, rules}
+use Rattle.std.proofs.Common.{◌≡◌, Bool, true, false, not, ◌&&◌, refl, true≢false}
 use mathlib.Core.Bool.{false≢true}
 use Rattle.detectors.specs.Inner.{carried}
 use Rattle.detectors.proofs.edge.edge_between_texels_channel.Goals as goal

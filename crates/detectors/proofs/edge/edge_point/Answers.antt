@@ -1,6 +1,5 @@
 -- `detectors::edge::edge_point` meets its contract. Assumes nothing.
 use Rattle.detectors.specs.Edge.{edge_point}
-use Rattle.std.proofs.Common.{rules}
 use Rattle.detectors.proofs.edge.edge_point.Goals as goal
 
 pub returns : goal.returns

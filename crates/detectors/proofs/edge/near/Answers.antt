@@ -1,6 +1,5 @@
 -- `detectors::edge::near` meets its contract. Assumes nothing.
 use Rattle.detectors.specs.Edge.{near}
-use Rattle.std.proofs.Common.{rules}
 use Rattle.detectors.proofs.edge.near.Goals as goal
 
 pub returns : goal.returns

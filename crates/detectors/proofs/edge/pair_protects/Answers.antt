@@ -1,7 +1,6 @@
 -- `detectors::edge::pair_protects` meets its contract. Assumes nothing.
 use Rattle.ground.proofs.Laws.Bools.{and_taken, and_left}
 use Rattle.detectors.specs.Edge.{pair_protects}
-use Rattle.std.proofs.Common.{rules}
 use Rattle.detectors.proofs.edge.pair_protects.Goals as goal
 
 pub returns-then-near : goal.returns-then-near

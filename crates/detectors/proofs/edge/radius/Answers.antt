@@ -1,6 +1,5 @@
 -- `detectors::edge::radius` meets its contract. Assumes nothing.
 use Rattle.ranges.specs.Config.{radius}
-use Rattle.std.proofs.Common.{rules}
 use Rattle.detectors.proofs.edge.radius.Goals as goal
 
 pub returns : goal.returns

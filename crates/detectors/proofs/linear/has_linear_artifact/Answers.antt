@@ -1,5 +1,5 @@
 -- `detectors::linear::has_linear_artifact` meets its contract. Assumes nothing.
-use Rattle.std.proofs.Common.{sym, ap, ◌∙◌, rules}
+use Rattle.std.proofs.Common.{sym, ap, ◌∙◌}
 use Rattle.numbers.specs.declared.scalar.Middle.{Middle}
 use Rattle.detectors.specs.Linear.{linear_pairs, has_linear_artifact, linear_pairs_tests, linear_tests}
 use Rattle.detectors.proofs.Laws.Verdict.{guarded_off, guarded_on}

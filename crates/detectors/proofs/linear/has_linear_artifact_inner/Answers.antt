@@ -1,5 +1,5 @@
 -- `detectors::linear::has_linear_artifact_inner` meets its contract. Assumes nothing.
-use Rattle.std.proofs.Common.{sym, ◌∙◌, rules}
+use Rattle.std.proofs.Common.{sym, ◌∙◌}
 use borrow.Author.Tests.{not-true}
 use Rattle.detectors.specs.Linear.{linear_at, linear_tests_at}
 use Rattle.detectors.proofs.Laws.Verdict.{as_found, as_clear, or_ended, or_off, or_on}

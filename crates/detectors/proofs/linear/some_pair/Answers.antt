@@ -1,5 +1,5 @@
 -- `detectors::linear::some_pair` meets its contract: the pairs are tried in order, each unless there is an artifact before. Assumes nothing.
-use Rattle.std.proofs.Common.{◌≡◌, ℕ, Bool, List, arith, rules}
+use Rattle.std.proofs.Common.{◌≡◌, ℕ, Bool, List, arith}
 use lib.Ieee.{Float}
 use Rattle.ground.specs.Lists.{any, spent}
 use Rattle.detectors.specs.Verdict.{verdict}

@@ -1,5 +1,5 @@
 -- `detectors::orders::order_code` meets its contract. Assumes nothing.
-use Rattle.std.proofs.Common.{sym, arith, rules}
+use Rattle.std.proofs.Common.{sym, arith}
 use Rattle.detectors.specs.Orders.{order_code}
 use Rattle.detectors.proofs.orders.order_code.Goals as goal
 

@@ -1,6 +1,5 @@
 -- `detectors::orders::ordered` meets its contract. Assumes nothing.
 use Rattle.detectors.specs.Orders.{ordered}
-use Rattle.std.proofs.Common.{rules}
 use Rattle.detectors.proofs.orders.ordered.Goals as goal
 
 pub returns : goal.returns

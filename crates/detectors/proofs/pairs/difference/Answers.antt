@@ -1,6 +1,5 @@
 -- `detectors::pairs::difference` meets its contract. Assumes nothing.
 use Rattle.detectors.specs.Pairs.{difference}
-use Rattle.std.proofs.Common.{rules}
 use Rattle.detectors.proofs.pairs.difference.Goals as goal
 
 pub returns : goal.returns

@@ -1,6 +1,5 @@
 -- `detectors::pairs::interpolated_median_linear` meets its contract. Assumes nothing.
 use Rattle.detectors.specs.Pairs.{mixed_median}
-use Rattle.std.proofs.Common.{rules}
 use Rattle.detectors.proofs.pairs.interpolated_median_linear.Goals as goal
 
 pub returns : goal.returns

@@ -1,6 +1,5 @@
 -- `detectors::pairs::mixed_channel` meets its contract. Assumes nothing.
 use Rattle.detectors.specs.Pairs.{mixed_channel}
-use Rattle.std.proofs.Common.{rules}
 use Rattle.detectors.proofs.pairs.mixed_channel.Goals as goal
 
 pub returns : goal.returns

@@ -1,5 +1,5 @@
 -- `detectors::pairs::next` meets its contract. Assumes nothing.
-use Rattle.std.proofs.Common.{arith, rules, le-ltb, lt-ltb}
+use Rattle.std.proofs.Common.{arith, le-ltb, lt-ltb}
 use Rattle.detectors.specs.Pairs.{next}
 use Rattle.detectors.proofs.pairs.next.Goals as goal
 

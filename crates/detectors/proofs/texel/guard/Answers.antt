@@ -1,6 +1,5 @@
 -- `detectors::texel::guard` meets its contract. Assumes nothing.
 use Rattle.detectors.specs.Pairs.{guard}
-use Rattle.std.proofs.Common.{rules}
 use Rattle.detectors.proofs.texel.guard.Goals as goal
 
 pub returns : goal.returns

@@ -1,6 +1,5 @@
 -- `detectors::texel::median` meets its contract. Assumes nothing.
 use Rattle.detectors.specs.Texel.{texel_middle}
-use Rattle.std.proofs.Common.{rules}
 use Rattle.detectors.proofs.texel.median.Goals as goal
 
 pub returns : goal.returns

@@ -1,13 +1,9 @@
 -- `inputs::checks::all_good` meets its contract: as long as all are good, the search for a bad one goes on. Assumes nothing.
 use mathlib.Core.Path.{◌≡◌, refl, ap, ◌∙◌}
 use mathlib.Core.Bool.{Bool, true, false, not, ◌&&◌, false≢true}
-use Prim.Native.Nat.{◌-◌, ◌≤◌}
 use native.Mathlib.Omega.{arith}
-use lib.ListN.{length, get_or}
-use lib.Ieee.{binary32, nan}
-use borrow.Author.Rules.{rules}
 use Rattle.inputs.specs.Checks.{oversize, samples_place}
-use Rattle.ground.proofs.Laws.Search.{Searched, search_none, search_more, search_end}
+use Rattle.ground.proofs.Laws.Search.{search_none, search_more, search_end}
 use Rattle.inputs.proofs.checks.all_good.Goals as goal
 
 both : (p q : Bool) → p && q ≡ true → (p ≡ true) × (q ≡ true)
@@ -17,8 +13,7 @@ both false q h = absurd (false≢true h)
 pub loop-i-preserved : goal.loop-i-preserved
 unfolding oversize
 loop-i-preserved c =
-    let l = c in
-    (omega arith, λ h. let g = both _ _ h in search_more (l.loop-i.invariant.1 g.0) l.loop-i-test.true refl (ap not g.1))
+    (omega arith, λ h. let g = both _ _ h in search_more (c.loop-i.invariant.1 g.0) c.loop-i-test.true refl (ap not g.1))
 
 pub returns : goal.returns
 unfolding samples_place

@@ -1,13 +1,11 @@
 -- `inputs::checks::all_good` meets its contract: as long as all are good, the search for a bad one goes on. Assumes nothing.
-use mathlib.Core.Path.{◌≡◌, refl, ap, ◌∙◌}
-use mathlib.Core.Bool.{Bool, true, false, not, ◌&&◌, false≢true}
+use mathlib.Core.Path.{◌≡◌}
+use mathlib.Core.Bool.{true}
 use Prim.Native.Nat.{◌-◌, ◌≤◌}
-use native.Mathlib.Omega.{arith}
 use lib.ListN.{length, get_or}
 use lib.Ieee.{binary32, nan}
-use borrow.Author.Rules.{rules}
-use Rattle.inputs.specs.Checks.{oversize, samples_place}
-use Rattle.ground.proofs.Laws.Search.{Searched, search_none, search_more, search_end}
+use Rattle.inputs.specs.Checks.{oversize}
+use Rattle.ground.proofs.Laws.Search.{Searched}
 use Rattle.inputs.proofs.checks.all_good.Given as goal
 
 abbrev pub invariant-loop-i : goal.invariant-loop-i

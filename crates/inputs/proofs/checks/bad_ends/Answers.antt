@@ -4,7 +4,6 @@ use mathlib.Core.Bool.{not}
 use Prim.Native.Nat.{ℕ}
 use lib.Dec.{eqb, ltb}
 use lib.ListN.{length}
-use borrow.Author.Rules.{rules}
 use borrow.Author.Tests.{lt-ltb, le-ltb}
 use Rattle.inputs.specs.Checks.{bad_ends}
 use Rattle.ground.proofs.Laws.Bools.{or_taken, or_left}
@@ -13,12 +12,10 @@ use Rattle.inputs.proofs.checks.bad_ends.Goals as goal
 pub returns-then-place-ends : goal.returns-then-place-ends
 unfolding bad_ends
 returns-then-place-ends c =
-    let b = c in
-    or_taken _ (ap (λ (k : ℕ). ltb k (length b.args.ends.now)) b.requires) (lt-ltb _ _ c.if-place-ends.true)
+    or_taken _ (ap (λ (k : ℕ). ltb k (length c.args.ends.now)) c.requires) (lt-ltb _ _ c.if-place-ends.true)
 
 pub returns-else-place-ends : goal.returns-else-place-ends
 unfolding bad_ends
 returns-else-place-ends c =
-    let b = c in
-    or_left (ap (λ (k : ℕ). ltb k (length b.args.ends.now)) b.requires) (le-ltb _ _ c.if-place-ends.false)
-    (ap (λ (k : ℕ). not (eqb k b.args.n)) c.end_before.ensures)
+    or_left (ap (λ (k : ℕ). ltb k (length c.args.ends.now)) c.requires) (le-ltb _ _ c.if-place-ends.false)
+    (ap (λ (k : ℕ). not (eqb k c.args.n)) c.end_before.ensures)

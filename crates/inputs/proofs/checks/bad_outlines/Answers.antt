@@ -1,5 +1,4 @@
 -- `inputs::checks::bad_outlines` meets its contract. Assumes nothing.
-use borrow.Author.Rules.{rules}
 use borrow.Author.Tests.{lt-ltb, le-ltb}
 use Rattle.inputs.specs.Checks.{bad_outlines}
 use Rattle.inputs.proofs.checks.bad_outlines.Goals as goal

@@ -1,6 +1,5 @@
 -- `inputs::checks::bad_segment` meets its contract. Assumes nothing.
 use mathlib.Core.Path.{refl}
-use borrow.Author.Rules.{rules}
 use borrow.Author.Tests.{lt-ltb, le-ltb}
 use Rattle.ground.proofs.Laws.Bools.{or_taken, or_left}
 use Rattle.inputs.proofs.checks.bad_segment.Goals as goal

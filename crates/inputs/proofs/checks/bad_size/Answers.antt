@@ -1,5 +1,4 @@
 -- `inputs::checks::bad_size` meets its contract. Assumes nothing.
-use borrow.Author.Rules.{rules}
 use Rattle.ground.proofs.Laws.Bools.{or_taken, or_left}
 use Rattle.inputs.specs.Checks.{bad_size}
 use Rattle.inputs.proofs.checks.bad_size.Goals as goal

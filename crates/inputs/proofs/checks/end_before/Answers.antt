@@ -1,5 +1,4 @@
 -- `inputs::checks::end_before` meets its contract. Assumes nothing.
-use borrow.Author.Rules.{rules}
 use borrow.Author.Tests.{eq-eqb, ne_eqb}
 use Rattle.inputs.specs.Checks.{end_before}
 use Rattle.inputs.proofs.checks.end_before.Goals as goal

@@ -1,12 +1,9 @@
 -- `inputs::checks::ends_place` meets its contract: no end before the loop's is bad, and the loop carries the end before its own. Assumes nothing.
 use mathlib.Core.Path.{◌≡◌, sym}
-use Prim.Native.Nat.{◌-◌}
 use native.Mathlib.Omega.{arith}
 use native.Mathlib.Numerals.{add-one}
-use lib.ListN.{length}
-use borrow.Author.Rules.{rules}
-use Rattle.inputs.specs.Checks.{end_before, bad_end, ends_place}
-use Rattle.ground.proofs.Laws.Search.{Searched, search_none, search_more, search_found, search_end}
+use Rattle.inputs.specs.Checks.{bad_end, ends_place}
+use Rattle.ground.proofs.Laws.Search.{search_none, search_more, search_found, search_end}
 use Rattle.inputs.proofs.checks.Ends.{before_first, before_next}
 use Rattle.inputs.proofs.checks.ends_place.Goals as goal
 use Rattle.inputs.proofs.checks.ends_place.Goals.{After-bad_end}
@@ -19,13 +16,11 @@ answer c = rw (← c.loop-i.invariant.1) c.bad_end.ensures
 pub returns-then-bad_end : goal.returns-then-bad_end
 unfolding ends_place
 returns-then-bad_end c =
-    let l = c in
-    search_found l.loop-i.invariant.0 l.loop-i-test.true (answer (goal.at.returns-then-bad_end c).After-bad_end) c.if-bad_end.true
+    search_found c.loop-i.invariant.0 c.loop-i-test.true (answer (goal.at.returns-then-bad_end c).After-bad_end) c.if-bad_end.true
 
 pub loop-i-preserved : goal.loop-i-preserved
 loop-i-preserved c =
-    let l = c in
-    (search_more l.loop-i.invariant.0 l.loop-i-test.true (answer (goal.at.loop-i-preserved c).After-bad_end) c.if-bad_end.false, sym (before_next _ _ _ (add-one _)))
+    (search_more c.loop-i.invariant.0 c.loop-i-test.true (answer (goal.at.loop-i-preserved c).After-bad_end) c.if-bad_end.false, sym (before_next _ _ _ (add-one _)))
 
 pub returns : goal.returns
 unfolding ends_place

@@ -2,7 +2,6 @@
 use mathlib.Core.Path.{◌≡◌, refl, sym, ◌∙◌}
 use mathlib.Core.Bool.{false}
 use lib.ListN.{length}
-use borrow.Author.Rules.{rules}
 use Rattle.ground.specs.Refuse.{first_failing}
 use Rattle.inputs.specs.Checks.{bad_outlines, bad_ends, bad_segments, outline_refusal, outline_place}
 use Rattle.inputs.proofs.checks.Passed.{good_outlines}
@@ -13,8 +12,7 @@ use Rattle.inputs.proofs.checks.outline_refusal.Goals.{Else-bad_ends}
 -- checks 7 and 8, where they have passed
 ok : (c : Else-bad_ends) → let a = c.args in let n = length a.colours.now in (bad_outlines n (length a.coords.now) ≡ false) × (bad_ends a.ends.now n ≡ false)
 ok c =
-    let a = c in
-    (sym a.bad_outlines.ensures ∙ a.if-bad_outlines.false, sym c.bad_ends.ensures ∙ c.if-bad_ends.false)
+    (sym c.bad_outlines.ensures ∙ c.if-bad_outlines.false, sym c.bad_ends.ensures ∙ c.if-bad_ends.false)
 
 pub returns-then-bad_outlines : goal.returns-then-bad_outlines
 unfolding outline_refusal outline_place first_failing
@@ -23,8 +21,7 @@ returns-then-bad_outlines c = (simp (sym c.bad_outlines.ensures ∙ c.if-bad_out
 pub returns-then-bad_ends : goal.returns-then-bad_ends
 unfolding outline_refusal outline_place first_failing
 returns-then-bad_ends c =
-    let a = c in
-    (simp (sym a.bad_outlines.ensures ∙ a.if-bad_outlines.false, sym c.bad_ends.ensures ∙ c.if-bad_ends.true), c.ends_place-e.ensures)
+    (simp (sym c.bad_outlines.ensures ∙ c.if-bad_outlines.false, sym c.bad_ends.ensures ∙ c.if-bad_ends.true), c.ends_place-e.ensures)
 
 pub returns-then-p-colours : goal.returns-then-p-colours
 unfolding outline_refusal outline_place first_failing bad_segments

@@ -1,11 +1,7 @@
 -- `inputs::checks::samples_place` meets its contract: where all are not good, no sample before the loop's is bad. Assumes nothing.
-use Prim.Native.Nat.{◌-◌}
 use native.Mathlib.Omega.{arith}
-use lib.ListN.{length, get_or}
-use lib.Ieee.{binary32, nan}
-use borrow.Author.Rules.{rules}
-use Rattle.inputs.specs.Checks.{oversize, samples_place}
-use Rattle.ground.proofs.Laws.Search.{Searched, search_none, search_more, search_found, search_end}
+use Rattle.inputs.specs.Checks.{samples_place}
+use Rattle.ground.proofs.Laws.Search.{search_none, search_more, search_found, search_end}
 use Rattle.inputs.proofs.checks.samples_place.Goals as goal
 
 pub returns-then-all_good : goal.returns-then-all_good
@@ -14,13 +10,11 @@ returns-then-all_good c = c.all_good.ensures c.if-all_good.true
 pub returns-then-bad_sample : goal.returns-then-bad_sample
 unfolding samples_place
 returns-then-bad_sample c =
-    let l = c in
-    search_found l.loop-i.invariant l.loop-i-test.true c.bad_sample.ensures c.if-bad_sample.true
+    search_found c.loop-i.invariant c.loop-i-test.true c.bad_sample.ensures c.if-bad_sample.true
 
 pub loop-i-preserved : goal.loop-i-preserved
 loop-i-preserved c =
-    let l = c in
-    search_more l.loop-i.invariant l.loop-i-test.true c.bad_sample.ensures c.if-bad_sample.false
+    search_more c.loop-i.invariant c.loop-i-test.true c.bad_sample.ensures c.if-bad_sample.false
 
 pub returns : goal.returns
 unfolding samples_place

@@ -1,11 +1,9 @@
 -- `inputs::checks::samples_place` meets its contract: where all are not good, no sample before the loop's is bad. Assumes nothing.
 use Prim.Native.Nat.{◌-◌}
-use native.Mathlib.Omega.{arith}
 use lib.ListN.{length, get_or}
 use lib.Ieee.{binary32, nan}
-use borrow.Author.Rules.{rules}
-use Rattle.inputs.specs.Checks.{oversize, samples_place}
-use Rattle.ground.proofs.Laws.Search.{Searched, search_none, search_more, search_found, search_end}
+use Rattle.inputs.specs.Checks.{oversize}
+use Rattle.ground.proofs.Laws.Search.{Searched}
 use Rattle.inputs.proofs.checks.samples_place.Given as goal
 
 abbrev pub invariant-loop-i : goal.invariant-loop-i

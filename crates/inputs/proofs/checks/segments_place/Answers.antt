@@ -1,23 +1,18 @@
 -- `inputs::checks::segments_place` meets its contract: no segment before the loop's is bad. Assumes nothing.
-use Prim.Native.Nat.{◌-◌}
 use native.Mathlib.Omega.{arith}
-use lib.ListN.{length}
-use borrow.Author.Rules.{rules}
 use Rattle.inputs.specs.Checks.{bad_segment, segments_place}
-use Rattle.ground.proofs.Laws.Search.{Searched, search_none, search_more, search_found, search_end}
+use Rattle.ground.proofs.Laws.Search.{search_none, search_more, search_found, search_end}
 use Rattle.inputs.proofs.checks.segments_place.Goals as goal
 
 pub returns-then-bad_segment : goal.returns-then-bad_segment
 unfolding segments_place bad_segment
 returns-then-bad_segment c =
-    let l = c in
-    search_found l.loop-i.invariant l.loop-i-test.true c.bad_segment.ensures c.if-bad_segment.true
+    search_found c.loop-i.invariant c.loop-i-test.true c.bad_segment.ensures c.if-bad_segment.true
 
 pub loop-i-preserved : goal.loop-i-preserved
 unfolding bad_segment
 loop-i-preserved c =
-    let l = c in
-    search_more l.loop-i.invariant l.loop-i-test.true c.bad_segment.ensures c.if-bad_segment.false
+    search_more c.loop-i.invariant c.loop-i-test.true c.bad_segment.ensures c.if-bad_segment.false
 
 pub returns : goal.returns
 unfolding segments_place

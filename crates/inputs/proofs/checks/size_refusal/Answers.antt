@@ -1,7 +1,6 @@
 -- `inputs::checks::size_refusal` meets its contract. Assumes nothing.
 use mathlib.Core.Path.{◌≡◌, sym, ◌∙◌}
 use mathlib.Core.Bool.{false}
-use borrow.Author.Rules.{rules}
 use Rattle.ground.specs.Refuse.{first_failing}
 use Rattle.inputs.specs.Checks.{bad_channels, bad_size, size_refusal}
 use Rattle.inputs.proofs.checks.Measures.{size_bound, channel_bound}

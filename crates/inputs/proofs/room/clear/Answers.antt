@@ -1,11 +1,9 @@
 -- `inputs::room::clear` meets its contract, by the laws of a loop that fills. Assumes nothing.
 use mathlib.Core.Path.{refl}
-use Prim.Native.Nat.{◌-◌}
 use native.Mathlib.Omega.{arith}
-use lib.ListN.{length}
 use lib.Ieee.{binary32}
 use Rattle.numbers.specs.Constants.{zero_of}
-use Rattle.ground.proofs.Laws.Fill.{Filled, filled_none, filled_more, filled_all}
+use Rattle.ground.proofs.Laws.Fill.{filled_none, filled_more, filled_all}
 use Rattle.inputs.proofs.room.clear.Goals as goal
 
 pub overflow_add-i : goal.overflow_add-i

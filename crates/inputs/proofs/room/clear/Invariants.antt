@@ -1,11 +1,9 @@
 -- `inputs::room::clear` meets its contract, by the laws of a loop that fills. Assumes nothing.
-use mathlib.Core.Path.{refl}
 use Prim.Native.Nat.{◌-◌}
-use native.Mathlib.Omega.{arith}
 use lib.ListN.{length}
 use lib.Ieee.{binary32}
 use Rattle.numbers.specs.Constants.{zero_of}
-use Rattle.ground.proofs.Laws.Fill.{Filled, filled_none, filled_more, filled_all}
+use Rattle.ground.proofs.Laws.Fill.{Filled}
 use Rattle.inputs.proofs.room.clear.Given as goal
 
 abbrev pub invariant-loop-i : goal.invariant-loop-i

@@ -1,16 +1,14 @@
 -- `inputs::stencil::count_cells` meets its contract: before cell i the three numbers count the cells below it. Assumes nothing.
-use mathlib.Core.Path.{◌≡◌, refl, sym, ◌∙◌, ap}
-use mathlib.Core.Bool.{Bool}
+use mathlib.Core.Path.{◌≡◌, refl, sym}
 use mathlib.Core.List.{List}
-use Prim.Native.Nat.{ℕ, ◌+◌, ◌-◌, ◌/◌, ◌%◌, ◌≤◌}
+use Prim.Native.Nat.{ℕ, ◌+◌, ◌/◌, ◌%◌, ◌≤◌}
 use native.Mathlib.Nat.{le_antisymm, div-one}
 use native.Mathlib.Omega.{arith}
 use lib.ListN.{length, get_or}
-use Rattle.ground.specs.Lists.{count}
-use Rattle.inputs.specs.Stencil.{has_corner, is_protected, is_error, cell_count, protected_count, error_count, corner_count}
-use Rattle.ground.proofs.Laws.Count.{none_counted, one_more, count_small}
+use Rattle.inputs.specs.Stencil.{has_corner, is_protected, is_error, protected_count, error_count, corner_count}
+use Rattle.ground.proofs.Laws.Count.{none_counted, one_more}
 use Rattle.inputs.proofs.stencil.count_cells.Goals as goal
-use Rattle.inputs.proofs.stencil.count_cells.Invariants.{Counted, few, all, Inv}
+use Rattle.inputs.proofs.stencil.count_cells.Invariants.{few, all, Inv}
 
 begins : (st : List ℕ) → Inv st 0 0 0 0
 begins st = record { in_range_law = omega arith; protected = sym (none_counted _); error = sym (none_counted _); corner = sym (none_counted _) }

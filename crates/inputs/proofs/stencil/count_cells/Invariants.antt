@@ -1,14 +1,13 @@
 -- `inputs::stencil::count_cells` meets its contract: before cell i the three numbers count the cells below it. Assumes nothing.
-use mathlib.Core.Path.{◌≡◌, refl, sym, ◌∙◌, ap}
+use mathlib.Core.Path.{◌≡◌, ◌∙◌, ap}
 use mathlib.Core.Bool.{Bool}
 use mathlib.Core.List.{List}
-use Prim.Native.Nat.{ℕ, ◌+◌, ◌-◌, ◌/◌, ◌%◌, ◌≤◌}
-use native.Mathlib.Nat.{le_antisymm, div-one}
+use Prim.Native.Nat.{ℕ, ◌-◌, ◌≤◌}
 use native.Mathlib.Omega.{arith}
 use lib.ListN.{length, get_or}
 use Rattle.ground.specs.Lists.{count}
-use Rattle.inputs.specs.Stencil.{has_corner, is_protected, is_error, cell_count, protected_count, error_count, corner_count}
-use Rattle.ground.proofs.Laws.Count.{none_counted, one_more, count_small}
+use Rattle.inputs.specs.Stencil.{has_corner, is_protected, is_error, cell_count}
+use Rattle.ground.proofs.Laws.Count.{count_small}
 use Rattle.inputs.proofs.stencil.count_cells.Given as goal
 
 -- a number that counts the cells below i whose byte says so

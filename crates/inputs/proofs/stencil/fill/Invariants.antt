@@ -1,9 +1,7 @@
 -- `inputs::stencil::fill` meets its contract, by the laws of a loop that fills. Assumes nothing.
-use mathlib.Core.Path.{refl}
 use Prim.Native.Nat.{◌-◌}
-use native.Mathlib.Omega.{arith}
 use lib.ListN.{length}
-use Rattle.ground.proofs.Laws.Fill.{Filled, filled_none, filled_more, filled_all}
+use Rattle.ground.proofs.Laws.Fill.{Filled}
 use Rattle.inputs.proofs.stencil.fill.Given as goal
 
 abbrev pub invariant-loop-i : goal.invariant-loop-i

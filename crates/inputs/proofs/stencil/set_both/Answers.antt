@@ -1,6 +1,5 @@
 -- `inputs::stencil::set_both` meets its contract. Assumes nothing.
 use mathlib.Core.Path.{◌∙◌, ap}
-use borrow.Author.Rules.{rules}
 use Rattle.inputs.specs.Stencil.{set_corner}
 use Rattle.inputs.proofs.stencil.set_both.Goals as goal
 

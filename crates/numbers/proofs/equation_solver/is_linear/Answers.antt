@@ -1,5 +1,5 @@
 -- `numbers::equation_solver::is_linear` meets its contract. Assumes nothing.
-use Rattle.std.proofs.Common.{refl, rules}
+use Rattle.std.proofs.Common.{refl}
 use lib.Ieee.{binary64, lt, mul}
 use Rattle.ground.proofs.Laws.Bools.{or_taken, or_left}
 use Rattle.numbers.specs.Constants.{dominance}

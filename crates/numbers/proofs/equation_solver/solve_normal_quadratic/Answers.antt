@@ -1,5 +1,5 @@
 -- `numbers::equation_solver::solve_normal_quadratic` meets its contract. Assumes nothing.
-use Rattle.std.proofs.Common.{sym, ◌∙◌, rules}
+use Rattle.std.proofs.Common.{sym, ◌∙◌}
 use lib.Ieee.{binary64, to_bits}
 use Rattle.ground.proofs.Laws.Bools.{holds}
 use Rattle.numbers.specs.Constants.{zero_of}

@@ -1,5 +1,5 @@
 -- `numbers::equation_solver::solve_quadratic` meets its contract. Assumes nothing.
-use Rattle.std.proofs.Common.{sym, ◌∙◌, rules}
+use Rattle.std.proofs.Common.{sym, ◌∙◌}
 use Rattle.numbers.proofs.Laws.EquationSolver.{roots_linear, roots_square, square_two, square_fewer}
 use Rattle.numbers.proofs.equation_solver.solve_quadratic.Goals as goal
 

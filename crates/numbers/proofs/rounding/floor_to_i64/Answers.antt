@@ -1,5 +1,5 @@
 -- `numbers::rounding::floor_to_i64` meets its contract: each way's number is the floor of the pattern (`Flooring.antt`). Assumes nothing.
-use Rattle.std.proofs.Common.{◌≡◌, ℕ, ◌-◌, ◌<◌, true, false, not, T, ℤ, pos, negsuc, neg_ℤ, sym, ap, ◌∙◌, subst, arith, rules}
+use Rattle.std.proofs.Common.{◌≡◌, ℕ, ◌-◌, ◌<◌, true, false, not, T, ℤ, pos, negsuc, neg_ℤ, sym, ap, ◌∙◌, subst, arith}
 use lib.Ieee.{Float, is_nan, binary64, to_bits, of_bits}
 use lib.Ieee.Bits.{of_bits-to_bits}
 use Rattle.numbers.specs.Rounding.{floor_of}

@@ -1,5 +1,5 @@
 -- `numbers::rounding::narrow` meets its contract: each way's pattern is that of the rounded value (`Narrowing.antt`). Assumes nothing.
-use Rattle.std.proofs.Common.{◌≡◌, ℕ, ◌+◌, ◌-◌, ◌/◌, ◌%◌, ◌<◌, not, T, sym, ap, ◌∙◌, subst, arith, rules}
+use Rattle.std.proofs.Common.{◌≡◌, ℕ, ◌+◌, ◌-◌, ◌/◌, ◌%◌, ◌<◌, not, T, sym, ap, ◌∙◌, subst, arith}
 use lib.Ieee.{Float, fits, is_nan, binary64, to_bits, of_bits, div, nan_bits}
 use lib.Ieee.Bits.{to_bits-lt, of_bits-to_bits}
 use Rattle.numbers.specs.Rounding.{narrow_of}

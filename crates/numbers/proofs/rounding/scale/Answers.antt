@@ -1,5 +1,5 @@
 -- `numbers::rounding::scale` meets its contract (`Flooring.antt`). Assumes nothing.
-use Rattle.std.proofs.Common.{arith, rules}
+use Rattle.std.proofs.Common.{arith}
 use Rattle.numbers.proofs.rounding.Flooring.{scaled_none, scaled_down, scaled_up}
 use Rattle.numbers.proofs.rounding.scale.Goals as goal
 

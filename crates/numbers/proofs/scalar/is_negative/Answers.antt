@@ -1,5 +1,5 @@
 -- `numbers::scalar::is_negative` meets its contract (`Zeros.antt`). Assumes nothing.
-use Rattle.std.proofs.Common.{T, sym, subst, rules}
+use Rattle.std.proofs.Common.{T, sym, subst}
 use lib.Ieee.{binary32}
 use Rattle.numbers.proofs.scalar.Zeros.{sign_bit}
 use Rattle.numbers.proofs.scalar.is_negative.Goals as goal

@@ -1,5 +1,4 @@
 -- `numbers::scalar::lowest_equal` meets its contract. Assumes nothing.
-use Rattle.std.proofs.Common.{rules}
 use Rattle.numbers.specs.Scalar.{lowest_equal}
 use Rattle.numbers.proofs.scalar.lowest_equal.Goals as goal
 

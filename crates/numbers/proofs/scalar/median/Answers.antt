@@ -1,5 +1,4 @@
 -- `numbers::scalar::median` meets its contract: the parts that its two calls answer. Assumes nothing.
-use Rattle.std.proofs.Common.{rules}
 use Rattle.numbers.proofs.scalar.median.Goals as goal
 
 pub returns : goal.returns

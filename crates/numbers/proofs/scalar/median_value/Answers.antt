@@ -1,5 +1,5 @@
 -- `numbers::scalar::median_value` meets its contract: what `nan_median` promises where one is a NaN, else the median by value (`Zeros.antt`). Assumes nothing.
-use Rattle.std.proofs.Common.{◌≡◌, Bool, true, false, not, ◌||◌, T, sym, ◌∙◌, subst, rules}
+use Rattle.std.proofs.Common.{◌≡◌, Bool, true, false, not, ◌||◌, T, sym, ◌∙◌, subst}
 use lib.Ieee.{Float, binary32, eq, is_nan, of_bits, of_fields, odd}
 use Rattle.numbers.specs.Orders.{Number}
 use Rattle.numbers.proofs.Laws.Order.{nought}

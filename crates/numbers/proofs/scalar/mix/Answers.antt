@@ -1,5 +1,4 @@
 -- `numbers::scalar::mix` meets its contract: what its three calls ensure, put together. Assumes nothing.
-use Rattle.std.proofs.Common.{rules}
 use Rattle.numbers.specs.Scalar.{mix_of}
 use Rattle.numbers.proofs.scalar.mix.Goals as goal
 

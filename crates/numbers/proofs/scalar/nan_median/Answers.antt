@@ -1,5 +1,5 @@
 -- `numbers::scalar::nan_median` meets its contract: what a NaN does to the order. Assumes nothing.
-use Rattle.std.proofs.Common.{◌≡◌, Bool, true, false, cond, ◌||◌, sym, ap, ◌∙◌, rules}
+use Rattle.std.proofs.Common.{◌≡◌, Bool, true, false, cond, ◌||◌, sym, ap, ◌∙◌}
 use lib.Ieee.{Float, ne, is_nan}
 use Rattle.numbers.specs.Scalar.{median_of}
 use Rattle.ground.proofs.Laws.Nan.{ne_self, is_nan_law, no_nan}

@@ -1,5 +1,5 @@
 -- `numbers::scalar::zero_median` meets its contract (`Zeros.antt`). Assumes nothing.
-use Rattle.std.proofs.Common.{◌≡◌, Bool, true, false, T, pos, sym, refl, ap, ◌∙◌, subst, rules}
+use Rattle.std.proofs.Common.{◌≡◌, Bool, true, false, T, pos, sym, refl, ap, ◌∙◌, subst}
 use mathlib.Core.Bool.{beq}
 use lib.Ieee.{fin, binary32}
 use Rattle.numbers.specs.Orders.{Number}

@@ -1,5 +1,5 @@
 -- `numbers::square_root::guess` meets its contract: both patterns are of small numbers, so no step leaves the finite values, and z has a pattern (`Guessing.antt`). Assumes nothing.
-use Rattle.std.proofs.Common.{◌≡◌, ℕ, ◌+◌, ◌-◌, ◌/◌, ◌<◌, ◌≤◌, sym, refl, subst, arith, rules}
+use Rattle.std.proofs.Common.{◌≡◌, ℕ, ◌+◌, ◌-◌, ◌/◌, ◌<◌, ◌≤◌, sym, refl, subst, arith}
 use lib.Ieee.{Float, binary64, mul, of_bits}
 use Rattle.numbers.specs.Inner.{newton_step}
 use Rattle.numbers.proofs.Laws.Bounds.{Within, within_more, within_no_nan, mul_within}

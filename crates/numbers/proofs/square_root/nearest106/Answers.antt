@@ -1,5 +1,5 @@
 -- `numbers::square_root::nearest106` meets its contract: the last step of a root, which rounds at once (`Roots.antt`). Assumes nothing.
-use Rattle.std.proofs.Common.{◌≡◌, ℕ, ◌+◌, ◌*◌, ◌/◌, ◌%◌, ◌<◌, ◌≤◌, mod-lt, mul-le-mul, div-add-mod', arith, rules}
+use Rattle.std.proofs.Common.{◌≡◌, ℕ, ◌+◌, ◌*◌, ◌/◌, ◌%◌, ◌<◌, ◌≤◌, mod-lt, mul-le-mul, div-add-mod', arith}
 use Rattle.numbers.proofs.square_root.Roots.{last_quotient, last_up, last_down}
 use Rattle.numbers.proofs.square_root.nearest106.Goals as goal
 use Rattle.numbers.proofs.square_root.nearest106.Goals.{Start}

@@ -1,5 +1,5 @@
 -- `numbers::square_root::normal_root` meets its contract (`Rooting.antt`). Assumes nothing.
-use Rattle.std.proofs.Common.{◌≡◌, ℕ, ◌+◌, ◌-◌, ◌*◌, ◌%◌, ◌<◌, ◌≤◌, not, T, sym, ap, ◌∙◌, subst, arith, rules}
+use Rattle.std.proofs.Common.{◌≡◌, ℕ, ◌+◌, ◌-◌, ◌*◌, ◌%◌, ◌<◌, ◌≤◌, not, T, sym, ap, ◌∙◌, subst, arith}
 use lib.Ieee.{binary64, of_bits, nan_bits}
 use Rattle.numbers.specs.Inner.{nearest_root}
 use Rattle.numbers.proofs.square_root.Roots.{between, doubled}

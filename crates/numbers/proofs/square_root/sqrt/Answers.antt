@@ -1,5 +1,5 @@
 -- `numbers::square_root::sqrt` meets its contract (`Rooting.antt`). Assumes nothing.
-use Rattle.std.proofs.Common.{T, sym, ap, ◌∙◌, subst, rules}
+use Rattle.std.proofs.Common.{T, sym, ap, ◌∙◌, subst}
 use lib.Ieee.{binary64, fits, of_bits, div}
 use Rattle.numbers.proofs.square_root.Rooting.{Small, small, smaller, normal, above_bits, above_top, at_zero, at_rest}
 use Rattle.numbers.proofs.square_root.sqrt.Goals as goal

@@ -1,6 +1,5 @@
 -- `pixels::conversion::bytes_to_samples` meets its contract. Assumes nothing.
 use mathlib.Core.Path.{refl}
-use borrow.Author.Rules.{rules}
 use Rattle.pixels.proofs.conversion.Answers.{samples_accepted, samples_refused}
 use Rattle.pixels.proofs.conversion.bytes_to_samples.Goals as goal
 

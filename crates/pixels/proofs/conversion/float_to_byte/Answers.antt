@@ -1,7 +1,6 @@
 -- `pixels::conversion::float_to_byte` meets its contract: the product is exact, and the sum is rounded to the byte (`Holding.antt`). Assumes nothing.
 use mathlib.Core.Path.{sym, subst}
 use native.Mathlib.Omega.{arith}
-use borrow.Author.Rules.{rules}
 use lib.Dec.{T}
 use lib.Ieee.{Float, binary32, binary64, fits, mul, of_bits}
 use Rattle.numbers.proofs.Laws.LastDigit.{Counted, ones_unit}

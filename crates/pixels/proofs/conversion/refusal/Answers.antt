@@ -1,5 +1,4 @@
 -- `pixels::conversion::refusal` meets its contract. Assumes nothing.
-use borrow.Author.Rules.{rules}
 use Rattle.pixels.proofs.conversion.Answers.{by_length, by_samples, by_none}
 use Rattle.pixels.proofs.conversion.refusal.Goals as goal
 

@@ -1,5 +1,4 @@
 -- `pixels::conversion::samples_to_bytes` meets its contract: the checks, then the bytes. Assumes nothing.
-use borrow.Author.Rules.{rules}
 use Rattle.pixels.proofs.conversion.Answers.{bytes_accepted, bytes_refused}
 use Rattle.pixels.proofs.conversion.samples_to_bytes.Goals as goal
 

@@ -1,10 +1,10 @@
 -- `pixels::conversion::write_bytes` meets its contract, by the laws of a loop that fills. Assumes nothing.
 use mathlib.Core.Path.{sym, ◌∙◌, subst}
-use Prim.Native.Nat.{ℕ, ◌-◌, ◌<◌, ◌≤◌}
+use Prim.Native.Nat.{ℕ, ◌<◌}
 use native.Mathlib.Omega.{arith}
-use lib.ListN.{length, get_or}
+use lib.ListN.{length}
 use lib.Ieee.{nan}
-use Rattle.ground.proofs.Laws.Fill.{Filled, filled_none, filled_more, filled_map}
+use Rattle.ground.proofs.Laws.Fill.{filled_none, filled_more, filled_map}
 use Rattle.pixels.specs.Byte.{byte_of}
 use Rattle.pixels.specs.Bytes.{bytes_of}
 use Rattle.pixels.proofs.conversion.Answers.{Passed, passed}

@@ -1,13 +1,9 @@
 -- `pixels::conversion::write_bytes` meets its contract, by the laws of a loop that fills. Assumes nothing.
-use mathlib.Core.Path.{sym, ◌∙◌, subst}
-use Prim.Native.Nat.{ℕ, ◌-◌, ◌<◌, ◌≤◌}
-use native.Mathlib.Omega.{arith}
+use Prim.Native.Nat.{◌-◌, ◌≤◌}
 use lib.ListN.{length, get_or}
 use lib.Ieee.{nan}
-use Rattle.ground.proofs.Laws.Fill.{Filled, filled_none, filled_more, filled_map}
+use Rattle.ground.proofs.Laws.Fill.{Filled}
 use Rattle.pixels.specs.Byte.{byte_of}
-use Rattle.pixels.specs.Bytes.{bytes_of}
-use Rattle.pixels.proofs.conversion.Answers.{Passed, passed}
 use Rattle.pixels.proofs.conversion.write_bytes.Given as goal
 
 abbrev pub invariant-loop-i : goal.invariant-loop-i

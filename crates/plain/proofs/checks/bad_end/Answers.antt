@@ -1,5 +1,4 @@
 -- `plain::checks::bad_end` meets its contract. Assumes nothing.
-use Rattle.std.proofs.Common.{rules}
 use Rattle.inputs.specs.Checks.{bad_end}
 use Rattle.plain.proofs.checks.bad_end.Goals as goal
 

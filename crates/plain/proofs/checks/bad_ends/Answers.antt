@@ -1,5 +1,4 @@
 -- `plain::checks::bad_ends` meets its contract. Assumes nothing.
-use Rattle.std.proofs.Common.{rules}
 use Rattle.inputs.specs.Checks.{bad_ends}
 use Rattle.plain.proofs.checks.bad_ends.Goals as goal
 

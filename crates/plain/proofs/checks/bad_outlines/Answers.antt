@@ -1,5 +1,5 @@
 -- `plain::checks::bad_outlines` meets its contract. Assumes nothing.
-use Rattle.std.proofs.Common.{rules, le-ltb, lt-ltb}
+use Rattle.std.proofs.Common.{le-ltb, lt-ltb}
 use Rattle.inputs.specs.Checks.{bad_outlines}
 use Rattle.plain.proofs.checks.bad_outlines.Goals as goal
 

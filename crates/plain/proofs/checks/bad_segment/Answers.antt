@@ -1,5 +1,4 @@
 -- `plain::checks::bad_segment` meets its contract. Assumes nothing.
-use Rattle.std.proofs.Common.{rules}
 use Rattle.inputs.specs.Checks.{bad_segment}
 use Rattle.plain.proofs.checks.bad_segment.Goals as goal
 

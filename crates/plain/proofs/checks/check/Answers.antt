@@ -1,5 +1,4 @@
 -- `plain::checks::check` meets its contract: all checks are made, and the first that fails answers. Assumes nothing.
-use Rattle.std.proofs.Common.{rules}
 use Rattle.plain.proofs.checks.Chosen.{all_chosen}
 use Rattle.plain.proofs.checks.check.Goals as goal
 

@@ -1,5 +1,5 @@
 -- `plain::checks::end_before` meets its contract. Assumes nothing.
-use Rattle.std.proofs.Common.{rules, eq-eqb, ne_eqb}
+use Rattle.std.proofs.Common.{eq-eqb, ne_eqb}
 use Rattle.inputs.specs.Checks.{end_before}
 use Rattle.plain.proofs.checks.end_before.Goals as goal
 

@@ -1,7 +1,7 @@
 -- `plain::checks::ends_place` meets its contract: the place is that of the first bad end from the loop's on. Assumes nothing.
-use Rattle.std.proofs.Common.{length, arith, rules}
-use Rattle.inputs.specs.Checks.{bad_end, ends_place}
-use Rattle.ground.proofs.Laws.Search.{Kept, kept_none, kept_more, kept_all}
+use Rattle.std.proofs.Common.{arith}
+use Rattle.inputs.specs.Checks.{ends_place}
+use Rattle.ground.proofs.Laws.Search.{kept_none, kept_more, kept_all}
 use Rattle.plain.proofs.checks.ends_place.Goals as goal
 
 pub bad_end-requires : goal.bad_end-requires

@@ -1,5 +1,5 @@
 -- `plain::checks::outline_refusal` meets its contract. Assumes nothing.
-use Rattle.std.proofs.Common.{◌≡◌, false, length, sym, refl, ◌∙◌, rules}
+use Rattle.std.proofs.Common.{◌≡◌, false, length, sym, refl, ◌∙◌}
 use Rattle.ground.specs.Refuse.{first_failing}
 use Rattle.inputs.specs.Checks.{bad_outlines, outline_refusal, outline_place}
 use Rattle.inputs.proofs.Laws.Checks.{good_outlines}

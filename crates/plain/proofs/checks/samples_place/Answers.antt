@@ -1,8 +1,7 @@
 -- `plain::checks::samples_place` meets its contract: the place is that of the first bad sample from the loop's on. Assumes nothing.
-use Rattle.std.proofs.Common.{length, get_or, arith, rules}
-use lib.Ieee.{binary32, nan}
-use Rattle.inputs.specs.Checks.{oversize, samples_place}
-use Rattle.ground.proofs.Laws.Search.{Kept, kept_none, kept_more, kept_all}
+use Rattle.std.proofs.Common.{arith}
+use Rattle.inputs.specs.Checks.{samples_place}
+use Rattle.ground.proofs.Laws.Search.{kept_none, kept_more, kept_all}
 use Rattle.plain.proofs.checks.samples_place.Goals as goal
 
 pub bounds-xs-j : goal.bounds-xs-j

@@ -1,8 +1,8 @@
 -- `plain::checks::samples_place` meets its contract: the place is that of the first bad sample from the loop's on. Assumes nothing.
-use Rattle.std.proofs.Common.{length, get_or, arith, rules}
+use Rattle.std.proofs.Common.{length, get_or}
 use lib.Ieee.{binary32, nan}
-use Rattle.inputs.specs.Checks.{oversize, samples_place}
-use Rattle.ground.proofs.Laws.Search.{Kept, kept_none, kept_more, kept_all}
+use Rattle.inputs.specs.Checks.{oversize}
+use Rattle.ground.proofs.Laws.Search.{Kept}
 use Rattle.plain.proofs.checks.samples_place.Given as goal
 
 abbrev pub invariant-loop-j : goal.invariant-loop-j

@@ -1,5 +1,4 @@
 -- `plain::checks::settings_place` meets its contract: the places are chosen from the last one to the first. Assumes nothing.
-use Rattle.std.proofs.Common.{rules}
 use Rattle.inputs.specs.Checks.{settings_place}
 use Rattle.plain.proofs.checks.settings_place.Goals as goal
 

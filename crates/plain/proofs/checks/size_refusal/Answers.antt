@@ -1,5 +1,5 @@
 -- `plain::checks::size_refusal` meets its contract: the products are right where checks 1 and 2 pass. Assumes nothing.
-use Rattle.std.proofs.Common.{arith, rules}
+use Rattle.std.proofs.Common.{arith}
 use Rattle.plain.proofs.checks.Chosen.{area_small, volume_small, sizes_chosen}
 use Rattle.plain.proofs.checks.size_refusal.Goals as goal
 

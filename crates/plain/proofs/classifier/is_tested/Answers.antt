@@ -1,6 +1,5 @@
 -- `plain::classifier::is_tested` meets its contract. Assumes nothing.
 use Rattle.detectors.specs.Pairs.{guard}
-use Rattle.std.proofs.Common.{rules}
 use Rattle.plain.proofs.classifier.is_tested.Goals as goal
 
 pub returns : goal.returns

@@ -1,6 +1,5 @@
 -- `plain::classifier::range_test` meets its contract: a widened number is the number. Assumes nothing.
 use Rattle.ranges.specs.Classifier.{falls_below, rises_above, lies_outside, candidate, within, in_range, range_test}
-use Rattle.std.proofs.Common.{rules}
 use Rattle.plain.proofs.classifier.range_test.Goals as goal
 
 pub returns : goal.returns

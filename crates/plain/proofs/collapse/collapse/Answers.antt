@@ -1,6 +1,6 @@
 -- `plain::collapse::collapse` meets its contract, by the laws of a loop that collapses. Assumes nothing.
-use Rattle.std.proofs.Common.{◌-◌, length, arith, rules}
-use Rattle.plain.proofs.collapse.Turns.{flags, Turned, turned_none, third_below, place_small, turned_more, turned_all}
+use Rattle.std.proofs.Common.{arith}
+use Rattle.plain.proofs.collapse.Turns.{turned_none, third_below, place_small, turned_more, turned_all}
 use Rattle.plain.proofs.collapse.collapse.Goals as goal
 
 pub overflow_mul-k : goal.overflow_mul-k

@@ -1,5 +1,5 @@
 -- `plain::collapse::collapse_texel` meets its contract. Assumes nothing.
-use Rattle.std.proofs.Common.{arith, length-set, rules}
+use Rattle.std.proofs.Common.{arith, length-set}
 use Rattle.detectors.specs.Texel.{texel_middle}
 use Rattle.plain.proofs.collapse.collapse_texel.Goals as goal
 

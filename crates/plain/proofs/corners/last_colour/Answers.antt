@@ -1,5 +1,5 @@
 -- `plain::corners::last_colour` meets its contract. Assumes nothing.
-use Rattle.std.proofs.Common.{rules, le-ltb, lt-ltb}
+use Rattle.std.proofs.Common.{le-ltb, lt-ltb}
 use Rattle.plain.proofs.corners.last_colour.Goals as goal
 
 pub returns-then-from-end : goal.returns-then-from-end

@@ -1,5 +1,5 @@
 -- `plain::corners::mark` meets its contract. Assumes nothing.
-use Rattle.std.proofs.Common.{◌+◌, ◌*◌, ◌<◌, length, refl, arith, rules, le-ltb, lt-ltb}
+use Rattle.std.proofs.Common.{◌+◌, ◌*◌, ◌<◌, length, refl, arith, le-ltb, lt-ltb}
 use Rattle.ground.proofs.Laws.Painted.{painted_set, painted_none}
 use Rattle.inputs.proofs.Laws.Places.{cell_lt, cell_small}
 use Rattle.plain.specs.Inner.{is_texel, is_cell}

@@ -1,5 +1,5 @@
 -- `plain::corners::mark_around` meets its contract. Assumes nothing.
-use Rattle.std.proofs.Common.{◌∙◌, w64, rules}
+use Rattle.std.proofs.Common.{◌∙◌, w64}
 use mir.ValLaws.{to_z-of_z}
 use Rattle.correction.specs.Corners.{lower}
 use Rattle.plain.proofs.corners.Around.{marked_around}

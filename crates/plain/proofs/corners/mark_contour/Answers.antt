@@ -1,14 +1,12 @@
 -- `plain::corners::mark_contour` meets its contract: after each turn the stencil is painted by the segments before i, and `last` is the colour of the one that comes before i, cyclic. Assumes nothing.
-use Rattle.std.proofs.Common.{◌≡◌, ℕ, ◌+◌, ◌-◌, ◌/◌, ◌%◌, ◌<◌, ◌≤◌, Bool, cond, eqb, List, get_or, refl, ◌∙◌, arith, lt-ltb, eq-eqb, ne_eqb}
+use Rattle.std.proofs.Common.{◌≡◌, ℕ, ◌+◌, ◌-◌, Bool, refl, ◌∙◌, arith, lt-ltb, eq-eqb, ne_eqb}
 use native.Mathlib.Nat.{sub_self}
-use lib.Ieee.{Float}
-use Rattle.ground.specs.Lists.{any, painted}
 use Rattle.ground.proofs.Laws.Painted.{painted_zero, painted_long, painted_turn}
 use Rattle.inputs.proofs.Laws.Places.{still_celled}
 use Rattle.correction.specs.Numbered.{corner_hits, contour_hits}
 use Rattle.plain.specs.Inner.{corner}
 use Rattle.plain.proofs.corners.mark_contour.Goals as goal
-use Rattle.plain.proofs.corners.mark_contour.Invariants.{nth, Inv}
+use Rattle.plain.proofs.corners.mark_contour.Invariants.{nth}
 
 pub loop-i-init : goal.loop-i-init
 loop-i-init c =

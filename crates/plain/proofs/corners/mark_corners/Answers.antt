@@ -1,15 +1,13 @@
 -- `plain::corners::mark_corners` meets its contract: after each turn the stencil is painted by the contours before c. Assumes nothing.
-use Rattle.std.proofs.Common.{◌≡◌, ℕ, zero, suc, ◌-◌, ◌/◌, ◌%◌, ◌≤◌, Bool, List, length, get_or, refl, ◌∙◌, arith, ne_eqb}
-use lib.Ieee.{Float}
-use Rattle.ground.specs.Lists.{painted, any}
+use Rattle.std.proofs.Common.{◌≡◌, ℕ, zero, suc, ◌-◌, List, length, refl, ◌∙◌, arith, ne_eqb}
 use Rattle.ground.proofs.Laws.Painted.{painted_zero, painted_same, painted_long, painted_turn}
 use Rattle.inputs.proofs.Laws.Places.{still_celled}
 use Rattle.inputs.specs.Checks.{end_before}
-use Rattle.correction.specs.Numbered.{start_at, contour_hits}
+use Rattle.correction.specs.Numbered.{start_at}
 use Rattle.correction.proofs.Laws.Contours.{start_le, corners_at}
 use Rattle.plain.specs.Inner.{corner}
 use Rattle.plain.proofs.corners.mark_corners.Goals as goal
-use Rattle.plain.proofs.corners.mark_corners.Invariants.{nth, Inv}
+use Rattle.plain.proofs.corners.mark_corners.Invariants.{nth}
 
 -- a contour starts at the end before its own
 starts : (ends : List ℕ) (c : ℕ) → end_before ends c ≡ start_at ends c

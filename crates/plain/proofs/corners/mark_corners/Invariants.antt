@@ -1,12 +1,8 @@
 -- `plain::corners::mark_corners` meets its contract: after each turn the stencil is painted by the contours before c. Assumes nothing.
-use Rattle.std.proofs.Common.{◌≡◌, ℕ, zero, suc, ◌-◌, ◌/◌, ◌%◌, ◌≤◌, Bool, List, length, get_or, refl, ◌∙◌, arith, ne_eqb}
+use Rattle.std.proofs.Common.{◌≡◌, ℕ, ◌-◌, ◌/◌, ◌%◌, ◌≤◌, Bool, List, length, get_or}
 use lib.Ieee.{Float}
 use Rattle.ground.specs.Lists.{painted, any}
-use Rattle.ground.proofs.Laws.Painted.{painted_zero, painted_same, painted_long, painted_turn}
-use Rattle.inputs.proofs.Laws.Places.{still_celled}
-use Rattle.inputs.specs.Checks.{end_before}
 use Rattle.correction.specs.Numbered.{start_at, contour_hits}
-use Rattle.correction.proofs.Laws.Contours.{start_le, corners_at}
 use Rattle.plain.specs.Inner.{corner}
 use Rattle.plain.proofs.corners.mark_corners.Given as goal
 

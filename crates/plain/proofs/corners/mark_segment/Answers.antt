@@ -1,5 +1,5 @@
 -- `plain::corners::mark_segment` meets its contract. Assumes nothing.
-use Rattle.std.proofs.Common.{ℕ, ltb, sym, ap, ◌∙◌, rules, le-ltb, lt-ltb}
+use Rattle.std.proofs.Common.{ℕ, ltb, sym, ap, ◌∙◌, le-ltb, lt-ltb}
 use Rattle.ground.proofs.Laws.Painted.{painted_taken, painted_left}
 use Rattle.plain.specs.Inner.{corner}
 use Rattle.plain.proofs.corners.mark_segment.Goals as goal

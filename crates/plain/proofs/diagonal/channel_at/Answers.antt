@@ -1,6 +1,5 @@
 -- `plain::diagonal::channel_at` meets its contract. Assumes nothing.
 use Rattle.detectors.specs.Diagonal.{curve, curve_channel}
-use Rattle.std.proofs.Common.{rules}
 use Rattle.plain.proofs.diagonal.channel_at.Goals as goal
 
 pub returns : goal.returns

@@ -1,5 +1,5 @@
 -- `plain::diagonal::curve_of` meets its contract. Assumes nothing.
-use Rattle.std.proofs.Common.{refl, rules}
+use Rattle.std.proofs.Common.{refl}
 use Rattle.detectors.specs.Diagonal.{abc, linear_term, square_term}
 use Rattle.plain.proofs.diagonal.curve_of.Goals as goal
 

@@ -1,6 +1,5 @@
 -- `plain::diagonal::median_at` meets its contract. Assumes nothing.
 use Rattle.detectors.specs.Diagonal.{curve_median}
-use Rattle.std.proofs.Common.{rules}
 use Rattle.plain.proofs.diagonal.median_at.Goals as goal
 
 pub returns : goal.returns

@@ -2,7 +2,6 @@
 use Rattle.detectors.specs.Pairs.{difference}
 use Rattle.detectors.specs.Diagonal.{middle_difference, quadratic_roots, pair_roots, root_tests, diagonal_at}
 use Rattle.plain.proofs.diagonal.Chosen.{of_pair}
-use Rattle.std.proofs.Common.{rules}
 use Rattle.plain.proofs.diagonal.pair_artifact.Goals as goal
 
 pub returns : goal.returns

@@ -1,5 +1,4 @@
 -- `plain::diagonal::root_artifact` meets its contract. Assumes nothing.
-use Rattle.std.proofs.Common.{rules}
 use Rattle.plain.proofs.diagonal.root_artifact.Goals as goal
 
 pub returns : goal.returns

@@ -1,5 +1,4 @@
 -- `plain::diagonal::turning_artifact` meets its contract. Assumes nothing.
-use Rattle.std.proofs.Common.{rules}
 use Rattle.plain.proofs.diagonal.Chosen.{moved}
 use Rattle.plain.proofs.diagonal.turning_artifact.Goals as goal
 

@@ -1,6 +1,5 @@
 -- `plain::diagonal::turning_point` meets its contract. Assumes nothing.
 use Rattle.detectors.specs.Diagonal.{turning_point}
-use Rattle.std.proofs.Common.{rules}
 use Rattle.plain.proofs.diagonal.turning_point.Goals as goal
 
 pub returns : goal.returns

@@ -1,5 +1,5 @@
 -- `plain::edges::as_lower` meets its contract. Assumes nothing.
-use Rattle.std.proofs.Common.{◌<◌, sym, ◌∙◌, rules}
+use Rattle.std.proofs.Common.{◌<◌, sym, ◌∙◌}
 use Rattle.plain.proofs.texels.Counted.{is_inside}
 use Rattle.detectors.specs.Edge.{protects_lower}
 use Rattle.plain.specs.Inner.{lower_with}

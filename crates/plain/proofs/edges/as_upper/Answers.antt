@@ -1,5 +1,5 @@
 -- `plain::edges::as_upper` meets its contract. Assumes nothing.
-use Rattle.std.proofs.Common.{◌<◌, sym, ◌∙◌, rules}
+use Rattle.std.proofs.Common.{◌<◌, sym, ◌∙◌}
 use Rattle.plain.proofs.texels.Counted.{is_inside}
 use Rattle.detectors.specs.Edge.{protects_upper}
 use Rattle.plain.specs.Inner.{upper_with}

@@ -1,6 +1,5 @@
 -- `plain::edges::is_at_edge` meets its contract. Assumes nothing.
 use Rattle.correction.specs.Edges.{some_edge, edges_protect}
-use Rattle.std.proofs.Common.{rules}
 use Rattle.plain.proofs.edges.is_at_edge.Goals as goal
 
 pub returns : goal.returns

@@ -1,7 +1,6 @@
 -- `plain::edges::is_extreme` meets its contract. Assumes nothing.
 use Rattle.detectors.specs.Pairs.{mixed_channel}
 use Rattle.detectors.specs.Edge.{edge_point, edge_at, masked, extreme}
-use Rattle.std.proofs.Common.{rules}
 use Rattle.plain.proofs.edges.is_extreme.Goals as goal
 
 pub returns : goal.returns

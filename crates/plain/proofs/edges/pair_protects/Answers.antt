@@ -1,7 +1,6 @@
 -- `plain::edges::pair_protects` meets its contract. Assumes nothing.
 use Rattle.ground.specs.Lists.{any}
 use Rattle.detectors.specs.Edge.{near, pair_protects}
-use Rattle.std.proofs.Common.{rules}
 use Rattle.plain.proofs.edges.pair_protects.Goals as goal
 
 pub returns : goal.returns

@@ -1,6 +1,5 @@
 -- `plain::edges::radius` meets its contract. Assumes nothing.
 use Rattle.ranges.specs.Config.{radius}
-use Rattle.std.proofs.Common.{rules}
 use Rattle.plain.proofs.edges.radius.Goals as goal
 
 pub returns : goal.returns

@@ -1,5 +1,5 @@
 -- `plain::edges::some_lower` meets its contract. Assumes nothing.
-use Rattle.std.proofs.Common.{refl, rules}
+use Rattle.std.proofs.Common.{refl}
 use Rattle.plain.proofs.texels.Counted.{four_lower}
 use Rattle.plain.proofs.edges.some_lower.Goals as goal
 

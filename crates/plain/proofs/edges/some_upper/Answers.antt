@@ -1,6 +1,5 @@
 -- `plain::edges::some_upper` meets its contract. Assumes nothing.
 use Rattle.plain.proofs.texels.Counted.{four_upper}
-use Rattle.std.proofs.Common.{rules}
 use Rattle.plain.proofs.edges.some_upper.Goals as goal
 
 pub returns : goal.returns

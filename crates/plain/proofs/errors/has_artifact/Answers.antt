@@ -1,6 +1,5 @@
 -- `plain::errors::has_artifact` meets its contract. Assumes nothing.
 use Rattle.correction.specs.Errors.{some_artifact, has_artifact}
-use Rattle.std.proofs.Common.{rules}
 use Rattle.plain.proofs.errors.has_artifact.Goals as goal
 
 pub returns : goal.returns

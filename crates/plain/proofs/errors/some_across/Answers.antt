@@ -1,7 +1,6 @@
 -- `plain::errors::some_across` meets its contract. Assumes nothing.
 use Rattle.ranges.specs.Config.{diagonal_span}
 use Rattle.plain.proofs.texels.Counted.{four_across}
-use Rattle.std.proofs.Common.{rules}
 use Rattle.plain.proofs.errors.some_across.Goals as goal
 
 pub returns : goal.returns

@@ -1,7 +1,6 @@
 -- `plain::errors::some_side` meets its contract. Assumes nothing.
 use Rattle.ranges.specs.Config.{side_span}
 use Rattle.plain.proofs.texels.Counted.{four_sides}
-use Rattle.std.proofs.Common.{rules}
 use Rattle.plain.proofs.errors.some_side.Goals as goal
 
 pub returns : goal.returns

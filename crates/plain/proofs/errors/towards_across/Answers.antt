@@ -1,5 +1,5 @@
 -- `plain::errors::towards_across` meets its contract. Assumes nothing.
-use Rattle.std.proofs.Common.{◌<◌, sym, ◌∙◌, rules}
+use Rattle.std.proofs.Common.{◌<◌, sym, ◌∙◌}
 use Rattle.plain.proofs.texels.Counted.{is_inside}
 use Rattle.plain.specs.Inner.{towards_across}
 use Rattle.plain.proofs.errors.towards_across.Goals as goal

@@ -1,6 +1,5 @@
 -- `plain::linear::median` meets its contract. Assumes nothing.
 use Rattle.detectors.specs.Texel.{texel_middle}
-use Rattle.std.proofs.Common.{rules}
 use Rattle.plain.proofs.linear.median.Goals as goal
 
 pub returns : goal.returns

@@ -1,6 +1,5 @@
 -- `plain::linear::mixed_median` meets its contract. Assumes nothing.
 use Rattle.detectors.specs.Pairs.{mixed_channel, mixed_median}
-use Rattle.std.proofs.Common.{rules}
 use Rattle.plain.proofs.linear.mixed_median.Goals as goal
 
 pub returns : goal.returns

@@ -1,6 +1,5 @@
 -- `plain::linear::pair_artifact` meets its contract. Assumes nothing.
 use Rattle.detectors.specs.Linear.{crossing, linear_at}
-use Rattle.std.proofs.Common.{rules}
 use Rattle.plain.proofs.linear.pair_artifact.Goals as goal
 
 pub returns : goal.returns

@@ -2,7 +2,6 @@
 use Rattle.ground.specs.Lists.{any}
 use Rattle.detectors.specs.Pairs.{next, difference}
 use Rattle.detectors.specs.Linear.{linear_pair, linear_pairs, has_linear_artifact}
-use Rattle.std.proofs.Common.{rules}
 use Rattle.plain.proofs.linear.side_artifact.Goals as goal
 
 pub returns : goal.returns

@@ -1,5 +1,4 @@
 -- `plain::pass::byte` meets its contract. Assumes nothing.
-use Rattle.std.proofs.Common.{rules}
 use Rattle.inputs.specs.Stencil.{stencil_byte}
 use Rattle.plain.proofs.pass.byte.Goals as goal
 

@@ -1,5 +1,4 @@
 -- `plain::pass::byte_at` meets its contract. Assumes nothing.
-use Rattle.std.proofs.Common.{rules}
 use Rattle.plain.specs.Inner.{protected_by, byte_by}
 use Rattle.plain.proofs.pass.byte_at.Goals as goal
 

@@ -1,6 +1,6 @@
 -- `plain::pass::clear` meets its contract, by the laws of a loop that fills. Assumes nothing.
-use Rattle.std.proofs.Common.{◌-◌, length, refl, arith}
-use Rattle.ground.proofs.Laws.Fill.{Filled, filled_none, filled_more, filled_all}
+use Rattle.std.proofs.Common.{refl, arith}
+use Rattle.ground.proofs.Laws.Fill.{filled_none, filled_more, filled_all}
 use Rattle.plain.proofs.pass.clear.Goals as goal
 
 pub overflow_add-k : goal.overflow_add-k

@@ -1,8 +1,8 @@
 -- `plain::pass::clear_room` meets its contract, by the laws of a loop that fills. Assumes nothing.
-use Rattle.std.proofs.Common.{◌-◌, length, refl, arith}
+use Rattle.std.proofs.Common.{◌-◌, length}
 use lib.Ieee.{binary32}
 use Rattle.numbers.specs.Constants.{zero_of}
-use Rattle.ground.proofs.Laws.Fill.{Filled, filled_none, filled_more, filled_all}
+use Rattle.ground.proofs.Laws.Fill.{Filled}
 use Rattle.plain.proofs.pass.clear_room.Given as goal
 
 abbrev pub invariant-loop-k : goal.invariant-loop-k

@@ -1,5 +1,5 @@
 -- `plain::pass::correct` meets its contract: the stages put together. Assumes nothing.
-use Rattle.std.proofs.Common.{◌≡◌, ℕ, ◌*◌, List, length, ap, ◌∙◌, rules}
+use Rattle.std.proofs.Common.{◌≡◌, ℕ, ◌*◌, List, length, ap, ◌∙◌}
 use lib.Ieee.{Float}
 use Rattle.ground.specs.Lists.{tab}
 use Rattle.ground.proofs.Laws.Fill.{tab_length}

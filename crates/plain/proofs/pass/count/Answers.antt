@@ -1,6 +1,5 @@
 -- `plain::pass::count` meets its contract: before cell k the three numbers count the cells below it. Assumes nothing.
-use Rattle.std.proofs.Common.{◌≡◌, ℕ, ◌+◌, ◌-◌, ◌/◌, ◌%◌, ◌<◌, ◌≤◌, List, length, get_or, sym, refl, le_antisymm, arith}
-use Rattle.ground.specs.Lists.{count}
+use Rattle.std.proofs.Common.{◌≡◌, ℕ, ◌+◌, ◌/◌, ◌%◌, ◌<◌, ◌≤◌, List, length, get_or, sym, refl, le_antisymm, arith}
 use Rattle.ground.proofs.Laws.Count.{none_counted, one_more, count_small}
 use Rattle.inputs.specs.Stencil.{has_corner, is_protected, is_error, protected_count, error_count, corner_count}
 use Rattle.plain.proofs.pass.count.Goals as goal

@@ -1,13 +1,8 @@
 -- `plain::pass::gather` meets its contract, by the laws of a loop that fills: a cell is read before it is written. Assumes nothing.
-use Rattle.std.proofs.Common.{◌≡◌, ℕ, ◌-◌, ◌*◌, ◌/◌, ◌%◌, ◌<◌, ◌≤◌, eqb, List, length, get_or, ◌∙◌, subst, le_refl, arith}
-use lib.Ieee.{Float}
-use Rattle.ground.proofs.Laws.Fill.{Filled, filled_none, filled_more, filled_all}
-use Rattle.ranges.specs.declared.config.Settings.{Settings}
+use Rattle.std.proofs.Common.{◌≡◌, ℕ, ◌*◌, ◌/◌, ◌%◌, ◌<◌, ◌≤◌, ◌∙◌, subst, le_refl, arith}
+use Rattle.ground.proofs.Laws.Fill.{filled_none, filled_more, filled_all}
 use Rattle.inputs.proofs.Laws.Places.{cell_inside}
-use Rattle.correction.specs.Bitmap.{texel}
-use Rattle.plain.specs.Inner.{byte_by}
 use Rattle.plain.proofs.pass.gather.Goals as goal
-use Rattle.plain.proofs.pass.gather.Invariants.{gathered}
 
 inside : (n₀ n w h k : ℕ) → 1 ≤ w → n₀ ≡ h * w → n ≡ n₀ → k < n → (k % w < w) × (k / w < h)
 inside n₀ n w h k o e f l = cell_inside w h k o (subst (λ (m : ℕ). k < m) (f ∙ e) l)

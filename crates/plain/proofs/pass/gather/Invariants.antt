@@ -1,9 +1,8 @@
 -- `plain::pass::gather` meets its contract, by the laws of a loop that fills: a cell is read before it is written. Assumes nothing.
-use Rattle.std.proofs.Common.{◌≡◌, ℕ, ◌-◌, ◌*◌, ◌/◌, ◌%◌, ◌<◌, ◌≤◌, eqb, List, length, get_or, ◌∙◌, subst, le_refl, arith}
+use Rattle.std.proofs.Common.{ℕ, ◌-◌, ◌/◌, ◌%◌, eqb, List, length, get_or}
 use lib.Ieee.{Float}
-use Rattle.ground.proofs.Laws.Fill.{Filled, filled_none, filled_more, filled_all}
+use Rattle.ground.proofs.Laws.Fill.{Filled}
 use Rattle.ranges.specs.declared.config.Settings.{Settings}
-use Rattle.inputs.proofs.Laws.Places.{cell_inside}
 use Rattle.correction.specs.Bitmap.{texel}
 use Rattle.plain.specs.Inner.{byte_by}
 use Rattle.plain.proofs.pass.gather.Given as goal

@@ -1,5 +1,4 @@
 -- `plain::pass::mark` meets its contract. Assumes nothing.
-use Rattle.std.proofs.Common.{rules}
 use Rattle.plain.proofs.pass.Whole.{marks, no_marks}
 use Rattle.plain.proofs.pass.mark.Goals as goal
 

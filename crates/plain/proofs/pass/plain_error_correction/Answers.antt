@@ -1,5 +1,5 @@
 -- `plain::pass::plain_error_correction` meets its contract: the checks, then the stages. Assumes nothing.
-use Rattle.std.proofs.Common.{sym, ◌∙◌, rules}
+use Rattle.std.proofs.Common.{sym, ◌∙◌}
 use Rattle.inputs.specs.Checks.{Input, input}
 use Rattle.inputs.proofs.Laws.Checks.{ready}
 use Rattle.plain.proofs.pass.Whole.{refused, answered}

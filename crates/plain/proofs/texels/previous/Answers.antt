@@ -1,5 +1,5 @@
 -- `plain::texels::previous` meets its contract. Assumes nothing.
-use Rattle.std.proofs.Common.{rules, eq-eqb, ne_eqb}
+use Rattle.std.proofs.Common.{eq-eqb, ne_eqb}
 use Rattle.plain.specs.Inner.{previous}
 use Rattle.plain.proofs.texels.previous.Goals as goal
 

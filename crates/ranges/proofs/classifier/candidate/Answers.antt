@@ -1,6 +1,5 @@
 -- `ranges::classifier::candidate` meets its contract. Assumes nothing.
 use Rattle.ranges.specs.Classifier.{candidate}
-use Rattle.std.proofs.Common.{rules}
 use Rattle.ranges.proofs.classifier.candidate.Goals as goal
 
 pub returns : goal.returns

@@ -1,6 +1,5 @@
 -- `ranges::classifier::in_range` meets its contract: a widened number is the number. Assumes nothing.
 use Rattle.ranges.specs.Classifier.{in_range}
-use Rattle.std.proofs.Common.{rules}
 use Rattle.ranges.proofs.classifier.in_range.Goals as goal
 
 pub returns : goal.returns

@@ -1,6 +1,5 @@
 -- `ranges::classifier::lies_outside` meets its contract. Assumes nothing.
 use Rattle.ranges.specs.Classifier.{lies_outside}
-use Rattle.std.proofs.Common.{rules}
 use Rattle.ranges.proofs.classifier.lies_outside.Goals as goal
 
 pub returns : goal.returns

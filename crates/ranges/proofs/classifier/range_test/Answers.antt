@@ -1,5 +1,5 @@
 -- `ranges::classifier::range_test` meets its contract. Assumes nothing.
-use Rattle.std.proofs.Common.{not, ap, rules}
+use Rattle.std.proofs.Common.{not, ap}
 use Rattle.ranges.specs.Classifier.{range_test}
 use Rattle.ground.proofs.Laws.Bools.{and_taken, and_left}
 use Rattle.ranges.proofs.classifier.range_test.Goals as goal

@@ -1,14 +1,11 @@
 -- `reading::decode::contour_colours` meets its contract: before segment j those below it are decoded. Assumes nothing.
-use mathlib.Core.List.{List}
 use mathlib.Core.Path.{◌≡◌, refl, sym, ap}
-use Prim.Native.Nat.{ℕ, ◌+◌, ◌-◌, ◌≤◌}
+use Prim.Native.Nat.{◌+◌}
 use native.Mathlib.Nat.{add-zero, add_assoc}
 use native.Mathlib.Omega.{arith}
-use lib.ListN.{length, get_or, length-set}
-use Rattle.ground.specs.Lists.{tab}
-use Rattle.ground.specs.Write.{Written}
+use lib.ListN.{length-set}
 use Rattle.ground.proofs.Laws.Write.{tab_none, tab_next, tab_all, written_to}
-use Rattle.reading.specs.Case.{segment_at, contour_colours}
+use Rattle.reading.specs.Case.{contour_colours}
 use Rattle.reading.proofs.decode.contour_colours.Goals as goal
 use Rattle.reading.proofs.decode.contour_colours.Invariants.{colour}
 

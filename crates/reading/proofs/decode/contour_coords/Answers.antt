@@ -1,15 +1,8 @@
 -- `reading::decode::contour_coords` meets its contract: before segment j those below it are decoded. Assumes nothing.
-use mathlib.Core.List.{List, [], ◌∷◌}
-use mathlib.Core.Path.{◌≡◌, refl, ◌∙◌}
-use Prim.Native.Nat.{ℕ, ◌+◌, ◌-◌, ◌*◌, ◌≤◌}
+use mathlib.Core.Path.{refl, ◌∙◌}
 use native.Mathlib.Omega.{arith}
-use lib.Ieee.{Float}
-use lib.ListN.{length}
-use Rattle.ground.specs.Lists.{joined}
-use Rattle.ground.specs.Bytes.{f64_at}
-use Rattle.ground.specs.Write.{Written}
 use Rattle.ground.proofs.Laws.Write.{joined_none, joined_next, joined_all, written_length}
-use Rattle.reading.specs.Case.{segment_at, contour_coords}
+use Rattle.reading.specs.Case.{contour_coords}
 use Rattle.reading.proofs.decode.contour_coords.Goals as goal
 use Rattle.reading.proofs.decode.contour_coords.Invariants.{pair}
 

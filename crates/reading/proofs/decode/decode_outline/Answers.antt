@@ -1,9 +1,7 @@
 -- `reading::decode::decode_outline` meets its contract: before contour i those below it are decoded. Assumes nothing.
-use Prim.Native.Nat.{◌-◌}
 use native.Mathlib.Omega.{arith}
-use borrow.Author.Rules.{rules}
 use Rattle.ground.proofs.Laws.Write.{written_length}
-use Rattle.reading.proofs.decode.Decoded.{Decoding, decoding_none, decoding_room, decoding_more, decoding_all}
+use Rattle.reading.proofs.decode.Decoded.{decoding_none, decoding_room, decoding_more, decoding_all}
 use Rattle.reading.proofs.decode.decode_outline.Goals as goal
 
 pub contour_colours-last-requires : goal.contour_colours-last-requires

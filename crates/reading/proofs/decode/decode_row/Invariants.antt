@@ -1,16 +1,12 @@
 -- `reading::decode::decode_row` meets its contract: before sample j those below it are decoded. Assumes nothing.
 use mathlib.Core.List.{List}
-use mathlib.Core.Path.{◌≡◌, refl, sym, ap}
+use mathlib.Core.Path.{◌≡◌}
 use Prim.Native.Nat.{ℕ, ◌+◌, ◌-◌, ◌*◌, ◌≤◌}
-use native.Mathlib.Nat.{add-zero, add_assoc}
-use native.Mathlib.Omega.{arith}
 use lib.Ieee.{Float}
-use lib.ListN.{length, length-set}
+use lib.ListN.{length}
 use Rattle.ground.specs.Lists.{tab}
 use Rattle.ground.specs.Bytes.{f32_at}
 use Rattle.ground.specs.Write.{Written}
-use Rattle.ground.proofs.Laws.Write.{written_to, tab_all, tab_none, tab_next}
-use Rattle.reading.specs.Case.{row_samples}
 use Rattle.reading.proofs.decode.decode_row.Given as goal
 
 -- sample j of the row at a place

@@ -1,13 +1,11 @@
 -- `reading::decode::decode_samples` meets its contract: before row y those below it are decoded. Assumes nothing.
 use mathlib.Core.List.{List}
 use mathlib.Core.Path.{◌≡◌, refl, ◌∙◌, ap}
-use Prim.Native.Nat.{ℕ, ◌+◌, ◌-◌, ◌*◌, ◌≤◌, ◌<◌}
+use Prim.Native.Nat.{ℕ, ◌+◌, ◌*◌, ◌≤◌, ◌<◌}
 use native.Mathlib.Nat.{zero-mul}
 use native.Mathlib.Omega.{arith}
 use lib.Ieee.{Float}
 use lib.ListN.{length}
-use Rattle.ground.specs.Lists.{joined}
-use Rattle.ground.specs.Write.{Written}
 use Rattle.ground.proofs.Laws.Write.{joined_none, joined_next, joined_all, written_as, written_length}
 use Rattle.reading.specs.Case.{row_samples}
 use Rattle.reading.proofs.decode.Decoded.{row_length}

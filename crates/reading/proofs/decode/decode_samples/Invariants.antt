@@ -1,17 +1,12 @@
 -- `reading::decode::decode_samples` meets its contract: before row y those below it are decoded. Assumes nothing.
 use mathlib.Core.List.{List}
-use mathlib.Core.Path.{◌≡◌, refl, ◌∙◌, ap}
-use Prim.Native.Nat.{ℕ, ◌+◌, ◌-◌, ◌*◌, ◌≤◌, ◌<◌}
-use native.Mathlib.Nat.{zero-mul}
-use native.Mathlib.Omega.{arith}
+use mathlib.Core.Path.{◌≡◌}
+use Prim.Native.Nat.{ℕ, ◌+◌, ◌-◌, ◌*◌, ◌≤◌}
 use lib.Ieee.{Float}
 use lib.ListN.{length}
 use Rattle.ground.specs.Lists.{joined}
 use Rattle.ground.specs.Write.{Written}
-use Rattle.ground.proofs.Laws.Write.{joined_none, joined_next, joined_all, written_as, written_length}
 use Rattle.reading.specs.Case.{row_samples}
-use Rattle.reading.proofs.decode.Decoded.{row_length}
-use Rattle.reading.proofs.fields.Sizes.{next_row, row_within}
 use Rattle.reading.proofs.decode.decode_samples.Given as goal
 
 -- row y

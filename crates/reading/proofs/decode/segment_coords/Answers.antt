@@ -1,8 +1,6 @@
 -- `reading::decode::segment_coords` meets its contract. Assumes nothing.
-use Prim.Native.Nat.{◌-◌}
 use native.Mathlib.Omega.{arith}
 use lib.ListN.{length-set}
-use borrow.Author.Rules.{rules}
 use Rattle.ground.proofs.Laws.Write.{written_two}
 use Rattle.reading.proofs.decode.segment_coords.Goals as goal
 

@@ -1,7 +1,6 @@
 -- `reading::engines::judge` meets its contract: what the engine that is taken answers is what its promise says. Assumes nothing.
 use mathlib.Core.Bool.{Bool, true, false}
 use mathlib.Core.Path.{◌≡◌, ◌∙◌, ap}
-use borrow.Author.Rules.{rules}
 use Rattle.inputs.specs.Checks.{Input, input}
 use Rattle.correction.specs.Pass.{answer}
 use Rattle.correction.proofs.Laws.Answer.{answers_fix}

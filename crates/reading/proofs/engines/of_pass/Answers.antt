@@ -1,6 +1,5 @@
 -- `reading::engines::of_pass` meets its contract: each arm is given which answer it has. Assumes nothing.
 use mathlib.Core.Path.{sym, ap}
-use borrow.Author.Rules.{rules}
 use Rattle.reading.specs.Inner.{of_pass}
 use Rattle.reading.proofs.engines.of_pass.Goals as goal
 

@@ -1,6 +1,5 @@
 -- `reading::engines::of_plain` meets its contract: each arm is given which answer it has. Assumes nothing.
 use mathlib.Core.Path.{sym, ap}
-use borrow.Author.Rules.{rules}
 use Rattle.reading.specs.Inner.{of_plain}
 use Rattle.reading.proofs.engines.of_plain.Goals as goal
 

@@ -1,6 +1,5 @@
 -- `reading::fields::contour_breach` meets its contract. Assumes nothing.
 use mathlib.Core.Path.{sym, ◌∙◌}
-use borrow.Author.Rules.{rules}
 use borrow.Author.Tests.{lt-ltb, le-ltb, le-leb, lt-leb, eq-eqb, ne_eqb}
 use Rattle.reading.specs.Grammar.{contour_breach}
 use Rattle.reading.proofs.fields.Breaches.{found, passed, head_fine}

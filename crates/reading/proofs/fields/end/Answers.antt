@@ -1,7 +1,6 @@
 -- `reading::fields::end` meets its contract. Assumes nothing.
 use mathlib.Core.Path.{sym, ◌∙◌, refl}
 use native.Mathlib.Omega.{arith}
-use borrow.Author.Rules.{rules}
 use borrow.Author.Tests.{lt-ltb, le-ltb}
 use Rattle.reading.specs.Grammar.{end_breach}
 use Rattle.reading.proofs.fields.Breaches.{found, passed}

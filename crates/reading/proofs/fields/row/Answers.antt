@@ -1,7 +1,6 @@
 -- `reading::fields::row` meets its contract. Assumes nothing.
 use mathlib.Core.Path.{sym, ◌∙◌}
 use native.Mathlib.Omega.{arith}
-use borrow.Author.Rules.{rules}
 use Rattle.reading.specs.Inner.{Stage}
 use Rattle.reading.proofs.fields.Stages.{stepped_on, stepped_broken, next_field, row_broken, rowing_more}
 use Rattle.reading.proofs.fields.row.Goals as goal

@@ -1,7 +1,6 @@
 -- `reading::fields::settings` meets its contract. Assumes nothing.
 use mathlib.Core.Path.{sym, ◌∙◌, refl}
 use native.Mathlib.Omega.{arith}
-use borrow.Author.Rules.{rules}
 use Rattle.reading.specs.Inner.{Stage}
 use Rattle.reading.proofs.fields.Layouts.{breach_settings}
 use Rattle.reading.proofs.fields.Outlines.{reached_none}

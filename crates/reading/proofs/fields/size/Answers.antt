@@ -3,7 +3,6 @@ use mathlib.Core.Path.{sym, ◌∙◌}
 use Prim.Native.Nat.{◌<◌}
 use native.Mathlib.Omega.{arith}
 use lib.ListN.{get_or}
-use borrow.Author.Rules.{rules}
 use Rattle.reading.specs.Inner.{Stage}
 use Rattle.reading.proofs.fields.Breaches.{field_fine}
 use Rattle.reading.proofs.fields.Sizes.{pair_fits, triple_fits, row_fits}

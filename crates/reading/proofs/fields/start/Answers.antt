@@ -1,7 +1,6 @@
 -- `reading::fields::start` meets its contract. Assumes nothing.
 use mathlib.Core.Path.{sym, ◌∙◌, refl}
 use native.Mathlib.Omega.{arith}
-use borrow.Author.Rules.{rules}
 use Rattle.reading.specs.Inner.{Stage}
 use Rattle.reading.proofs.fields.Layouts.{read_found, breach_long}
 use Rattle.reading.proofs.fields.start.Goals as goal

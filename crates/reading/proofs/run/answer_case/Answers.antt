@@ -4,7 +4,6 @@ use Prim.Native.Nat.{◌*◌, ◌<◌, ◌≤◌}
 use native.Mathlib.Nat.{le_trans}
 use native.Mathlib.Omega.{arith}
 use lib.ListN.{length, get_or}
-use borrow.Author.Rules.{rules}
 use Rattle.ground.proofs.Laws.Write.{written_fits, front, front_length, written_as}
 use Rattle.reading.specs.Inner.{judged, judged_text}
 use Rattle.reading.proofs.decode.Decoded.{decoded_samples, decoded_case, whole_samples, whole_cells, whole_rows}

@@ -1,10 +1,7 @@
 -- `reading::run::clear` meets its contract: before cell i those below it are zeros. Assumes nothing.
 use mathlib.Core.Path.{◌≡◌, refl}
-use Prim.Native.Nat.{ℕ, ◌-◌, ◌≤◌}
 use native.Mathlib.Omega.{arith}
-use lib.ListN.{length, length-set}
-use Rattle.ground.specs.Lists.{tab}
-use Rattle.ground.specs.Write.{Written}
+use lib.ListN.{length-set}
 use Rattle.ground.proofs.Laws.Write.{tab_none, tab_next, tab_all, written_to}
 use Rattle.reading.proofs.run.clear.Goals as goal
 use Rattle.reading.proofs.run.clear.Invariants.{zeros}

@@ -1,11 +1,9 @@
 -- `reading::run::clear` meets its contract: before cell i those below it are zeros. Assumes nothing.
-use mathlib.Core.Path.{◌≡◌, refl}
+use mathlib.Core.Path.{◌≡◌}
 use Prim.Native.Nat.{ℕ, ◌-◌, ◌≤◌}
-use native.Mathlib.Omega.{arith}
-use lib.ListN.{length, length-set}
+use lib.ListN.{length}
 use Rattle.ground.specs.Lists.{tab}
 use Rattle.ground.specs.Write.{Written}
-use Rattle.ground.proofs.Laws.Write.{tab_none, tab_next, tab_all, written_to}
 use Rattle.reading.proofs.run.clear.Given as goal
 
 abbrev pub zeros : ℕ → ℕ

@@ -1,13 +1,11 @@
 -- `reading::run::keep` meets its contract: before sample j those below it are copied. Assumes nothing.
-use mathlib.Core.Path.{◌≡◌, refl, sym, ◌∙◌, ap}
-use Prim.Native.Nat.{◌+◌, ◌-◌, ◌≤◌}
+use mathlib.Core.Path.{refl, sym, ◌∙◌, ap}
+use Prim.Native.Nat.{◌+◌}
 use native.Mathlib.Numerals.{add-one}
 use native.Mathlib.Omega.{arith}
 use lib.Ieee.{nan}
-use lib.ListN.{take, length, length-set}
+use lib.ListN.{take, length-set}
 use lib.Seq.{take-suc, take_all}
-use borrow.Author.Rules.{rules}
-use Rattle.ground.specs.Write.{Written}
 use Rattle.ground.proofs.Laws.Write.{written_none, written_one, written_then, written_as}
 use Rattle.reading.proofs.run.keep.Goals as goal
 

@@ -5,7 +5,6 @@ use Prim.Native.Nat.{◌≤◌}
 use native.Mathlib.Omega.{arith}
 use lib.ListN.{replicate}
 use lib.Ieee.{Float, binary32}
-use borrow.Author.Rules.{rules}
 use Rattle.numbers.specs.Constants.{zero_of}
 use Rattle.ground.proofs.Laws.Write.{written_as, front, front_length}
 use Rattle.ranges.specs.declared.config.Settings.{Settings}

@@ -1,5 +1,4 @@
 -- `reading::run::settings` meets its contract. Assumes nothing.
-use borrow.Author.Rules.{rules}
 use Rattle.reading.proofs.run.settings.Goals as goal
 
 pub returns : goal.returns

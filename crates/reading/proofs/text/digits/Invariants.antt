@@ -1,10 +1,8 @@
 -- `reading::text::digits` meets its contract: the digits counted and those of what is left are one more than all. Assumes nothing.
 use mathlib.Core.Path.{◌≡◌}
 use Prim.Native.Nat.{◌+◌}
-use native.Mathlib.Omega.{arith}
 use lib.ListN.{length}
 use Rattle.reading.specs.Decimal.{decimal}
-use Rattle.reading.proofs.Laws.Decimal.{length_one, length_more, decimal_length_u64}
 use Rattle.reading.proofs.text.digits.Given as goal
 
 abbrev pub invariant-loop-m : goal.invariant-loop-m

@@ -1,5 +1,4 @@
 -- `reading::text::hex_digit` meets its contract. Assumes nothing.
-use borrow.Author.Rules.{rules}
 use borrow.Author.Tests.{lt-ltb, le-ltb}
 use Rattle.reading.specs.Text.{hex_digit}
 use Rattle.reading.proofs.text.hex_digit.Goals as goal

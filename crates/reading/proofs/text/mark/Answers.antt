@@ -1,6 +1,5 @@
 -- `reading::text::mark` meets its contract. Assumes nothing.
 use mathlib.Core.Path.{sym, ◌∙◌}
-use borrow.Author.Rules.{rules}
 use Rattle.reading.specs.Text.{mark as mark_of}
 use Rattle.reading.proofs.text.mark.Goals as goal
 

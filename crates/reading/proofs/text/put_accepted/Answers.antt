@@ -3,7 +3,6 @@ use Prim.Native.Nat.{◌+◌, ◌*◌, ◌≤◌}
 use native.Mathlib.Nat.{mul_comm, mul-add}
 use native.Mathlib.Omega.{arith}
 use lib.ListN.{length}
-use borrow.Author.Rules.{rules}
 use Rattle.ground.proofs.Laws.Write.{written_then, written_room, written_length}
 use Rattle.reading.specs.Text.{accepted_with}
 use Rattle.reading.proofs.text.Lengths.{size_length, rows_length}

@@ -1,13 +1,8 @@
 -- `reading::text::put_all` meets its contract: before byte j those below it are written. Assumes nothing.
-use mathlib.Core.Path.{◌≡◌, refl, sym, ◌∙◌, ap}
+use mathlib.Core.Path.{◌≡◌}
 use Prim.Native.Nat.{◌+◌, ◌-◌, ◌≤◌}
-use native.Mathlib.Nat.{add-zero, add_assoc}
-use native.Mathlib.Numerals.{add-one}
-use native.Mathlib.Omega.{arith}
-use lib.ListN.{take, length, length-set}
-use lib.Seq.{take-suc, take_all}
+use lib.ListN.{take, length}
 use Rattle.ground.specs.Write.{Written}
-use Rattle.ground.proofs.Laws.Write.{written_none, written_one, written_then, written_as, written_to}
 use Rattle.reading.proofs.text.put_all.Given as goal
 
 abbrev pub invariant-loop-j : goal.invariant-loop-j

@@ -1,5 +1,4 @@
 -- `reading::text::put_bad` meets its contract. Assumes nothing.
-use borrow.Author.Rules.{rules}
 use Rattle.reading.specs.Text.{bad_text}
 use Rattle.reading.proofs.text.put_bad.Goals as goal
 

@@ -4,7 +4,6 @@ use mathlib.Core.Path.{◌≡◌}
 use Prim.Native.Nat.{ℕ, ◌+◌, ◌≤◌}
 use native.Mathlib.Omega.{arith}
 use lib.ListN.{length}
-use borrow.Author.Rules.{rules}
 use Rattle.ground.specs.Write.{Written}
 use Rattle.ground.proofs.Laws.Write.{written_then, written_room}
 use Rattle.inputs.specs.declared.stencil.Counts.{Counts}

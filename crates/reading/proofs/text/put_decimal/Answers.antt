@@ -1,10 +1,9 @@
 -- `reading::text::put_decimal` meets its contract: the digits of what is left, once written before those that are, are all. Assumes nothing.
 use mathlib.Core.Path.{◌≡◌, refl, sym, ap, ◌∙◌}
-use Prim.Native.Nat.{◌+◌, ◌-◌, ◌/◌, ◌%◌, ◌≤◌}
+use Prim.Native.Nat.{◌+◌, ◌-◌, ◌/◌, ◌%◌}
 use native.Mathlib.Omega.{arith}
 use lib.ListN.{length, set, length-set}
 use lib.Seq.{sets}
-use borrow.Author.Rules.{rules}
 use Rattle.ground.proofs.Laws.Write.{sets_last}
 use Rattle.reading.specs.Decimal.{decimal}
 use Rattle.reading.proofs.Laws.Decimal.{decimal_one, decimal_more, length_more, decimal_some}

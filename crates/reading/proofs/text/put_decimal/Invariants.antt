@@ -1,13 +1,9 @@
 -- `reading::text::put_decimal` meets its contract: the digits of what is left, once written before those that are, are all. Assumes nothing.
-use mathlib.Core.Path.{◌≡◌, refl, sym, ap, ◌∙◌}
-use Prim.Native.Nat.{◌+◌, ◌-◌, ◌/◌, ◌%◌, ◌≤◌}
-use native.Mathlib.Omega.{arith}
-use lib.ListN.{length, set, length-set}
+use mathlib.Core.Path.{◌≡◌}
+use Prim.Native.Nat.{◌+◌, ◌≤◌}
+use lib.ListN.{length}
 use lib.Seq.{sets}
-use borrow.Author.Rules.{rules}
-use Rattle.ground.proofs.Laws.Write.{sets_last}
 use Rattle.reading.specs.Decimal.{decimal}
-use Rattle.reading.proofs.Laws.Decimal.{decimal_one, decimal_more, length_more, decimal_some}
 use Rattle.reading.proofs.text.put_decimal.Given as goal
 
 abbrev pub invariant-loop-m : goal.invariant-loop-m

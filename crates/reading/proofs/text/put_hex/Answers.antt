@@ -1,7 +1,6 @@
 -- `reading::text::put_hex` meets its contract. Assumes nothing.
-use Prim.Native.Nat.{◌-◌, ◌/◌}
+use Prim.Native.Nat.{◌/◌}
 use native.Mathlib.Omega.{arith}
-use borrow.Author.Rules.{rules}
 use Rattle.ground.proofs.Laws.Write.{written_then, written_room}
 use Rattle.reading.specs.Text.{hex}
 use Rattle.reading.proofs.text.Lengths.{hex_pair_length}

@@ -1,8 +1,6 @@
 -- `reading::text::put_hex_pair` meets its contract. Assumes nothing.
-use Prim.Native.Nat.{◌-◌}
 use native.Mathlib.Omega.{arith}
 use lib.ListN.{length-set}
-use borrow.Author.Rules.{rules}
 use Rattle.ground.proofs.Laws.Write.{written_two}
 use Rattle.reading.specs.Text.{hex_pair}
 use Rattle.reading.proofs.text.put_hex_pair.Goals as goal

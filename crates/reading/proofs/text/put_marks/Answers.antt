@@ -1,14 +1,11 @@
 -- `reading::text::put_marks` meets its contract: before cell x those below it are written. Assumes nothing.
-use mathlib.Core.List.{List}
 use mathlib.Core.Path.{◌≡◌, refl, sym, ap}
-use Prim.Native.Nat.{ℕ, ◌+◌, ◌-◌, ◌≤◌}
+use Prim.Native.Nat.{◌+◌}
 use native.Mathlib.Nat.{add-zero, add_assoc}
 use native.Mathlib.Omega.{arith}
-use lib.ListN.{length, get_or, length-set}
-use Rattle.ground.specs.Lists.{tab}
-use Rattle.ground.specs.Write.{Written}
+use lib.ListN.{length-set}
 use Rattle.ground.proofs.Laws.Write.{tab_none, tab_next, tab_all, written_to}
-use Rattle.reading.specs.Text.{mark, marks_text}
+use Rattle.reading.specs.Text.{marks_text}
 use Rattle.reading.proofs.text.put_marks.Goals as goal
 use Rattle.reading.proofs.text.put_marks.Invariants.{cell}
 

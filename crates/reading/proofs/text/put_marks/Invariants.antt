@@ -1,14 +1,11 @@
 -- `reading::text::put_marks` meets its contract: before cell x those below it are written. Assumes nothing.
 use mathlib.Core.List.{List}
-use mathlib.Core.Path.{◌≡◌, refl, sym, ap}
+use mathlib.Core.Path.{◌≡◌}
 use Prim.Native.Nat.{ℕ, ◌+◌, ◌-◌, ◌≤◌}
-use native.Mathlib.Nat.{add-zero, add_assoc}
-use native.Mathlib.Omega.{arith}
-use lib.ListN.{length, get_or, length-set}
+use lib.ListN.{length, get_or}
 use Rattle.ground.specs.Lists.{tab}
 use Rattle.ground.specs.Write.{Written}
-use Rattle.ground.proofs.Laws.Write.{tab_none, tab_next, tab_all, written_to}
-use Rattle.reading.specs.Text.{mark, marks_text}
+use Rattle.reading.specs.Text.{mark}
 use Rattle.reading.proofs.text.put_marks.Given as goal
 
 -- the mark of cell x

@@ -1,7 +1,6 @@
 -- `reading::text::put_named` meets its contract: a number with the byte after it has at most 21 bytes. Assumes nothing.
 use native.Mathlib.Nat.{le_refl}
 use native.Mathlib.Omega.{arith}
-use borrow.Author.Rules.{rules}
 use Rattle.ground.proofs.Laws.Write.{written_then, written_room}
 use Rattle.reading.proofs.text.Lengths.{numbered_length}
 use Rattle.reading.proofs.text.put_named.Goals as goal

@@ -1,9 +1,7 @@
 -- `reading::text::put_number` meets its contract. Assumes nothing.
 use mathlib.Core.List.{[], ◌∷◌}
-use Prim.Native.Nat.{◌-◌}
 use native.Mathlib.Omega.{arith}
 use lib.ListN.{length, length-append}
-use borrow.Author.Rules.{rules}
 use Rattle.ground.proofs.Laws.Write.{written_then, written_room}
 use Rattle.reading.specs.Decimal.{decimal}
 use Rattle.reading.specs.Text.{numbered}

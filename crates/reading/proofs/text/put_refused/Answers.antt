@@ -1,6 +1,5 @@
 -- `reading::text::put_refused` meets its contract. Assumes nothing.
 use native.Mathlib.Omega.{arith}
-use borrow.Author.Rules.{rules}
 use Rattle.ground.proofs.Laws.Write.{written_then, written_room}
 use Rattle.reading.specs.Text.{refused_text}
 use Rattle.reading.proofs.text.Lengths.{numbered_length}

@@ -1,7 +1,6 @@
 -- `reading::text::put_row` meets its contract. Assumes nothing.
-use Prim.Native.Nat.{◌-◌, ◌*◌}
+use Prim.Native.Nat.{◌*◌}
 use native.Mathlib.Omega.{arith}
-use borrow.Author.Rules.{rules}
 use Rattle.ground.proofs.Laws.Write.{written_then, written_room}
 use Rattle.reading.specs.Text.{row_text}
 use Rattle.reading.proofs.text.Lengths.{marks_length}

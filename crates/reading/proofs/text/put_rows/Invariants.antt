@@ -1,15 +1,10 @@
 -- `reading::text::put_rows` meets its contract: before row y those below it are written. Assumes nothing.
-use mathlib.Core.Path.{◌≡◌, refl, ◌∙◌}
+use mathlib.Core.Path.{◌≡◌}
 use Prim.Native.Nat.{◌+◌, ◌-◌, ◌*◌, ◌≤◌}
-use native.Mathlib.Nat.{zero-mul}
-use native.Mathlib.Omega.{arith}
 use lib.ListN.{length}
 use Rattle.ground.specs.Lists.{joined}
 use Rattle.ground.specs.Write.{Written}
-use Rattle.ground.proofs.Laws.Write.{joined_none, joined_next, joined_all, written_length}
-use Rattle.reading.specs.Text.{row_text, rows_text}
-use Rattle.reading.proofs.text.Lengths.{row_length}
-use Rattle.reading.proofs.fields.Sizes.{next_row, row_within}
+use Rattle.reading.specs.Text.{row_text}
 use Rattle.reading.proofs.text.put_rows.Given as goal
 
 abbrev pub invariant-loop-y : goal.invariant-loop-y

@@ -3,7 +3,6 @@ use Prim.Native.Nat.{◌+◌, ◌≤◌}
 use native.Mathlib.Omega.{arith}
 use lib.ListN.{length}
 use mathlib.Core.Path.{ap}
-use borrow.Author.Rules.{rules}
 use Rattle.ground.proofs.Laws.Write.{written_then, written_as, written_room}
 use Rattle.reading.specs.Text.{hex, texel_text}
 use Rattle.reading.proofs.text.Lengths.{numbered_short, numbered_digit, hex_length}

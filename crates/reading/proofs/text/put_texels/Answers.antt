@@ -1,13 +1,8 @@
 -- `reading::text::put_texels` meets its contract: before cell k those below it are written. Assumes nothing.
-use mathlib.Core.Path.{◌≡◌, refl, ◌∙◌}
-use Prim.Native.Nat.{◌+◌, ◌-◌, ◌*◌, ◌≤◌}
+use mathlib.Core.Path.{refl, ◌∙◌}
 use native.Mathlib.Omega.{arith}
 use Rattle.correction.specs.Bitmap.{cell_texel}
-use lib.ListN.{length}
-use Rattle.ground.specs.Lists.{joined}
-use Rattle.ground.specs.Write.{Written}
 use Rattle.ground.proofs.Laws.Write.{joined_none, joined_next, joined_all, written_length}
-use Rattle.reading.specs.Text.{flagged_text}
 use Rattle.reading.proofs.text.Lengths.{flagged_length}
 use Rattle.reading.proofs.fields.Sizes.{row_within}
 use Rattle.reading.proofs.text.put_texels.Goals as goal

@@ -1,5 +1,4 @@
 -- `signs::checks::bad_channels` meets its contract. Assumes nothing.
-use borrow.Author.Rules.{rules}
 use borrow.Author.Tests.{eq-eqb, ne_eqb}
 use Rattle.signs.specs.Checks.{bad_channels}
 use Rattle.signs.proofs.checks.bad_channels.Goals as goal

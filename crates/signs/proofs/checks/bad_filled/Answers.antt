@@ -1,5 +1,4 @@
 -- `signs::checks::bad_filled` meets its contract. Assumes nothing.
-use borrow.Author.Rules.{rules}
 use borrow.Author.Tests.{eq-eqb, ne_eqb}
 use Rattle.signs.specs.Checks.{bad_filled}
 use Rattle.signs.proofs.checks.bad_filled.Goals as goal

@@ -1,11 +1,8 @@
 -- `signs::checks::some_above` meets its contract: so far the test is that of the bytes before k. Assumes nothing.
 use mathlib.Core.Path.{◌≡◌, refl, ◌∙◌}
-use Prim.Native.Nat.{◌-◌, ◌≤◌}
 use native.Mathlib.Omega.{arith}
 use native.Mathlib.Numerals.{add-one}
-use lib.Dec.{ltb}
-use lib.ListN.{length, get_or}
-use borrow.Author.Rules.{rules}
+use lib.ListN.{length}
 use Rattle.ground.specs.Lists.{any}
 use Rattle.signs.specs.Checks.{some_above}
 use Rattle.signs.proofs.checks.some_above.Goals as goal

@@ -1,13 +1,9 @@
 -- `signs::checks::some_above` meets its contract: so far the test is that of the bytes before k. Assumes nothing.
-use mathlib.Core.Path.{◌≡◌, refl, ◌∙◌}
+use mathlib.Core.Path.{◌≡◌}
 use Prim.Native.Nat.{◌-◌, ◌≤◌}
-use native.Mathlib.Omega.{arith}
-use native.Mathlib.Numerals.{add-one}
 use lib.Dec.{ltb}
 use lib.ListN.{length, get_or}
-use borrow.Author.Rules.{rules}
 use Rattle.ground.specs.Lists.{any}
-use Rattle.signs.specs.Checks.{some_above}
 use Rattle.signs.proofs.checks.some_above.Given as goal
 
 abbrev pub invariant-loop-k : goal.invariant-loop-k

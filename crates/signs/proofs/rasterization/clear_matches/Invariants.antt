@@ -1,10 +1,8 @@
 -- `signs::rasterization::clear_matches` meets its contract, by the laws of a loop that fills. Assumes nothing.
-use mathlib.Core.Path.{refl}
 use Prim.Native.Nat.{◌-◌}
-use native.Mathlib.Omega.{arith}
 use lib.ListN.{length}
 use lib.IntN.{pos}
-use Rattle.ground.proofs.Laws.Fill.{Filled, filled_none, filled_more, filled_all}
+use Rattle.ground.proofs.Laws.Fill.{Filled}
 use Rattle.signs.proofs.rasterization.clear_matches.Given as goal
 
 abbrev pub invariant-loop-k : goal.invariant-loop-k

@@ -6,7 +6,6 @@ use native.Mathlib.Omega.{arith}
 use lib.IntN.{ℤ}
 use lib.ListN.{length}
 use lib.Ieee.{binary32}
-use borrow.Author.Rules.{rules}
 use Rattle.ground.specs.Lists.{tab}
 use Rattle.ground.proofs.Laws.Fill.{tab_length}
 use Rattle.inputs.proofs.Laws.Checks.{good_number}

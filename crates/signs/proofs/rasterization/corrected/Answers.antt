@@ -1,6 +1,5 @@
 -- `signs::rasterization::corrected` meets its contract. Assumes nothing.
 use mathlib.Core.Path.{sym, ◌∙◌}
-use borrow.Author.Rules.{rules}
 use Rattle.signs.specs.Flip.{flipped_if}
 use Rattle.signs.proofs.rasterization.corrected.Goals as goal
 

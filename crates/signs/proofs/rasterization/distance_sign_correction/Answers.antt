@@ -1,6 +1,5 @@
 -- `signs::rasterization::distance_sign_correction` meets its contract: the checks, then the steps. Assumes nothing.
 use mathlib.Core.Path.{sym, ◌∙◌}
-use borrow.Author.Rules.{rules}
 use Rattle.signs.specs.Checks.{Input, input}
 use Rattle.signs.proofs.rasterization.Together.{after_accepted, after_refused}
 use Rattle.signs.proofs.rasterization.distance_sign_correction.Goals as goal

@@ -1,5 +1,4 @@
 -- `signs::rasterization::flip_texel` meets its contract. Assumes nothing.
-use borrow.Author.Rules.{rules}
 use Rattle.signs.proofs.rasterization.flip_texel.Goals as goal
 
 pub returns-then-turn : goal.returns-then-turn

@@ -18,7 +18,6 @@ use Rattle.signs.specs.Inner.{turns_at, flipped_at}
 use Rattle.signs.proofs.rasterization.Steps.{Flipping, flipping_none, flipping_all, three_next, none_next}
 use Rattle.signs.proofs.rasterization.flip_texels.Goals as goal
 use Rattle.signs.proofs.rasterization.flip_texels.Goals.{After-flip_texel, In-loop-k, Start}
-use Rattle.signs.proofs.rasterization.flip_texels.Invariants.{Going}
 
 -- channel d of texel x, y, whose number is k
 of_texel : (w h ch : ℕ) (ms : List ℤ) (x y k d : ℕ) → k ≡ y * w + x → x < w → d < ch → turns_at w h ch ms (k * ch + d) ≡ (ltb d 3 && turns w h ms x y)

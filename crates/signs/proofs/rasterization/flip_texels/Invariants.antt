@@ -1,21 +1,12 @@
 -- `signs::rasterization::flip_texels` meets its contract: the texels that turn are flipped among the first k, of which the last before column x, row y. Assumes nothing.
-use mathlib.Core.Path.{◌≡◌, refl, sym, ◌∙◌, subst}
-use mathlib.Core.Bool.{Bool, true, false, cond, ◌&&◌}
+use mathlib.Core.Path.{◌≡◌}
 use mathlib.Core.List.{List}
 use Prim.Native.Nat.{ℕ, ◌+◌, ◌-◌, ◌*◌, ◌<◌, ◌≤◌}
-use native.Mathlib.Nat.{le_of_eq, zero-mul, mul-le-mul}
-use native.Mathlib.Omega.{arith}
-use lib.Arith.{digits_div, digits_mod}
-use lib.Dec.{ltb}
 use lib.IntN.{ℤ}
 use lib.ListN.{length}
 use lib.Ieee.{Float}
-use borrow.Author.Tests.{lt-ltb, le-ltb}
-use Rattle.inputs.proofs.Laws.Places.{next_row, row_lt, place_lt}
-use Rattle.inputs.proofs.Laws.Checks.{area_fits}
-use Rattle.signs.specs.Signs.{turns}
-use Rattle.signs.specs.Inner.{turns_at, flipped_at}
-use Rattle.signs.proofs.rasterization.Steps.{Flipping, flipping_none, flipping_all, three_next, none_next}
+use Rattle.signs.specs.Inner.{turns_at}
+use Rattle.signs.proofs.rasterization.Steps.{Flipping}
 use Rattle.signs.proofs.rasterization.flip_texels.Given as goal
 
 pub record Going (w h ch : ℕ) (ms : List ℤ) (zero : Float) (xs₀ xs : List Float) (k x y : ℕ) : Type 0 where

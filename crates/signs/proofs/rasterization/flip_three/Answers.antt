@@ -1,7 +1,6 @@
 -- `signs::rasterization::flip_three` meets its contract. Assumes nothing.
 use native.Mathlib.Omega.{arith}
 use lib.ListN.{length-set}
-use borrow.Author.Rules.{rules}
 use Rattle.signs.specs.Inner.{flipped_at}
 use Rattle.signs.proofs.rasterization.flip_three.Goals as goal
 

@@ -2,7 +2,6 @@
 use mathlib.Core.Path.{sym, ◌∙◌}
 use Prim.Native.Nat.{◌-◌, ◌*◌, ◌<◌, ◌+◌}
 use native.Mathlib.Omega.{arith}
-use borrow.Author.Rules.{rules}
 use Rattle.inputs.proofs.Laws.Bounds.{Inside, inside}
 use Rattle.inputs.proofs.Laws.Places.{cell_lt, cell_small}
 use Rattle.signs.specs.Signs.{match_near}

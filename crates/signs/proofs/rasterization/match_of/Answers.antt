@@ -3,7 +3,6 @@ use mathlib.Core.Path.{◌≡◌, sym, ◌∙◌}
 use mathlib.Core.Bool.{Bool, true, false, cond, beq}
 use lib.IntN.{ℤ, pos, negsuc}
 use lib.Ieee.{lt}
-use borrow.Author.Rules.{rules}
 use Rattle.numbers.specs.Scalar.{median_of}
 use Rattle.signs.specs.Signs.{match_of}
 use Rattle.signs.specs.Inner.{two_of}

@@ -3,7 +3,6 @@ use mathlib.Core.Path.{◌≡◌, sym, ◌∙◌, ap, subst}
 use Prim.Native.Nat.{ℕ, ◌*◌}
 use native.Mathlib.Omega.{arith}
 use lib.ListN.{length}
-use borrow.Author.Rules.{rules}
 use Rattle.ground.specs.Lists.{tab}
 use Rattle.signs.specs.Signs.{match_at}
 use Rattle.signs.proofs.rasterization.match_texels.Goals as goal

@@ -1,7 +1,6 @@
 -- `signs::rasterization::vote` meets its contract: four matches, each small. Assumes nothing.
 use mathlib.Core.Path.{◌≡◌, sym, ◌∙◌, subst}
 use lib.IntN.{ℤ, ◌+ℤ◌}
-use borrow.Author.Rules.{rules}
 use Rattle.signs.specs.Signs.{vote}
 use Rattle.signs.specs.Inner.{UpTo}
 use Rattle.signs.proofs.rasterization.Votes.{near_small, first_fits, second_fits, third_fits, four_sum}

@@ -1,11 +1,11 @@
 -- `signs::rasterization::write_matches` meets its contract, by the laws of a loop that fills. Assumes nothing.
 use mathlib.Core.Path.{◌≡◌, sym, ◌∙◌, subst}
-use Prim.Native.Nat.{ℕ, ◌+◌, ◌-◌, ◌*◌, ◌<◌, ◌≤◌}
+use Prim.Native.Nat.{ℕ, ◌+◌, ◌*◌, ◌<◌, ◌≤◌}
 use native.Mathlib.Omega.{arith}
 use lib.ListN.{length}
 use lib.IntN.{pos}
 use Rattle.ground.specs.Lists.{tab}
-use Rattle.ground.proofs.Laws.Fill.{Filled, filled_none, filled_more, filled_all}
+use Rattle.ground.proofs.Laws.Fill.{filled_none, filled_more, filled_all}
 use Rattle.inputs.proofs.Laws.Places.{place_lt}
 use Rattle.signs.specs.Signs.{filled_at, median_at, match_at}
 use Rattle.signs.specs.Inner.{UpTo}

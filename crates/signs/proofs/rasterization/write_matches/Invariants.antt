@@ -1,15 +1,9 @@
 -- `signs::rasterization::write_matches` meets its contract, by the laws of a loop that fills. Assumes nothing.
-use mathlib.Core.Path.{◌≡◌, sym, ◌∙◌, subst}
-use Prim.Native.Nat.{ℕ, ◌+◌, ◌-◌, ◌*◌, ◌<◌, ◌≤◌}
-use native.Mathlib.Omega.{arith}
+use Prim.Native.Nat.{◌-◌, ◌≤◌}
 use lib.ListN.{length}
 use lib.IntN.{pos}
-use Rattle.ground.specs.Lists.{tab}
-use Rattle.ground.proofs.Laws.Fill.{Filled, filled_none, filled_more, filled_all}
-use Rattle.inputs.proofs.Laws.Places.{place_lt}
-use Rattle.signs.specs.Signs.{filled_at, median_at, match_at}
-use Rattle.signs.specs.Inner.{UpTo}
-use Rattle.signs.proofs.rasterization.Votes.{held8, match_small}
+use Rattle.ground.proofs.Laws.Fill.{Filled}
+use Rattle.signs.specs.Signs.{match_at}
 use Rattle.signs.proofs.rasterization.write_matches.Given as goal
 
 abbrev pub invariant-loop-k : goal.invariant-loop-k
