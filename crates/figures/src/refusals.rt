@@ -1,140 +1,178 @@
 // Each refusal with its place. A stencil that is left as it was shows as `?`.
 use crate::run;
 use ranges::config::Settings;
+use std::io;
 
-fn sized(name: &[u8], w: usize, h: usize, ch: usize, stencil: &mut [u8]) {
+fn sized(
+    rt: &impl Print,
+    name: &[u8],
+    w: usize,
+    h: usize,
+    ch: usize,
+    stencil: &mut [u8],
+) -> io::Result<()> {
     let mut xs = [0.0f32; 6];
     run::plain(
+        rt,
         name,
         run::with(w, h, ch, 1, run::all(0.25)),
         &mut xs,
         stencil,
-    );
+    )
 }
 
-pub fn sizes() {
+pub fn sizes(rt: &impl Print) -> io::Result<()> {
     let mut two = [255u8; 2];
-    sized(b"channels 2", 2, 1, 2, &mut two);
-    sized(b"channels 5", 2, 1, 5, &mut two);
-    sized(b"channels 0, width 0", 0, 1, 0, &mut two);
-    sized(b"width 0", 0, 1, 3, &mut two);
-    sized(b"height 0", 2, 0, 3, &mut two);
-    sized(b"width 4097", 4097, 1, 3, &mut two);
-    sized(b"height 4097", 2, 4097, 3, &mut two);
-    sized(b"samples too few", 2, 2, 3, &mut two);
-    sized(b"samples too many", 1, 1, 3, &mut two);
+    sized(rt, b"channels 2", 2, 1, 2, &mut two)?;
+    sized(rt, b"channels 5", 2, 1, 5, &mut two)?;
+    sized(rt, b"channels 0, width 0", 0, 1, 0, &mut two)?;
+    sized(rt, b"width 0", 0, 1, 3, &mut two)?;
+    sized(rt, b"height 0", 2, 0, 3, &mut two)?;
+    sized(rt, b"width 4097", 4097, 1, 3, &mut two)?;
+    sized(rt, b"height 4097", 2, 4097, 3, &mut two)?;
+    sized(rt, b"samples too few", 2, 2, 3, &mut two)?;
+    sized(rt, b"samples too many", 1, 1, 3, &mut two)?;
     let mut three = [255u8; 3];
-    sized(b"stencil too long", 2, 1, 3, &mut three);
+    sized(rt, b"stencil too long", 2, 1, 3, &mut three)?;
     let mut one = [255u8; 1];
-    sized(b"stencil too short", 2, 1, 3, &mut one);
-    sized(b"width 1", 1, 2, 3, &mut two);
+    sized(rt, b"stencil too short", 2, 1, 3, &mut one)?;
+    sized(rt, b"width 1", 1, 2, 3, &mut two)
 }
 
 // One row, in a room of any length.
-fn lent(name: &[u8], w: usize, mode: u8, room: &mut [f32]) {
+fn lent(rt: &impl Print, name: &[u8], w: usize, mode: u8, room: &mut [f32]) -> io::Result<()> {
     let mut xs = [0.0f32; 6];
     let mut stencil = [255u8; 2];
     let t = run::with(w, 1, 3, mode, run::all(0.25));
-    run::lent(name, t, &mut xs, &mut stencil, room, &[], &[], &[]);
+    run::lent(rt, name, t, &mut xs, &mut stencil, room, &[], &[], &[])
 }
 
-pub fn rooms() {
+pub fn rooms(rt: &impl Print) -> io::Result<()> {
     let mut three = [1.0f32; 3];
-    lent(b"room too short", 2, 1, &mut three);
-    lent(b"room too short, samples too many", 1, 1, &mut three);
-    lent(b"room too short, mode 4", 2, 4, &mut three);
+    lent(rt, b"room too short", 2, 1, &mut three)?;
+    lent(rt, b"room too short, samples too many", 1, 1, &mut three)?;
+    lent(rt, b"room too short, mode 4", 2, 4, &mut three)?;
     let mut none = [1.0f32; 0];
-    lent(b"no room, disabled", 2, 0, &mut none);
+    lent(rt, b"no room, disabled", 2, 0, &mut none)?;
     let mut four = [1.0f32; 4];
-    lent(b"room for two rows", 2, 1, &mut four);
+    lent(rt, b"room for two rows", 2, 1, &mut four)
 }
 
-fn set(name: &[u8], mode: u8, ratio: f64, horizontal: f64, vertical: f64, diagonal: f64) {
+fn set(
+    rt: &impl Print,
+    name: &[u8],
+    mode: u8,
+    ratio: f64,
+    horizontal: f64,
+    vertical: f64,
+    diagonal: f64,
+) -> io::Result<()> {
     let s = Settings {
         ratio: ratio,
         horizontal: horizontal,
         vertical: vertical,
         diagonal: diagonal,
     };
-    run::pair(name, [0.0; 6], mode, s);
+    run::pair(rt, name, [0.0; 6], mode, s)
 }
 
-pub fn settings() {
+pub fn settings(rt: &impl Print) -> io::Result<()> {
     let nan = 0.0f64 / 0.0;
     let infinity = 1.0f64 / 0.0;
-    set(b"mode 4", 4, nan, 1.0, 1.0, 1.0);
-    set(b"ratio NaN", 1, nan, -1.0, 1.0, 1.0);
-    set(b"horizontal below 0", 1, 1.0, -0.5, 1.0, 1.0);
-    set(b"vertical above the limit", 1, 1.0, 1.0, 1048576.5, 1.0);
-    set(b"diagonal infinite", 1, 1.0, 1.0, 1.0, infinity);
-    set(b"disabled, diagonal infinite", 0, 1.0, 1.0, 1.0, infinity);
+    set(rt, b"mode 4", 4, nan, 1.0, 1.0, 1.0)?;
+    set(rt, b"ratio NaN", 1, nan, -1.0, 1.0, 1.0)?;
+    set(rt, b"horizontal below 0", 1, 1.0, -0.5, 1.0, 1.0)?;
+    set(rt, b"vertical above the limit", 1, 1.0, 1.0, 1048576.5, 1.0)?;
+    set(rt, b"diagonal infinite", 1, 1.0, 1.0, 1.0, infinity)?;
+    set(
+        rt,
+        b"disabled, diagonal infinite",
+        0,
+        1.0,
+        1.0,
+        1.0,
+        infinity,
+    )
 }
 
-pub fn samples() {
+pub fn samples(rt: &impl Print) -> io::Result<()> {
     let nan = 0.0f32 / 0.0;
     let infinity = 1.0f32 / 0.0;
     run::pair(
+        rt,
         b"sample 4 NaN",
         [0.0, 0.0, 0.0, 0.0, nan, nan],
         1,
         run::all(0.0),
-    );
+    )?;
     run::pair(
+        rt,
         b"sample 0 infinite",
         [infinity, 0.0, 0.0, 0.0, 0.0, 0.0],
         1,
         run::all(0.0),
-    );
+    )?;
     run::pair(
+        rt,
         b"sample 5 above the limit",
         [1048576.0, 0.0, 0.0, 0.0, 0.0, 1048576.125],
         1,
         run::all(0.0),
-    );
+    )?;
     run::pair(
+        rt,
         b"sample 2 below the limit",
         [0.0, 0.0, -1048576.125, 0.0, 0.0, 0.0],
         1,
         run::all(0.0),
-    );
+    )?;
     run::pair(
+        rt,
         b"samples at the limit",
         [1048576.0, -1048576.0, 0.0, 0.0, 0.0, 0.0],
         0,
         run::all(0.0),
-    );
+    )
 }
 
-pub fn outlines() {
+pub fn outlines(rt: &impl Print) -> io::Result<()> {
     let nan = 0.0f64 / 0.0;
     let infinity = 1.0f64 / 0.0;
-    run::outlines(b"coordinates too few", &[1, 1], &[0.0, 0.0, 1.0], &[2]);
-    run::outlines(b"coordinates too many", &[1], &[0.0, 0.0, 1.0, 1.0], &[1]);
-    run::ending(b"first end too far", &[3, 2]);
-    run::ending(b"second end below the first", &[1, 0]);
-    run::ending(b"last end too near", &[0, 1]);
-    run::ending(b"no ends", &[]);
-    run::outlines(b"colour 8", &[1, 8], &[0.0, 0.0, nan, 0.0], &[2]);
+    run::outlines(rt, b"coordinates too few", &[1, 1], &[0.0, 0.0, 1.0], &[2])?;
     run::outlines(
+        rt,
+        b"coordinates too many",
+        &[1],
+        &[0.0, 0.0, 1.0, 1.0],
+        &[1],
+    )?;
+    run::ending(rt, b"first end too far", &[3, 2])?;
+    run::ending(rt, b"second end below the first", &[1, 0])?;
+    run::ending(rt, b"last end too near", &[0, 1])?;
+    run::ending(rt, b"no ends", &[])?;
+    run::outlines(rt, b"colour 8", &[1, 8], &[0.0, 0.0, nan, 0.0], &[2])?;
+    run::outlines(
+        rt,
         b"coordinate NaN",
         &[1, 1, 1],
         &[0.0, 0.0, 1.0, nan, nan, 0.0],
         &[3],
-    );
-    run::point(b"coordinate infinite", 1.0, -infinity);
-    run::point(b"point (1048576.5,1)", 1048576.5, 1.0);
-    run::point(b"point (1,-1048576.5)", 1.0, -1048576.5);
+    )?;
+    run::point(rt, b"coordinate infinite", 1.0, -infinity)?;
+    run::point(rt, b"point (1048576.5,1)", 1048576.5, 1.0)?;
+    run::point(rt, b"point (1,-1048576.5)", 1.0, -1048576.5)
 }
 
 // As many segments as check 7 lets through, and one more.
-pub fn many() {
+pub fn many(rt: &impl Print) -> io::Result<()> {
     let colours = [0u8; 65537];
     let coords = [0.0f64; 131074];
     run::outlines(
+        rt,
         b"65536 segments",
         &colours[..65536],
         &coords[..131072],
         &[65536],
-    );
-    run::outlines(b"65537 segments", &colours, &coords, &[65537]);
+    )?;
+    run::outlines(rt, b"65537 segments", &colours, &coords, &[65537])
 }

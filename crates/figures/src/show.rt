@@ -2,58 +2,58 @@
 use correction::pass::Answer;
 use ground::bytes;
 use inputs::sizes::Bitmap;
-use libc::STDOUT_FILENO;
+use std::io;
 
-fn text(s: &[u8]) {
-    io::write_all(STDOUT_FILENO, s);
+fn text(rt: &impl Print, s: &[u8]) -> io::Result<()> {
+    rt.write_all(s)
 }
 
-fn number(n: u64) {
-    text(b" ");
-    io::print_decimal(STDOUT_FILENO, n);
+fn number(rt: &impl Print, n: u64) -> io::Result<()> {
+    print!(rt; " {n}")
 }
 
 // The number, the place, the three counts and the number of range tests.
-fn answer(a: Answer) {
+fn answer(rt: &impl Print, a: Answer) -> io::Result<()> {
     match a {
         Answer::Accepted(c, t) => {
-            text(b" 0 0");
-            number(c.protected as u64);
-            number(c.error as u64);
-            number(c.corner as u64);
-            number(t as u64);
+            text(rt, b" 0 0")?;
+            number(rt, c.protected as u64)?;
+            number(rt, c.error as u64)?;
+            number(rt, c.corner as u64)?;
+            number(rt, t as u64)
         }
         Answer::Refused(n, p) => {
-            number(n as u64);
-            number(p as u64);
-            text(b" 0 0 0 0");
+            number(rt, n as u64)?;
+            number(rt, p as u64)?;
+            text(rt, b" 0 0 0 0")
         }
     }
 }
 
 // A stencil cell: `?` where it has none of the pass's bytes.
-fn cell(v: u8) {
+fn cell(rt: &impl Print, v: u8) -> io::Result<()> {
     match v {
-        0 => text(b"."),
-        1 => text(b"E"),
-        2 => text(b"P"),
-        3 => text(b"B"),
-        6 => text(b"C"),
-        7 => text(b"D"),
-        _ => text(b"?"),
+        0 => text(rt, b"."),
+        1 => text(rt, b"E"),
+        2 => text(rt, b"P"),
+        3 => text(rt, b"B"),
+        6 => text(rt, b"C"),
+        7 => text(rt, b"D"),
+        _ => text(rt, b"?"),
     }
 }
 
-fn cells(stencil: &[u8], w: usize) {
+fn cells(rt: &impl Print, stencil: &[u8], w: usize) -> io::Result<()> {
     if w == 0 {
-        return;
+        return Ok(());
     }
     for k in 0..stencil.len() {
         if k % w == 0 {
-            text(b" ");
+            text(rt, b" ")?;
         }
-        cell(stencil[k]);
+        cell(rt, stencil[k])?;
     }
+    Ok(())
 }
 
 // One of the pass's bytes, with an error.
@@ -66,35 +66,42 @@ fn is_flagged(v: u8) -> bool {
     }
 }
 
-fn sample(flagged: bool, v: f32) {
+fn sample(rt: &impl Print, flagged: bool, v: f32) -> io::Result<()> {
     if !flagged {
-        return;
+        return Ok(());
     }
     if v != v {
-        text(b" NaN");
-        return;
+        return text(rt, b" NaN");
     }
-    text(b" ");
-    io::print_hex(STDOUT_FILENO, bytes::bits_of_float32(v) as u64, 8);
+    let bits = bytes::bits_of_float32(v);
+    print!(rt; " {bits:08x}")
 }
 
-fn samples(stencil: &[u8], xs: &[f32], ch: usize) {
+fn samples(rt: &impl Print, stencil: &[u8], xs: &[f32], ch: usize) -> io::Result<()> {
     if ch == 0 {
-        return;
+        return Ok(());
     }
     for j in 0..xs.len() {
         let k = j / ch;
         if k < stencil.len() {
-            sample(is_flagged(stencil[k]), xs[j]);
+            sample(rt, is_flagged(stencil[k]), xs[j])?;
         }
     }
+    Ok(())
 }
 
-pub fn line(name: &[u8], a: Answer, stencil: &[u8], xs: &[f32], b: Bitmap) {
-    text(name);
-    text(b":");
-    answer(a);
-    cells(stencil, b.width);
-    samples(stencil, xs, b.channels);
-    text(b"\n");
+pub fn line(
+    rt: &impl Print,
+    name: &[u8],
+    a: Answer,
+    stencil: &[u8],
+    xs: &[f32],
+    b: Bitmap,
+) -> io::Result<()> {
+    text(rt, name)?;
+    text(rt, b":")?;
+    answer(rt, a)?;
+    cells(rt, stencil, b.width)?;
+    samples(rt, stencil, xs, b.channels)?;
+    text(rt, b"\n")
 }

@@ -1,45 +1,48 @@
 // Replays the fixed list of cases, from standard input, through both engines of the pass, and says how many differ from their answers. tests/fixed/README.md has the format.
-ghost use Rattle.std.specs.Prelude.{◌+◌, ◌≤◌, length};
+#![tactic(auto)]
+
+ghost use Rattle.std.specs.Prelude.{◌+◌, ◌≤◌, length, IfOk};
 
 mod answer;
 mod case;
 mod number;
 
 use ground::bytes;
-use libc::{STDIN_FILENO, STDOUT_FILENO};
+use std::io;
 
 // So many of the cases that differ are named.
 const NAMED: u64 = 5;
 
-fn name(number: u64, plain: bool) {
-    io::write_all(STDOUT_FILENO, b"case ");
-    io::print_decimal(STDOUT_FILENO, number);
-    io::write_all(STDOUT_FILENO, b" differs");
+fn name(rt: &impl Print, number: u64, plain: bool) -> io::Result<()> {
     if plain {
-        io::write_all(STDOUT_FILENO, b" by the plain engine alone");
+        println!(rt; "case {number} differs by the plain engine alone")
+    } else {
+        println!(rt; "case {number} differs")
     }
-    io::write_all(STDOUT_FILENO, b"\n");
 }
 
 // Names a case that differs, by the first engine or by the plain one, while few do, and counts it.
-fn judge(is_same: bool, is_plain_same: bool, number: u64, differ: u64) -> u64
+fn judge(
+    rt: &impl Print,
+    is_same: bool,
+    is_plain_same: bool,
+    number: u64,
+    differ: u64,
+) -> io::Result<u64>
     requires { (differ ≤ number) × (number ≤ 262144) }
-    ensures { result ≤ number + 1 }
+    ensures { IfOk result (λ counted. counted ≤ number + 1) }
 {
     if is_same && is_plain_same {
-        return differ;
+        return Ok(differ);
     }
     if differ < NAMED {
-        name(number, is_same);
+        name(rt, number, is_same)?;
     }
-    differ + 1
+    Ok(differ + 1)
 }
 
-fn total(cases: u64, differ: u64) {
-    io::print_decimal(STDOUT_FILENO, cases);
-    io::write_all(STDOUT_FILENO, b" cases by both engines, ");
-    io::print_decimal(STDOUT_FILENO, differ);
-    io::write_all(STDOUT_FILENO, b" differ\n");
+fn total(rt: &impl Print, cases: u64, differ: u64) -> io::Result<()> {
+    println!(rt; "{cases} cases by both engines, {differ} differ")
 }
 
 // How many cases the list says it holds, up to more than there is room for.
@@ -59,7 +62,7 @@ fn is_whole(number: u64, cases: u64, at: usize, end: usize) -> bool {
 }
 
 // Runs the cases in order, up to one that is cut off or too large. A list that ends elsewhere than after its last case counts as one that differs.
-fn replay(list: &[u8])
+fn replay(rt: &impl Print, list: &[u8]) -> io::Result<()>
     requires { length list.now ≤ 262144 }
 {
     let cases = said(list);
@@ -73,26 +76,28 @@ fn replay(list: &[u8])
             break;
         }
         differ = judge(
+            rt,
             case::is_same(list, c, false),
             case::is_same(list, c, true),
             number,
             differ,
-        );
+        )?;
         number += 1;
         at = next;
     }
     differ = judge(
+        rt,
         is_whole(number, cases, at, list.len()),
         true,
         number,
         differ,
-    );
-    total(number, differ);
+    )?;
+    total(rt, number, differ)
 }
 
 // A list that is longer than the room is cut off.
-fn main() {
+fn main(rt: HostRuntime) -> io::Result<()> {
     let mut room = [0u8; 262144];
-    let n = io::read_full(STDIN_FILENO, &mut room);
-    replay(&room[..n]);
+    let n = streams::read_full(&mut rt.stdin(), &mut room)?;
+    replay(&rt, &room[..n])
 }

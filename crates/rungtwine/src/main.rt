@@ -1,7 +1,12 @@
 // The reading program: standard input through the pass, and the answer to standard output.
-ghost use Rattle.std.specs.Prelude.{◌≡◌, length};
+#![tactic(auto)]
 
-use libc::{STDIN_FILENO, STDOUT_FILENO};
+ghost use Rattle.std.specs.Prelude.{◌≡◌, OnOk, IfSome, length, take};
+ghost use Rattle.std.specs.Io.KnownBytes.{Appends};
+ghost use Rattle.reading.specs.Answer.{written};
+
+use std::io;
+use std::io::{Read, Write};
 
 // Room for the longest input that is taken and one byte more, which shows that it is too long.
 fn input_buffer() -> [u8; 65537]
@@ -17,10 +22,17 @@ fn output_buffer() -> [u8; 131072]
     [0; 131072]
 }
 
-fn main() {
+// Reads an input, of which it takes as much as there is room for, and writes the answer.
+fn run<R: Read, W: Write>(from: &mut R, to: &mut W) -> io::Result<()>
+    ensures { OnOk result (IfSome (R.remaining from.old) (λ xs. Appends (W.contents to.old) (W.contents to.new) (written 131072 (take 65537 xs)))) }
+{
     let mut input = input_buffer();
     let mut output = output_buffer();
-    let n = io::read_full(STDIN_FILENO, &mut input);
+    let n = streams::read_full(from, &mut input)?;
     let m = reading::answer(&input[..n], &mut output);
-    io::write_all(STDOUT_FILENO, &output[..m]);
+    to.write_all(&output[..m])
+}
+
+fn main(rt: HostRuntime) -> io::Result<()> {
+    run(&mut rt.stdin(), &mut rt.stdout())
 }
