@@ -2,7 +2,7 @@
 //! Its detectors are driven once more with a classifier that counts range tests and answers as the original's does.
 //! `signs` has the original's correction of signs, driven with a filled map.
 //!
-//! `target/oracle/original` points at the original's source folder and `target/oracle/correction.rs` is its correction/mod.rs with `driver.rs`
+//! `target/oracle/original` is a copy of the original's source folder and `target/oracle/correction.rs` is its correction/mod.rs with `driver.rs`
 //! after it (see `build`); no text of the original is changed. What the supplied sources lack stands here: an inline vector, shapes, typed points,
 //! and names of the distance part, which `DoNotCheckDistance` never reaches.
 #![allow(dead_code, clippy::all)]

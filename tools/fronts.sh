@@ -13,7 +13,7 @@ fresh() {
 build_front() {
     library=target/native/libcorrection_c.a
     if command -v rt >/dev/null 2>&1; then
-        if ! fresh "$library" crates crates.txt; then
+        if ! fresh "$library" crates/*/src crates/*/specs crates/*/proofs crates.txt; then
             say "first use: 'tools/native-lib correction_c' proves and builds the library, which takes minutes"
             tools/native-lib correction_c </dev/null >&2 || { say "the library was not built"; exit 1; }
         fi

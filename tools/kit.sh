@@ -1,48 +1,66 @@
-# Sourced by scripts that use the Rattle kit: where it is, and a module of rt's kept on its way or compiled for the processor of this machine.
+# Sourced from the repository's root by scripts that use the Rattle kit: a static library or a program proved and made by it, and the LLVM module of a library.
 rt=$(command -v rt) || { echo "${0##*/}: there is no rt on the PATH" >&2; exit 1; }
 kit=$(dirname "$(dirname "$(readlink -f "$rt")")")
-machine=$(uname -m)
-toolchain=$kit/on/$machine/toolchain
+toolchain=$kit/toolchain
 
-# keep_module KEEP WORD...: $stand/module.bc, the LLVM module that `rt WORD...` compiles on its way.
-# rt runs over a stand-in for the kit whose clang goes through its words first: KEEP, arms of a case over $word, copies the module to $kept.
+# library_by RT NAME: proves the static library NAME and makes crates/NAME/out/libNAME.a, for the processor of this machine. rt itself compiles for x86-64.
+library_by() {
+    set -- "$1" "$2" "$(uname -m)"
+    if [ "$3" = x86_64 ]; then
+        (cd "crates/$2" && "$1" lib)
+    else
+        (cd "crates/$2" && "$1" lib --target "$3-unknown-linux-gnu")
+    fi
+}
+
+# built_program NAME: proves the program NAME and makes crates/NAME/out/NAME. rt also runs what it has built, here on an empty input, and ends as that run
+# does: that there is a program again tells that it was built.
+built_program() {
+    rm -f "crates/$1/out/$1"
+    (cd "crates/$1" && "$rt" run </dev/null >/dev/null) || :
+    [ -f "crates/$1/out/$1" ]
+}
+
+# keep_module NAME: $stand/module.bc, the LLVM module that rt compiles on its way to the proved static library NAME, and $stand/flags, how it compiles it.
+# rt proves the library, and then makes it once more over a stand-in for the kit, whose clang keeps both: rt takes for the kit what its own file lies in, so
+# that file is a copy there, as is the one that it loads from beside itself, and all others are links.
 keep_module() {
-    keep=$1
-    shift
+    library_by "$rt" "$1" || return
     stand=$(mktemp -d)
     trap 'rm -rf "$stand"' EXIT
-    mkdir -p "$stand/kit/on/$machine/toolchain/bin"
-    for file in "$kit"/* "$kit/on/$machine"/* "$toolchain"/* "$toolchain"/bin/*; do
+    mkdir -p "$stand/kit/bin" "$stand/kit/toolchain/bin"
+    for file in "$kit"/* "$kit"/bin/* "$toolchain"/* "$toolchain"/bin/*; do
         case $file in
-        "$kit/on" | "$toolchain" | "$toolchain/bin" | "$toolchain/bin/clang") ;;
+        "$kit/bin" | "$toolchain" | "$toolchain/bin" | "$toolchain/bin/clang") ;;
+        "$kit/bin/rt" | "$kit"/bin/*.py) cp "$file" "$stand/kit/bin/" ;;
         *) ln -s "$file" "$stand/kit/${file#"$kit"/}" ;;
         esac
     done
-    cat >"$stand/kit/on/$machine/toolchain/bin/clang" <<STAND_IN
+    cat >"$stand/kit/toolchain/bin/clang" <<STAND_IN
 #!/bin/sh
-kept=$stand/module.bc
-for word in "\$@"; do case \$word in $keep esac; done
+for word in "\$@"; do
+    case \$word in *.bc) cp "\$word" "$stand/module.bc" && printf '%s\n' "\$@" >"$stand/words" ;; esac
+done
 exec "$toolchain/bin/clang" "\$@"
 STAND_IN
-    chmod +x "$stand/kit/on/$machine/toolchain/bin/clang"
-    RATTLE_HOME=$stand/kit rt "$@" || return
+    chmod +x "$stand/kit/toolchain/bin/clang"
+    library_by "$stand/kit/bin/rt" "$1" || return
     [ -f "$stand/module.bc" ] || { echo "${0##*/}: no module was compiled on the way" >&2; return 1; }
+    # Its words but those that name the files and tell what to make of them.
+    sed -e '/^-o$/{N;d;}' -e '/^-c$/d' -e '/\.bc$/d' "$stand/words" >"$stand/flags"
 }
 
-# native_clang WORD...: the kit's own clang over a module, for this machine.
-native_clang() {
-    "$toolchain/bin/clang" --target="$machine-unknown-linux-gnu" -Wno-override-module "$@"
+# module_clang FILE OUT WORD...: what the words say of a module, by the kit's own clang, as rt has it compiled otherwise.
+module_clang() {
+    file=$1
+    out=$2
+    shift 2
+    # shellcheck disable=SC2046 # the flags are separate on purpose
+    "$toolchain/bin/clang" $(cat "$stand/flags") "$@" "$file" -o "$out"
 }
 
-# How the module of a library is kept and compiled.
-library_keep='*.bc) cp "$word" "$kept" ;;'
-library_flags="-ffunction-sections -fdata-sections -fPIC"
-
-# native_module FLAGS KEEP WORD...: $stand/module.o, the module that `rt WORD...` compiles on its way, compiled for this machine at -O3.
-native_module() {
-    flags=$1
-    shift
-    keep_module "$@" || return
-    # shellcheck disable=SC2086 # the flags are separate on purpose
-    native_clang $flags -O3 -c -x ir "$stand/module.bc" -o "$stand/module.o"
+# module_text OUT: the module that was kept, as text.
+module_text() {
+    mkdir -p "${1%/*}"
+    module_clang "$stand/module.bc" "$1" -S -emit-llvm -Xclang -disable-llvm-passes
 }

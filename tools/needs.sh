@@ -51,9 +51,9 @@ quietly() {
     }
 }
 
-# proved_library NAME: makes target/native/libNAME.a, unless it is newer than all that it is made of: the crates, their list and rt.
+# proved_library NAME: makes target/native/libNAME.a, unless it is newer than all that it is made of: the crates' own files, their list and rt.
 proved_library() {
-    [ -f "target/native/lib$1.a" ] && [ -z "$(find crates crates.txt "$(command -v rt)" -newer "target/native/lib$1.a")" ] && return
+    [ -f "target/native/lib$1.a" ] && [ -z "$(find crates/*/src crates/*/specs crates/*/proofs crates.txt "$(command -v rt)" -newer "target/native/lib$1.a")" ] && return
     quietly "target/native/$1.log" tools/native-lib "$1"
 }
 
