@@ -3,4 +3,5 @@ pub mod Stencil
 pub mod Bounds
 pub mod Window
 pub mod Checks
+pub mod Refusal
 pub mod Inner

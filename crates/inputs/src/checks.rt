@@ -1,8 +1,10 @@
 // The checks, each as docs/RULES.md has it, with its place.
-ghost use Rattle.std.specs.Prelude.{◌≡◌, ◌*◌, ◌≤◌, true, ◌||◌, ltb, length};
+ghost use Rattle.std.specs.Prelude.{◌≡◌, ◌*◌, ◌≤◌, ◌<◌, true, cond, ◌||◌, ltb, length, IfSome, IsNone};
 ghost use Rattle.std.specs.Float.{binary32, binary64};
 ghost use Rattle.inputs.specs.Checks as Checks;
+ghost use Rattle.inputs.specs.Refusal.{number_in, place_in};
 
+use crate::refusal::Refusal as Reason;
 use crate::sizes::Bitmap;
 use ranges::config::Settings;
 use ranges::constants;
@@ -265,4 +267,75 @@ pub fn outline_refusal(colours: &[u8], coords: &[f64], ends: &[usize]) -> Refusa
         number: 0,
         place: 0,
     }
+}
+
+// Checks 1 to 4, of a bitmap with n samples and m cells.
+pub fn check_size(b: Bitmap, n: usize, m: usize) -> Result<(), Reason>
+    ensures numbers { number_in result ≡ Checks.size_refusal b.width b.height b.channels n m }
+    ensures places { place_in result ≡ 0 }
+{
+    if bad_channels(b.channels) {
+        return Err(Reason::Channels);
+    }
+    if bad_size(b) {
+        return Err(Reason::Size);
+    }
+    if bad_sample_count(b, n) {
+        return Err(Reason::SampleCount);
+    }
+    if bad_cell_count(b, m) {
+        return Err(Reason::CellCount);
+    }
+    Ok(())
+}
+
+// Check 60.
+pub fn check_room(w: usize, n: usize) -> Result<(), Reason>
+    ensures numbers { number_in result ≡ cond (Checks.bad_room w n) 60 0 }
+    ensures places { place_in result ≡ 0 }
+{
+    if bad_room(w, n) {
+        return Err(Reason::Room);
+    }
+    Ok(())
+}
+
+// Check 5.
+pub fn check_settings(mode: u8, s: Settings) -> Result<(), Reason>
+    ensures numbers { number_in result ≡ cond (Checks.bad_settings mode s) 5 0 }
+    ensures places { place_in result ≡ cond (Checks.bad_settings mode s) (Checks.settings_place mode s) 0 }
+{
+    let p = settings_place(mode, s);
+    if p < 5 {
+        return Err(Reason::Setting(p));
+    }
+    Ok(())
+}
+
+// The place of check 6: the first bad sample.
+pub fn first_bad_sample(xs: &[f32]) -> Option<usize>
+    ensures some { IfSome result (λ p. (p ≡ Checks.samples_place xs.now) × (p < length xs.now)) }
+    ensures none { IsNone result → Checks.samples_place xs.now ≡ length xs.now }
+{
+    let p = samples_place(xs);
+    if p < xs.len() { Some(p) } else { None }
+}
+
+// Checks 7 to 9.
+pub fn check_outline(colours: &[u8], coords: &[f64], ends: &[usize]) -> Result<(), Reason>
+    ensures numbers { number_in result ≡ Checks.outline_refusal colours.now coords.now ends.now }
+    ensures places { place_in result ≡ Checks.outline_place colours.now coords.now ends.now (number_in result) }
+{
+    if bad_outlines(colours.len(), coords.len()) {
+        return Err(Reason::OutlineLengths);
+    }
+    let e = ends_place(ends, colours.len());
+    if bad_ends(ends, colours.len(), e) {
+        return Err(Reason::End(e));
+    }
+    let p = segments_place(colours, coords);
+    if p < colours.len() {
+        return Err(Reason::Segment(p));
+    }
+    Ok(())
 }
