@@ -6,7 +6,7 @@ use Rattle.ground.specs.Lists.{tab}
 use Rattle.ranges.specs.Constants.{epsilon, one_less_epsilon}
 use Rattle.numbers.specs.SquareRoot.{sqrt_of}
 use Rattle.numbers.specs.EquationSolver.{roots_of}
-use Rattle.correction.specs.declared.pass.Answer.TheVariants.{Accepted}
+use Rattle.std.specs.Prelude.{Ok}
 use Rattle.ranges.specs.Config.{indiscriminate, edge_priority, edge_only}
 use Rattle.inputs.specs.Checks.{Input, accepted}
 use Rattle.detectors.specs.Linear.{crossing}
@@ -92,7 +92,7 @@ checkered =
 
 -- the pass accepts, counts p protected cells, e errors and k corner cells, makes t range tests, and leaves the stencil st
 abbrev pub Leaves : Input → ℕ → ℕ → ℕ → ℕ → List ℕ → Type 0
-Leaves i p e k t st = (answer i ≡ Accepted (record { protected = p; error = e; corner = k }) t) × (stencil_after i ≡ st)
+Leaves i p e k t st = (answer i ≡ Ok (record { counts = record { protected = p; error = e; corner = k }; tests = t })) × (stencil_after i ≡ st)
 
 -- ---- outlines
 

@@ -1,9 +1,10 @@
 -- The pass: what it answers, and what it leaves in the stencil, in the samples and in the room, for every input. Definitions only.
-use Rattle.std.specs.Prelude.{◌≡◌, ℕ, ◌-◌, ◌*◌, ◌/◌, ◌%◌, Bool, true, false, cond, not, ◌&&◌, ◌||◌, List, [], ◌∷◌, eqb, length, Float}
+use Rattle.std.specs.Prelude.{◌≡◌, ℕ, ◌-◌, ◌*◌, ◌/◌, ◌%◌, Bool, true, false, cond, not, ◌&&◌, ◌||◌, List, [], ◌∷◌, eqb, length, Result, Ok, Err, Float}
 use Rattle.std.specs.Float.{binary32}
 use Rattle.numbers.specs.Constants.{zero_of}
-use Rattle.correction.specs.declared.pass.Answer.{Answer}
-use Rattle.correction.specs.declared.pass.Answer.TheVariants.{Accepted, Refused}
+use Rattle.correction.specs.declared.pass.Corrected.{Corrected}
+use Rattle.inputs.specs.declared.refusal.Refusal.{Refusal}
+use Rattle.inputs.specs.Refusal.{number, place, refusal_with}
 use Rattle.ground.specs.Lists.{tab, total}
 use Rattle.correction.specs.Bitmap.{texel}
 use Rattle.inputs.specs.Stencil.{stencil_byte, protected_count, error_count, corner_count, counts_of}
@@ -58,40 +59,43 @@ pass_samples i = collapsed i.samples i.channels (λ k. flags i (k % i.width) (k 
 unfoldable pub pass_tests : Input → ℕ
 pass_tests i = total (i.width * i.height) (λ k. tests_at i (k % i.width) (k / i.width))
 
--- ---- an answer's case, and its number, place and counts
+-- ---- an answer: what an accepted pass answers, or why it is refused; its case, and its number, place and counts
+
+abbrev pub Answer : Type 0
+Answer = Result Corrected Refusal
 
 -- whether an answer accepts
 unfoldable pub is_accepted : Answer → Bool
-is_accepted (Accepted c t) = true
-is_accepted (Refused n p) = false
+is_accepted (Ok c) = true
+is_accepted (Err r) = false
 
 -- its number, 0 where it accepts
 unfoldable pub number_of : Answer → ℕ
-number_of (Accepted c t) = 0
-number_of (Refused n p) = n
+number_of (Ok c) = 0
+number_of (Err r) = number r
 
 -- its place, 0 where it accepts
 unfoldable pub place_in : Answer → ℕ
-place_in (Accepted c t) = 0
-place_in (Refused n p) = p
+place_in (Ok c) = 0
+place_in (Err r) = place r
 
 -- its counts of protected cells, of errors and of corner cells, 0 where it refuses
 unfoldable pub protected_in : Answer → ℕ
-protected_in (Accepted c t) = c.protected
-protected_in (Refused n p) = 0
+protected_in (Ok c) = c.counts.protected
+protected_in (Err r) = 0
 
 unfoldable pub errors_in : Answer → ℕ
-errors_in (Accepted c t) = c.error
-errors_in (Refused n p) = 0
+errors_in (Ok c) = c.counts.error
+errors_in (Err r) = 0
 
 unfoldable pub corners_in : Answer → ℕ
-corners_in (Accepted c t) = c.corner
-corners_in (Refused n p) = 0
+corners_in (Ok c) = c.counts.corner
+corners_in (Err r) = 0
 
 -- its number of range tests, 0 where it refuses
 unfoldable pub tests_in : Answer → ℕ
-tests_in (Accepted c t) = t
-tests_in (Refused n p) = 0
+tests_in (Ok c) = c.tests
+tests_in (Err r) = 0
 
 -- ---- what the pass answers, and leaves
 
@@ -121,7 +125,7 @@ pub record Answers (i : Input) (r : Answer) : Type 0 where
 
 -- the one such answer
 unfoldable pub answer : Input → Answer
-answer i = cond (accepted i) (Accepted (counts_of (pass_stencil i)) (pass_tests i)) (Refused (refusal_number i) (refusal_place i))
+answer i = cond (accepted i) (Ok (record { counts = counts_of (pass_stencil i); tests = pass_tests i })) (Err (refusal_with (refusal_number i) (refusal_place i)))
 
 -- the stencil and the samples afterwards: a refusal writes nothing
 unfoldable pub stencil_after : Input → List ℕ

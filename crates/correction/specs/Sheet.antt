@@ -1,5 +1,5 @@
 -- Whole sheets: cells of one large bitmap, each corrected in place as if it were a bitmap alone. What is refused, answered and left, for every sheet. Definitions only.
-use Rattle.std.specs.Prelude.{◌≡◌, ℕ, ◌+◌, ◌-◌, ◌*◌, ◌/◌, ◌%◌, ◌<◌, Bool, false, cond, not, ◌&&◌, ◌||◌, List, get_or, length, take, drop, eqb, ltb, leb, Float}
+use Rattle.std.specs.Prelude.{◌≡◌, ℕ, ◌+◌, ◌-◌, ◌*◌, ◌/◌, ◌%◌, ◌<◌, Bool, false, cond, not, ◌&&◌, ◌||◌, List, get_or, length, take, drop, eqb, ltb, leb, Result, Ok, Err, Float}
 use Rattle.std.specs.Float.{binary32, nan}
 use Rattle.numbers.specs.Constants.{zero_of}
 use Rattle.ground.specs.Lists.{tab, any, first, total}
@@ -11,9 +11,10 @@ use Rattle.inputs.specs.Window.{cut_cells, cut_samples}
 use Rattle.inputs.specs.Checks.{Input, input, bad_channels, bad_size, bad_sample_count, bad_cell_count, bad_room, content_refusal, place_of}
 use Rattle.correction.specs.declared.cells.Area.{Area}
 use Rattle.correction.specs.declared.cells.Run.{Run}
-use Rattle.correction.specs.declared.sheet.Failure.{Failure}
-use Rattle.correction.specs.declared.sheet.Answer.{Answer}
-use Rattle.correction.specs.declared.sheet.Answer.TheVariants.{Accepted, Refused}
+use Rattle.inputs.specs.Refusal.{content_number, content_place, content_with}
+use Rattle.correction.specs.declared.refusal.Refusal.{Refusal}
+use Rattle.correction.specs.declared.refusal.Refusal.TheVariants as refuse
+use Rattle.correction.specs.declared.pass.Corrected.{Corrected}
 use Rattle.correction.specs.Bitmap.{cell}
 use Rattle.correction.specs.Pass.{byte_at, pass_stencil, pass_samples, pass_tests}
 
@@ -135,6 +136,12 @@ first_bad s = first (cells_of s) (λ c. not (eqb (content_refusal (alone s c)) 0
 
 -- ---- the first failure answers
 
+-- The first check that fails: its number, its cell and its place; zeros where all pass.
+pub record Failure : Type 0 where
+  pub number : ℕ
+  pub cell : ℕ
+  pub place : ℕ
+
 -- a failure of the whole, one of a cell, and one of a cell's own checks
 abbrev pub of_sheet : ℕ → Failure
 of_sheet n = record { number = n; cell = 0; place = 0 }
@@ -166,6 +173,32 @@ failure s =
 
 unfoldable pub sheet_accepted : Sheet → Bool
 sheet_accepted s = eqb (failure s).number 0
+
+-- what a refusal says
+abbrev pub told : Refusal → Failure
+told refuse.Channels = of_sheet 1
+told refuse.Sheet = of_sheet 50
+told refuse.Room = of_sheet 60
+told (refuse.Outside c) = of_cell 51 c
+told (refuse.Overlap c) = of_cell 52 c
+told (refuse.Run c) = of_cell 53 c
+told (refuse.Cell c r) = record { number = content_number r; cell = c; place = content_place r }
+
+-- the refusal that says a failure
+abbrev pub saying : Failure → Refusal
+saying f =
+    cond (eqb f.number 1) refuse.Channels
+    (cond (eqb f.number 50) refuse.Sheet
+    (cond (eqb f.number 60) refuse.Room
+    (cond (eqb f.number 51) (refuse.Outside f.cell)
+    (cond (eqb f.number 52) (refuse.Overlap f.cell)
+    (cond (eqb f.number 53) (refuse.Run f.cell)
+    (refuse.Cell f.cell (content_with f.number f.place)))))))
+
+-- what a result says: zeros where all is well
+abbrev pub failure_in : {A : Type 0} → Result A Refusal → Failure
+failure_in (Ok a) = of_sheet 0
+failure_in (Err r) = told r
 
 -- ---- what an accepted sheet becomes
 
@@ -215,8 +248,11 @@ sheet_tests s = over_cells s pass_tests
 
 -- ---- what is answered, and what is left: a refusal writes nothing
 
+abbrev pub Answer : Type 0
+Answer = Result Corrected Refusal
+
 unfoldable pub sheet_answer : Sheet → Answer
-sheet_answer s = cond (sheet_accepted s) (Accepted (sheet_counts s) (sheet_tests s)) (Refused (failure s).number (failure s).cell (failure s).place)
+sheet_answer s = cond (sheet_accepted s) (Ok (record { counts = sheet_counts s; tests = sheet_tests s })) (Err (saying (failure s)))
 
 unfoldable pub sheet_stencil_after : Sheet → List ℕ
 sheet_stencil_after s = cond (sheet_accepted s) (sheet_stencil s) s.stencil
@@ -230,5 +266,4 @@ sheet_room_after s = cond (sheet_accepted s) (tab (length s.room) (λ k. zero_of
 
 -- the number in an answer, 0 where it accepts
 unfoldable pub number_in : Answer → ℕ
-number_in (Accepted c t) = 0
-number_in (Refused n c p) = n
+number_in r = (failure_in r).number

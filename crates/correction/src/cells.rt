@@ -3,8 +3,10 @@
 ghost use Rattle.std.specs.Prelude.{◌≡◌, ◌+◌, ◌*◌, ◌<◌, ◌≤◌, cond, ltb, length};
 ghost use Rattle.inputs.specs.Checks.{bad_channels, bad_room};
 ghost use Rattle.correction.specs.Sheet as Sheet;
+ghost use Rattle.correction.specs.Sheet.{failure_in, of_sheet};
 ghost use Rattle.correction.specs.Cells.{AreaInside, AreasInside, cell_at};
 
+use crate::refusal::Refusal;
 use inputs::checks;
 use inputs::sizes::{Bitmap, Window};
 use ranges::config::Settings;
@@ -120,30 +122,29 @@ pub fn cell_at(b: Bitmap, cells: &[usize], settings: &[f64], c: usize) -> Cell
     }
 }
 
-// Checks 1, 50 and 60; 0 where all pass.
-pub fn sheet_refusal(b: Bitmap, n: Lengths) -> u8
-    ensures { result ≡ cond (bad_channels b.channels) 1 (cond (Sheet.bad_sheet b.width b.height b.channels n.samples n.stencil n.cells n.modes n.settings) 50 (cond (bad_room b.width n.room) 60 0)) }
+// Checks 1, 50 and 60.
+pub fn check_sheet(b: Bitmap, n: Lengths) -> Result<(), Refusal>
+    ensures { failure_in result ≡ cond (bad_channels b.channels) (of_sheet 1) (cond (Sheet.bad_sheet b.width b.height b.channels n.samples n.stencil n.cells n.modes n.settings) (of_sheet 50) (cond (bad_room b.width n.room) (of_sheet 60) (of_sheet 0))) }
 {
-    let z = checks::size_refusal(b, n.samples, n.stencil);
-    if z == 1 {
-        return 1;
+    if checks::bad_channels(b.channels) {
+        return Err(Refusal::Channels);
     }
-    if z != 0 {
-        return 50;
+    if checks::check_size(b, n.samples, n.stencil).is_err() {
+        return Err(Refusal::Sheet);
     }
     if n.modes > 4096 {
-        return 50;
+        return Err(Refusal::Sheet);
     }
     if n.cells != 10 * n.modes {
-        return 50;
+        return Err(Refusal::Sheet);
     }
     if n.settings != 4 * n.modes {
-        return 50;
+        return Err(Refusal::Sheet);
     }
     if checks::bad_room(b.width, n.room) {
-        return 60;
+        return Err(Refusal::Room);
     }
-    0
+    Ok(())
 }
 
 // So many from a start on go beyond the end.

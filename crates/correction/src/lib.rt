@@ -10,6 +10,7 @@ mod engine;
 mod errors;
 mod orders;
 pub mod pass;
+pub mod refusal;
 pub mod sheet;
 pub mod view;
 mod window;

@@ -5,31 +5,19 @@ ghost use Rattle.inputs.specs.Checks.{content_refusal, place_of};
 ghost use Rattle.inputs.specs.Window.{CellsPasted, SamplesPasted};
 ghost use Rattle.correction.specs.Pass.{pass_stencil, pass_samples};
 ghost use Rattle.correction.specs.Sheet as Sheet;
-ghost use Rattle.correction.specs.Sheet.{sheet};
+ghost use Rattle.correction.specs.Sheet.{sheet, failure_in};
+ghost use Rattle.inputs.specs.Refusal.{content_number_in, content_place_in};
 ghost use Rattle.correction.specs.Inner.{Cleared};
 ghost use Rattle.correction.specs.Cells.{CellOutlined, Laid, Ready, tally_of, tallies};
 
 use crate::cells::Lengths;
+use crate::pass::Corrected;
+use crate::refusal::Refusal;
 use crate::{cells, engine, window};
-use inputs::checks::Refusal;
+use inputs::refusal::ContentRefusal;
 use inputs::sizes::Bitmap;
 use inputs::stencil::Counts;
 use inputs::{room, stencil};
-
-// What is answered: the counts and how many range tests were made, summed over the cells, or the number of the first check that fails, its cell and its place.
-#[derive(Clone, Copy)]
-pub enum Answer {
-    Accepted(Counts, usize),
-    Refused(u8, usize, usize),
-}
-
-// The first check that fails, its cell and its place; zeros where all pass.
-#[derive(Clone, Copy)]
-pub struct Failure {
-    pub number: u8,
-    pub cell: usize,
-    pub place: usize,
-}
 
 // What is summed over the cells: those with each bit, and the range tests.
 #[derive(Clone, Copy)]
@@ -51,10 +39,10 @@ fn check_cell(
     coords: &[f64],
     ends: &[usize],
     c: usize,
-) -> Refusal
+) -> Result<(), ContentRefusal>
     requires { Laid (sheet b.width b.height b.channels xs.now [] [] cells.now modes.now settings.now colours.now coords.now ends.now) × (c < length modes.now) }
-    ensures numbers { result.number ≡ content_refusal (Sheet.alone (sheet b.width b.height b.channels xs.now [] [] cells.now modes.now settings.now colours.now coords.now ends.now) c) }
-    ensures places { result.place ≡ place_of (Sheet.alone (sheet b.width b.height b.channels xs.now [] [] cells.now modes.now settings.now colours.now coords.now ends.now) c) result.number }
+    ensures numbers { content_number_in result ≡ content_refusal (Sheet.alone (sheet b.width b.height b.channels xs.now [] [] cells.now modes.now settings.now colours.now coords.now ends.now) c) }
+    ensures places { content_place_in result ≡ place_of (Sheet.alone (sheet b.width b.height b.channels xs.now [] [] cells.now modes.now settings.now colours.now coords.now ends.now) c) (content_number_in result) }
 {
     let k = cells::cell_at(b, cells, settings, c);
     let g = k.window;
@@ -86,27 +74,16 @@ fn check_cells(
     colours: &[u8],
     coords: &[f64],
     ends: &[usize],
-) -> Failure
+) -> Result<(), Refusal>
     requires { Laid (sheet b.width b.height b.channels xs.now [] [] cells.now modes.now settings.now colours.now coords.now ends.now) }
-    ensures { result ≡ Sheet.content_failure (sheet b.width b.height b.channels xs.now [] [] cells.now modes.now settings.now colours.now coords.now ends.now) }
+    ensures { failure_in result ≡ Sheet.content_failure (sheet b.width b.height b.channels xs.now [] [] cells.now modes.now settings.now colours.now coords.now ends.now) }
 {
-    let mut c = 0usize;
-    while c < modes.len() {
-        let f = check_cell(b, xs, cells, modes, settings, colours, coords, ends, c);
-        if f.number != 0 {
-            return Failure {
-                number: f.number,
-                cell: c,
-                place: f.place,
-            };
+    for c in 0..modes.len() {
+        if let Err(r) = check_cell(b, xs, cells, modes, settings, colours, coords, ends, c) {
+            return Err(Refusal::Cell(c, r));
         }
-        c += 1;
     }
-    Failure {
-        number: 0,
-        cell: 0,
-        place: 0,
-    }
+    Ok(())
 }
 
 // All checks of a sheet; the first failure answers. For a caller who corrects a sheet part by part and wants to know beforehand.
@@ -121,8 +98,8 @@ pub fn check(
     colours: &[u8],
     coords: &[f64],
     ends: &[usize],
-) -> Failure
-    ensures { result ≡ Sheet.failure (sheet b.width b.height b.channels xs.now stencil.now room.now cells.now modes.now settings.now colours.now coords.now ends.now) }
+) -> Result<(), Refusal>
+    ensures { failure_in result ≡ Sheet.failure (sheet b.width b.height b.channels xs.now stencil.now room.now cells.now modes.now settings.now colours.now coords.now ends.now) }
 {
     let l = Lengths {
         samples: xs.len(),
@@ -132,38 +109,19 @@ pub fn check(
         modes: modes.len(),
         settings: settings.len(),
     };
-    let z = cells::sheet_refusal(b, l);
-    if z != 0 {
-        return Failure {
-            number: z,
-            cell: 0,
-            place: 0,
-        };
-    }
+    cells::check_sheet(b, l)?;
     let n = modes.len();
     let o = cells::first_outside(b, cells, n);
     if o < n {
-        return Failure {
-            number: 51,
-            cell: o,
-            place: 0,
-        };
+        return Err(Refusal::Outside(o));
     }
     let p = cells::first_overlap(cells, n);
     if p < n {
-        return Failure {
-            number: 52,
-            cell: p,
-            place: 0,
-        };
+        return Err(Refusal::Overlap(p));
     }
     let q = cells::first_bad_run(cells, n, colours.len(), coords.len(), ends.len());
     if q < n {
-        return Failure {
-            number: 53,
-            cell: q,
-            place: 0,
-        };
+        return Err(Refusal::Run(q));
     }
     check_cells(b, xs, cells, modes, settings, colours, coords, ends)
 }
@@ -276,7 +234,7 @@ pub fn msdf_sheet_error_correction(
     colours: &[u8],
     coords: &[f64],
     ends: &[usize],
-) -> Answer
+) -> Result<Corrected, Refusal>
     ensures answers { result ≡ Sheet.sheet_answer (sheet width height channels samples.old stencil.old room.old cells.now modes.now settings.now colours.now coords.now ends.now) }
     ensures leaves { stencil.new ≡ Sheet.sheet_stencil_after (sheet width height channels samples.old stencil.old room.old cells.now modes.now settings.now colours.now coords.now ends.now) }
     ensures writes { samples.new ≡ Sheet.sheet_samples_after (sheet width height channels samples.old stencil.old room.old cells.now modes.now settings.now colours.now coords.now ends.now) }
@@ -287,12 +245,9 @@ pub fn msdf_sheet_error_correction(
         height: height,
         channels: channels,
     };
-    let f = check(
+    check(
         b, samples, stencil, room, cells, modes, settings, colours, coords, ends,
-    );
-    if f.number != 0 {
-        return Answer::Refused(f.number, f.cell, f.place);
-    }
+    )?;
     stencil::fill(stencil, 0);
     let n = correct_cells(
         stencil, samples, room, b, cells, modes, settings, colours, coords, ends,
@@ -303,5 +258,8 @@ pub fn msdf_sheet_error_correction(
         error: n.error,
         corner: n.corner,
     };
-    Answer::Accepted(counts, n.tests)
+    Ok(Corrected {
+        counts,
+        tests: n.tests,
+    })
 }

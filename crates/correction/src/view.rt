@@ -21,14 +21,14 @@ pub fn texel_view<'a>(
 {
     let none = &original[0..0];
     let b = Bitmap {
-        width: width,
-        height: height,
-        channels: channels,
+        width,
+        height,
+        channels,
     };
-    if checks::size_refusal(b, original.len(), stencil.len()) != 0 {
+    if checks::check_size(b, original.len(), stencil.len()).is_err() {
         return none;
     }
-    if checks::size_refusal(b, corrected.len(), stencil.len()) != 0 {
+    if checks::check_size(b, corrected.len(), stencil.len()).is_err() {
         return none;
     }
     if x >= width {

@@ -1,14 +1,15 @@
 // What is done to a window row by row: a row's cells and samples lie side by side.
-ghost use Rattle.std.specs.Prelude.{◌≡◌, [], ◌*◌, ◌/◌, ◌<◌, eqb};
+ghost use Rattle.std.specs.Prelude.{◌≡◌, [], ◌*◌, ◌/◌, ◌<◌, eqb, IfSome, IsNone};
 ghost use Rattle.ground.specs.Lists.{painted, tab};
 ghost use Rattle.inputs.specs.Checks as Checks;
 ghost use Rattle.inputs.specs.Checks.{input};
+ghost use Rattle.inputs.specs.Refusal.{content_number_in, content_place_in};
 ghost use Rattle.inputs.specs.Inner.{Sampled, Stencilled};
 ghost use Rattle.inputs.specs.Stencil.{counts_of};
 ghost use Rattle.inputs.specs.Window.{cut_cells, cut_samples, CellsPasted};
 
 use crate::bitmap;
-use inputs::checks::Refusal;
+use inputs::refusal::ContentRefusal;
 use inputs::sizes::Window;
 use inputs::stencil::Counts;
 use inputs::{checks, stencil};
@@ -65,23 +66,21 @@ pub fn count_cells(stencil: &[u8], b: Window) -> Counts
     }
 }
 
-// The place of check 6, as the window counts its samples: the first bad one, or their number.
-fn samples_place(xs: &[f32], b: Window) -> usize
+// Check 6 of a window: the first bad sample, as the window counts its samples.
+fn first_bad_sample(xs: &[f32], b: Window) -> Option<usize>
     requires { Sampled b xs.now }
-    ensures { result ≡ Checks.samples_place (cut_samples b xs.now) }
+    ensures some { IfSome result (λ p. (p ≡ Checks.samples_place (cut_samples b xs.now)) × (p < b.height * b.width * b.channels)) }
+    ensures none { IsNone result → Checks.samples_place (cut_samples b xs.now) ≡ b.height * b.width * b.channels }
 {
     let n = b.width * b.channels;
-    let mut y = 0usize;
-    while y < b.height {
+    for y in 0..b.height {
         let from = bitmap::place(b, 0, y);
         let end = from + n;
-        let p = checks::samples_place(&xs[from..end]);
-        if p < n {
-            return y * n + p;
+        if let Some(p) = checks::first_bad_sample(&xs[from..end]) {
+            return Some(y * n + p);
         }
-        y += 1;
     }
-    y * n
+    None
 }
 
 // Checks 5 to 9 of a window as a bitmap alone, in number order; the first failure answers.
@@ -93,24 +92,14 @@ pub fn check(
     colours: &[u8],
     coords: &[f64],
     ends: &[usize],
-) -> Refusal
+) -> Result<(), ContentRefusal>
     requires { Sampled b xs.now }
-    ensures numbers { result.number ≡ Checks.content_refusal (input b.width b.height b.channels (cut_samples b xs.now) [] [] mode s colours.now coords.now ends.now) }
-    ensures places { result.place ≡ Checks.place_of (input b.width b.height b.channels (cut_samples b xs.now) [] [] mode s colours.now coords.now ends.now) result.number }
+    ensures numbers { content_number_in result ≡ Checks.content_refusal (input b.width b.height b.channels (cut_samples b xs.now) [] [] mode s colours.now coords.now ends.now) }
+    ensures places { content_place_in result ≡ Checks.place_of (input b.width b.height b.channels (cut_samples b xs.now) [] [] mode s colours.now coords.now ends.now) (content_number_in result) }
 {
-    let p = checks::settings_place(mode, s);
-    if p < 5 {
-        return Refusal {
-            number: 5,
-            place: p,
-        };
+    checks::check_settings(mode, s)?;
+    if let Some(p) = first_bad_sample(xs, b) {
+        return Err(ContentRefusal::Sample(p));
     }
-    let q = samples_place(xs, b);
-    if q < b.height * b.width * b.channels {
-        return Refusal {
-            number: 6,
-            place: q,
-        };
-    }
-    checks::outline_refusal(colours, coords, ends)
+    checks::check_outline(colours, coords, ends)
 }

@@ -2,9 +2,9 @@
 ghost use Rattle.std.specs.Prelude.{◌≡◌, ◌*◌, ◌≤◌, ◌<◌, true, cond, ◌||◌, ltb, length, IfSome, IsNone};
 ghost use Rattle.std.specs.Float.{binary32, binary64};
 ghost use Rattle.inputs.specs.Checks as Checks;
-ghost use Rattle.inputs.specs.Refusal.{number_in, place_in};
+ghost use Rattle.inputs.specs.Refusal.{number_in, place_in, content_number_in, content_place_in};
 
-use crate::refusal::Refusal as Reason;
+use crate::refusal::{ContentRefusal, Refusal as Reason};
 use crate::sizes::Bitmap;
 use ranges::config::Settings;
 use ranges::constants;
@@ -301,13 +301,13 @@ pub fn check_room(w: usize, n: usize) -> Result<(), Reason>
 }
 
 // Check 5.
-pub fn check_settings(mode: u8, s: Settings) -> Result<(), Reason>
-    ensures numbers { number_in result ≡ cond (Checks.bad_settings mode s) 5 0 }
-    ensures places { place_in result ≡ cond (Checks.bad_settings mode s) (Checks.settings_place mode s) 0 }
+pub fn check_settings(mode: u8, s: Settings) -> Result<(), ContentRefusal>
+    ensures numbers { content_number_in result ≡ cond (Checks.bad_settings mode s) 5 0 }
+    ensures places { content_place_in result ≡ cond (Checks.bad_settings mode s) (Checks.settings_place mode s) 0 }
 {
     let p = settings_place(mode, s);
     if p < 5 {
-        return Err(Reason::Setting(p));
+        return Err(ContentRefusal::Setting(p));
     }
     Ok(())
 }
@@ -322,20 +322,20 @@ pub fn first_bad_sample(xs: &[f32]) -> Option<usize>
 }
 
 // Checks 7 to 9.
-pub fn check_outline(colours: &[u8], coords: &[f64], ends: &[usize]) -> Result<(), Reason>
-    ensures numbers { number_in result ≡ Checks.outline_refusal colours.now coords.now ends.now }
-    ensures places { place_in result ≡ Checks.outline_place colours.now coords.now ends.now (number_in result) }
+pub fn check_outline(colours: &[u8], coords: &[f64], ends: &[usize]) -> Result<(), ContentRefusal>
+    ensures numbers { content_number_in result ≡ Checks.outline_refusal colours.now coords.now ends.now }
+    ensures places { content_place_in result ≡ Checks.outline_place colours.now coords.now ends.now (content_number_in result) }
 {
     if bad_outlines(colours.len(), coords.len()) {
-        return Err(Reason::OutlineLengths);
+        return Err(ContentRefusal::OutlineLengths);
     }
     let e = ends_place(ends, colours.len());
     if bad_ends(ends, colours.len(), e) {
-        return Err(Reason::End(e));
+        return Err(ContentRefusal::End(e));
     }
     let p = segments_place(colours, coords);
     if p < colours.len() {
-        return Err(Reason::Segment(p));
+        return Err(ContentRefusal::Segment(p));
     }
     Ok(())
 }

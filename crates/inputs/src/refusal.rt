@@ -1,7 +1,19 @@
-// Why what comes in is refused: the first check that fails, in the order of docs/RULES.md, with its place where it has one.
+// Why a bitmap is refused: the first check that fails, with its place where it has one. docs/RULES.md has the checks and their numbers.
 ghost use Rattle.std.specs.Prelude.{◌≡◌};
 ghost use Rattle.inputs.specs.Refusal as Rules;
+ghost use Rattle.inputs.specs.declared.refusal.Refusal.TheVariants.{Content};
 
+// Checks 5 to 9, of what a bitmap holds.
+#[derive(Clone, Copy, Debug, PartialEq, Eq)]
+pub enum ContentRefusal {
+    Setting(usize),
+    Sample(usize),
+    OutlineLengths,
+    End(usize),
+    Segment(usize),
+}
+
+// All checks: those of sizes and room, and those of what is held.
 #[derive(Clone, Copy, Debug, PartialEq, Eq)]
 pub enum Refusal {
     Channels,
@@ -9,11 +21,35 @@ pub enum Refusal {
     SampleCount,
     CellCount,
     Room,
-    Setting(usize),
-    Sample(usize),
-    OutlineLengths,
-    End(usize),
-    Segment(usize),
+    Content(ContentRefusal),
+}
+
+impl ContentRefusal {
+    // The number of the check.
+    pub fn number(self) -> u8
+        ensures { result ≡ Rules.content_number self }
+    {
+        match self {
+            ContentRefusal::Setting(_) => 5,
+            ContentRefusal::Sample(_) => 6,
+            ContentRefusal::OutlineLengths => 7,
+            ContentRefusal::End(_) => 8,
+            ContentRefusal::Segment(_) => 9,
+        }
+    }
+
+    // Its place, 0 where it has none.
+    pub fn place(self) -> usize
+        ensures { result ≡ Rules.content_place self }
+    {
+        match self {
+            ContentRefusal::Setting(p)
+            | ContentRefusal::Sample(p)
+            | ContentRefusal::End(p)
+            | ContentRefusal::Segment(p) => p,
+            ContentRefusal::OutlineLengths => 0,
+        }
+    }
 }
 
 impl Refusal {
@@ -27,11 +63,7 @@ impl Refusal {
             Refusal::SampleCount => 3,
             Refusal::CellCount => 4,
             Refusal::Room => 60,
-            Refusal::Setting(_) => 5,
-            Refusal::Sample(_) => 6,
-            Refusal::OutlineLengths => 7,
-            Refusal::End(_) => 8,
-            Refusal::Segment(_) => 9,
+            Refusal::Content(c) => c.number(),
         }
     }
 
@@ -40,8 +72,16 @@ impl Refusal {
         ensures { result ≡ Rules.place self }
     {
         match self {
-            Refusal::Setting(p) | Refusal::Sample(p) | Refusal::End(p) | Refusal::Segment(p) => p,
+            Refusal::Content(c) => c.place(),
             _ => 0,
         }
+    }
+}
+
+impl From<ContentRefusal> for Refusal {
+    ghost from_gives = { λ c r. r ≡ Content c };
+
+    fn from(c: ContentRefusal) -> Refusal {
+        Refusal::Content(c)
     }
 }

@@ -4,7 +4,7 @@ ghost use Rattle.ground.specs.Lists.{tab};
 ghost use Rattle.inputs.specs.Stencil as Stencil;
 
 // The stencil cells that are protected, those with an error, and those that a corner protects.
-#[derive(Clone, Copy)]
+#[derive(Clone, Copy, Debug, PartialEq, Eq)]
 pub struct Counts {
     pub protected: usize,
     pub error: usize,

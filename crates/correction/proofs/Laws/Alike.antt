@@ -3,6 +3,7 @@
 use mathlib.Core.Path.{◌≡◌}
 use Rattle.ground.proofs.Laws.Alike.{alike}
 use Rattle.correction.proofs.Laws.Answer.{answers_alike}
+use Rattle.correction.proofs.Laws.Failure.{results_alike}
 use Rattle.correction.proofs.pass.msdf_error_correction.Reads as entry
 use Rattle.correction.proofs.view.texel_view.Reads as view
 use Rattle.correction.proofs.sheet.msdf_sheet_error_correction.Reads as sheets
@@ -50,4 +51,4 @@ sheet_rooms_alike κs a z z' e e' p q = alike p.1.1.1 q.1.1.1
 
 -- and two answers of its checks alone, which write nothing.
 pub sheet_checks_alike : (κs : _) (a : _) (z z' : _) (e e' : _) → checks.Post κs a z e → checks.Post κs a z' e' → z ≡ z'
-sheet_checks_alike κs a z z' e e' = alike
+sheet_checks_alike κs a z z' e e' p q = results_alike z z' (alike p q)

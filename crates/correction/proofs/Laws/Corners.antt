@@ -25,7 +25,7 @@ use borrow.Author.Tests.{eq-eqb, ne_eqb}
 use Rattle.ranges.specs.Config.{disabled, edge_priority, edge_only}
 use Rattle.inputs.specs.Stencil.{has_corner, is_protected, protected_count, corner_count}
 use Rattle.inputs.specs.Checks.{Input, accepted}
-use Rattle.correction.specs.declared.pass.Answer.{Answer}
+use Rattle.correction.specs.Pass.{Answer}
 use Rattle.correction.specs.Bitmap.{cell}
 use Rattle.correction.specs.Corners.{contours, corners_protect}
 use Rattle.correction.specs.Pass.{cornered, edge_priority_protects, protects, number_of, Answers, stencil_after}

@@ -24,7 +24,7 @@ use borrow.Author.Tests.{ne_eqb, lt-ltb}
 use Rattle.numbers.proofs.Laws.Order as Order
 use Rattle.numbers.proofs.Laws.Order.{nought}
 use Rattle.ranges.specs.declared.config.Settings.{Settings}
-use Rattle.correction.specs.declared.pass.Answer.{Answer}
+use Rattle.correction.specs.Pass.{Answer}
 use Rattle.inputs.specs.Stencil.{is_error, error_count}
 use Rattle.ranges.specs.Config.{disabled}
 use Rattle.inputs.specs.Checks.{Input, bad_length, accepted}

@@ -17,16 +17,16 @@ use borrow.Fn.Kinds.{Dens}
 use borrow.Author.Tests.{eq-eqb}
 use Rattle.inputs.specs.Stencil.{is_error}
 use Rattle.inputs.specs.Window.{cell_in, cut_cells, cut_samples}
-use Rattle.correction.specs.declared.sheet.Answer.{Answer}
-use Rattle.correction.specs.declared.sheet.Answer.TheVariants.{Accepted, Refused}
+use Rattle.std.specs.Prelude.{Ok, Err}
 use Rattle.correction.specs.Pass.{stencil_after, samples_after}
 use Rattle.correction.specs.Stricter.{Stricter}
-use Rattle.correction.specs.Sheet.{Sheet, sheet, with, cells_of, area_at, window_at, alone, covers, Outside, failure, sheet_accepted, sheet_counts, sheet_tests, sheet_answer, sheet_stencil_after, sheet_samples_after, number_in}
+use Rattle.correction.specs.Sheet.{Answer, saying, Sheet, sheet, with, cells_of, area_at, window_at, alone, covers, Outside, failure, sheet_accepted, sheet_counts, sheet_tests, sheet_answer, sheet_stencil_after, sheet_samples_after, number_in}
 use Rattle.correction.specs.Reordered.{Reordered}
 use Rattle.correction.proofs.pass.msdf_error_correction.Kinds as entry_kinds
 use Rattle.correction.proofs.pass.msdf_error_correction.Reads as entry
 use Rattle.correction.proofs.sheet.msdf_sheet_error_correction.Kinds.{ps}
 use Rattle.correction.proofs.sheet.msdf_sheet_error_correction.Reads as run
+use Rattle.correction.proofs.Laws.Failure.{told_not_0}
 use Rattle.correction.proofs.Laws.Leaves as Leaves
 use Rattle.correction.proofs.Laws.Sheets.{cell_stencil, cell_samples, outside_stencil, outside_samples}
 use Rattle.correction.proofs.Laws.Cells.{sheet_monotony, cells_independent}
@@ -45,13 +45,13 @@ pub zero_accepts : (s : Sheet) (z : Answer) → z ≡ sheet_answer s → number_
 unfolding sheet_answer number_in
 zero_accepts s z e n = go (sheet_accepted s) refl (sym (ap number_in e) ∙ n)
   where
-    go : (b : Bool) → sheet_accepted s ≡ b → number_in (cond b (Accepted (sheet_counts s) (sheet_tests s)) (Refused (failure s).number (failure s).cell (failure s).place)) ≡ 0 → b ≡ true
+    go : (b : Bool) → sheet_accepted s ≡ b → number_in (cond b (Ok (record { counts = sheet_counts s; tests = sheet_tests s })) (Err (saying (failure s)))) ≡ 0 → b ≡ true
     go true q h = refl
-    go false q h = sym q ∙ accepts s h
+    go false q h = absurd (told_not_0 (saying (failure s)) h)
 
 answer_moved : (s t : Sheet) (to from : ℕ → ℕ) → Reordered s t to from → sheet_accepted s ≡ true → sheet_answer s ≡ sheet_answer t
 unfolding sheet_answer
-answer_moved s t to from r y = simp (y, reordered_accepted s t to from r y) (λ i. Accepted (reordered_counts s t to from r i) (reordered_tests s t to from r i))
+answer_moved s t to from r y = simp (y, reordered_accepted s t to from r y) (λ i. Ok (record { counts = reordered_counts s t to from r i; tests = reordered_tests s t to from r i }))
 
 -- a run that accepts
 module _ (κs : Lfts 9) (a : Dens κs ps) (z e : _) (p : run.Post κs a z e) (n : number_in z ≡ 0) where

@@ -31,9 +31,10 @@ use Rattle.inputs.proofs.Laws.Windows.{cell_held, sample_held, whole_cells, whol
 use Rattle.correction.specs.declared.cells.Area.{Area}
 use Rattle.correction.specs.Pass.{byte_at, pass_stencil, pass_samples, stencil_after, samples_after, room_after}
 use Rattle.correction.specs.Collapse.{collapsed}
-use Rattle.correction.specs.Sheet.{Sheet, cells_of, area_at, window_of, window_at, alone, bad_sheet, bad_area, first_outside, overlap, overlaps_earlier, first_overlap, bad_runs, first_bad_run, first_bad, content_failure, failure, sheet_accepted, covers, Outside, holder, within, sheet_byte, sheet_stencil, sheet_sample, sheet_samples, sheet_stencil_after, sheet_samples_after, sheet_room_after, sheet_answer}
-use Rattle.correction.specs.declared.sheet.Answer.TheVariants.{Refused}
+use Rattle.correction.specs.Sheet.{Sheet, cells_of, area_at, window_of, window_at, alone, bad_sheet, bad_area, first_outside, overlap, overlaps_earlier, first_overlap, bad_runs, first_bad_run, first_bad, content_failure, failure, sheet_accepted, covers, Outside, holder, within, sheet_byte, sheet_stencil, sheet_sample, sheet_samples, sheet_stencil_after, sheet_samples_after, sheet_room_after, sheet_answer, told, saying}
 use Rattle.correction.specs.Cells.{Ready}
+use Rattle.std.specs.Prelude.{Err}
+use Rattle.correction.proofs.Laws.Failure.{told_failure}
 use Rattle.correction.proofs.Laws.Leaves.{accepted_leaves, accepted_room}
 use Rattle.correction.proofs.cells.Areas.{apart}
 use Rattle.correction.proofs.sheet.Laid.{stages, ready, sampled, stencilled}
@@ -210,9 +211,9 @@ module _ (s : Sheet) (e : sheet_accepted s ≡ true) where
 
 -- ---- a refusal
 
-pub sheet_refused : (s : Sheet) → sheet_accepted s ≡ false → (sheet_answer s ≡ Refused (failure s).number (failure s).cell (failure s).place) × (sheet_stencil_after s ≡ s.stencil) × (sheet_samples_after s ≡ s.samples) × (sheet_room_after s ≡ s.room)
+pub sheet_refused : (s : Sheet) → sheet_accepted s ≡ false → (sheet_answer s ≡ Err (saying (failure s))) × (told (saying (failure s)) ≡ failure s) × (sheet_stencil_after s ≡ s.stencil) × (sheet_samples_after s ≡ s.samples) × (sheet_room_after s ≡ s.room)
 unfolding sheet_answer sheet_stencil_after sheet_samples_after sheet_room_after
-sheet_refused s e = (simp e, simp e, simp e, simp e)
+sheet_refused s e = (simp e, told_failure s e, simp e, simp e, simp e)
 
 -- ---- a cell that is the whole sheet
 

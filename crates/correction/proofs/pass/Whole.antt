@@ -22,9 +22,12 @@ use Rattle.inputs.specs.Inner.{Sized, Celled, Sampled, Stencilled}
 use Rattle.inputs.specs.Stencil.{counts_of}
 use Rattle.inputs.specs.Checks.{Input, input, accepted, content_refusal, place_of, refusal_number, refusal_place}
 use Rattle.inputs.proofs.Laws.Windows.{whole_cells, whole_samples, whole_sampled, whole_stencilled}
-use Rattle.correction.specs.declared.pass.Answer.TheVariants.{Accepted, Refused}
+use Rattle.std.specs.Prelude.{Ok, Err}
+use Rattle.inputs.specs.declared.refusal.Refusal.{Refusal}
+use Rattle.inputs.specs.Refusal.{number, place, refusal_with}
+use Rattle.inputs.proofs.Laws.Refusal.{told, number_not_0}
 use Rattle.correction.specs.Inner.{Cleared, cut_out}
-use Rattle.correction.specs.Pass.{texels, cornered, edge_priority_protects, protects, flags, byte_at, tests_at, pass_stencil, pass_samples, pass_tests, Answers, answer, stencil_after, samples_after, room_after}
+use Rattle.correction.specs.Pass.{texels, cornered, edge_priority_protects, protects, flags, byte_at, tests_at, pass_stencil, pass_samples, pass_tests, Answer, Answers, answer, stencil_after, samples_after, room_after}
 use Rattle.correction.proofs.Laws.Answer.{as_answered}
 
 module _ (i : Input) where
@@ -81,16 +84,20 @@ module _ (i : Input) where
             ),
           )
 
-  -- the number n and the place p of a refusal
-  pub refused : (n p : ℕ) → n ≡ refusal_number i → p ≡ refusal_place i → (n ≡ 0 → ⊥) → Answers i (Refused n p) × ((i.stencil ≡ stencil_after i) × ((i.samples ≡ samples_after i) × (i.room ≡ room_after i)))
+  -- a refusal with the number and the place of the first check that fails
+  pub refused : (r : Refusal) → number r ≡ refusal_number i → place r ≡ refusal_place i → Answers i (Err r) × ((i.stencil ≡ stencil_after i) × ((i.samples ≡ samples_after i) × (i.room ≡ room_after i)))
   unfolding answer stencil_after samples_after room_after accepted
-  refused n p e f h =
-      let t : eqb (refusal_number i) 0 ≡ false = ne_eqb _ 0 (λ q. h (e ∙ q)) in
-      (as_answered i (Refused n p) (simp (e, f, t)), (simp t, (simp t, simp t)))
+  refused r e f =
+      let t : eqb (refusal_number i) 0 ≡ false = ne_eqb _ 0 (λ q. number_not_0 r (e ∙ q)) in
+      let s : r ≡ refusal_with (refusal_number i) (refusal_place i) = sym (told r) ∙ ap (λ (k : ℕ). refusal_with k (place r)) e ∙ ap (refusal_with (refusal_number i)) f in
+      (as_answered i (Err r) (simp t (ap Err s)), (simp t, (simp t, simp t)))
 
-  pub answered : (st : List ℕ) (xs room : List Float) (c : Counts) (t : ℕ) → refusal_number i ≡ 0 → t ≡ pass_tests i → st ≡ pass_stencil i → xs ≡ pass_samples i → room ≡ tab (length i.room) (λ k. zero_of binary32) → c ≡ counts_of st → Answers i (Accepted c t) × ((st ≡ stencil_after i) × ((xs ≡ samples_after i) × (room ≡ room_after i)))
+  pub refused_as : (a : Answer) (r : Refusal) → a ≡ Err r → number r ≡ refusal_number i → place r ≡ refusal_place i → Answers i a × ((i.stencil ≡ stencil_after i) × ((i.samples ≡ samples_after i) × (i.room ≡ room_after i)))
+  refused_as a r e n p = let h = refused r n p in (subst (Answers i) (sym e) h.0, h.1)
+
+  pub answered : (st : List ℕ) (xs room : List Float) (c : Counts) (t : ℕ) → refusal_number i ≡ 0 → t ≡ pass_tests i → st ≡ pass_stencil i → xs ≡ pass_samples i → room ≡ tab (length i.room) (λ k. zero_of binary32) → c ≡ counts_of st → Answers i (Ok (record { counts = c; tests = t })) × ((st ≡ stencil_after i) × ((xs ≡ samples_after i) × (room ≡ room_after i)))
   unfolding answer stencil_after samples_after room_after accepted
   answered st xs room c t z o p q m r =
       let a : eqb (refusal_number i) 0 ≡ true = eq-eqb _ 0 z in
       let e : c ≡ counts_of (pass_stencil i) = r ∙ ap counts_of p in
-      (as_answered i (Accepted c t) (simp a (λ j. Accepted (e j) (o j))), (simp a p, (simp a q, simp a m)))
+      (as_answered i (Ok (record { counts = c; tests = t })) (simp a (λ j. Ok (record { counts = e j; tests = o j }))), (simp a p, (simp a q, simp a m)))

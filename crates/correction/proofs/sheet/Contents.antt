@@ -13,7 +13,7 @@ use lib.Ieee.{Float}
 use borrow.Author.Tests.{lt-ltb, le-ltb, eq-eqb, ne_eqb}
 use Rattle.ground.proofs.Laws.Search.{Searched, search_none, search_more, search_found, search_end}
 use Rattle.inputs.specs.Checks.{content_refusal, place_of}
-use Rattle.correction.specs.declared.sheet.Failure.{Failure}
+use Rattle.correction.specs.Sheet.{Failure}
 use Rattle.correction.specs.Sheet.{Sheet, sheet, cells_of, alone, first_bad, content_failure}
 
 -- ---- the cells in order

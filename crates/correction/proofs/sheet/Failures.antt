@@ -7,16 +7,15 @@
 --     by_run         that passes, and check 53 fails
 --     all_laid       checks 1, 50, 60, 51 and 53 pass
 --     by_cells       and 52: each cell's own checks answer
-use mathlib.Core.Path.{◌≡◌, refl, ◌∙◌}
+use mathlib.Core.Path.{◌≡◌, refl, sym, ◌∙◌, ap}
 use mathlib.Core.Bool.{Bool, true, false, cond}
 use mathlib.Core.List.{[]}
-use Prim.Native.Nat.{ℕ, ◌<◌, ◌≤◌}
-use native.Mathlib.Omega.{arith}
+use Prim.Native.Nat.{ℕ, suc, ◌<◌, ◌≤◌}
 use lib.ListN.{length}
 use Rattle.inputs.specs.Checks.{bad_channels, bad_room}
 use Rattle.inputs.proofs.Laws.Checks.{below, not_below}
-use Rattle.correction.specs.declared.sheet.Failure.{Failure}
-use Rattle.correction.specs.Sheet.{Sheet, sheet, cells_of, bad_sheet, first_outside, first_overlap, first_bad_run, content_failure, failure}
+use Rattle.correction.specs.Sheet.{Failure}
+use Rattle.correction.specs.Sheet.{Sheet, sheet, cells_of, bad_sheet, first_outside, first_overlap, first_bad_run, of_sheet, content_failure, failure}
 use Rattle.correction.specs.Cells.{AreasInside, Laid}
 use Rattle.correction.proofs.cells.Areas.{Measured, measured, areas_inside, areas_wider}
 use Rattle.correction.proofs.sheet.Laid.{laid, laid_with}
@@ -25,17 +24,21 @@ use Rattle.correction.proofs.sheet.Contents.{content_same}
 abbrev failed : ℕ → ℕ → Failure
 failed n c = record { number = n; cell = c; place = 0 }
 
--- the first of three checks that fails, where the code knows no more than its number
-one_fails : (p q t : Bool) (r : Failure) {z : ℕ} → z ≡ cond p 1 (cond q 50 (cond t 60 0)) → (z ≡ 0 → ⊥) → failed z 0 ≡ cond p (failed 1 0) (cond q (failed 50 0) (cond t (failed 60 0) r))
-one_fails true q t r e h = rw e
-one_fails false true t r e h = rw e
-one_fails false false true r e h = rw e
-one_fails false false false r e h = absurd (h e)
+-- the first of three checks that fails, where the code knows no more than what it says
+one_fails : (p q t : Bool) (r : Failure) {f : Failure} → f ≡ cond p (of_sheet 1) (cond q (of_sheet 50) (cond t (of_sheet 60) (of_sheet 0))) → (f.number ≡ 0 → ⊥) → f ≡ cond p (failed 1 0) (cond q (failed 50 0) (cond t (failed 60 0) r))
+one_fails true q t r e h = e
+one_fails false true t r e h = e
+one_fails false false true r e h = e
+one_fails false false false r e h = absurd (h (ap (λ (f : Failure). f.number) e))
 
-none_fails : (p q t : Bool) {z : ℕ} → z ≡ cond p 1 (cond q 50 (cond t 60 0)) → z ≡ 0 → (p ≡ false) × (q ≡ false) × (t ≡ false)
-none_fails true q t e h = absurd (omega arith)
-none_fails false true t e h = absurd (omega arith)
-none_fails false false true e h = absurd (omega arith)
+-- a number is not another
+numbered : {n : ℕ} {f : Failure} → f ≡ of_sheet (suc n) → f.number ≡ 0 → ⊥
+numbered e h = let z : suc _ ≡ 0 = sym (ap (λ (f : Failure). f.number) e) ∙ h in cc
+
+none_fails : (p q t : Bool) {f : Failure} → f ≡ cond p (of_sheet 1) (cond q (of_sheet 50) (cond t (of_sheet 60) (of_sheet 0))) → f.number ≡ 0 → (p ≡ false) × (q ≡ false) × (t ≡ false)
+none_fails true q t e h = absurd (numbered e h)
+none_fails false true t e h = absurd (numbered e h)
+none_fails false false true e h = absurd (numbered e h)
 none_fails false false false e h = (refl, refl, refl)
 
 module _ (s : Sheet) where
@@ -48,12 +51,12 @@ module _ (s : Sheet) where
   abbrev short : Bool
   short = bad_room s.width (length s.room)
 
-  module _ {z : ℕ} (e : z ≡ cond (bad_channels s.channels) 1 (cond unfit 50 (cond short 60 0))) where
-    pub by_sheet : (z ≡ 0 → ⊥) → failed z 0 ≡ failure s
+  module _ {z : Failure} (e : z ≡ cond (bad_channels s.channels) (of_sheet 1) (cond unfit (of_sheet 50) (cond short (of_sheet 60) (of_sheet 0)))) where
+    pub by_sheet : (z.number ≡ 0 → ⊥) → z ≡ failure s
     unfolding failure
     by_sheet h = one_fails (bad_channels s.channels) unfit short _ e h
 
-    module _ (h : z ≡ 0) where
+    module _ (h : z.number ≡ 0) where
       three : (bad_channels s.channels ≡ false) × (unfit ≡ false) × (short ≡ false)
       three = none_fails (bad_channels s.channels) unfit short e h
 

@@ -25,7 +25,7 @@ use Rattle.inputs.specs.Window.{cell_in}
 use Rattle.inputs.proofs.Laws.Checks.{channel_bound, content_outlined}
 use Rattle.inputs.proofs.Laws.Places.{cell_lt, cell_small, next_row}
 use Rattle.correction.specs.declared.cells.Area.{Area}
-use Rattle.correction.specs.declared.sheet.Failure.{Failure}
+use Rattle.correction.specs.Sheet.{Failure}
 use Rattle.correction.specs.Sheet.{Sheet, with, cells_of, area_at, window_of, window_at, alone, bad_sheet, first_outside, first_overlap, first_bad_run, first_bad, of_sheet, of_cell, content_failure, failure}
 use Rattle.correction.specs.Cells.{AreaInside, Laid, Ready}
 use Rattle.correction.proofs.sheet.Places.{in_sheet}

@@ -129,8 +129,10 @@ module _ (g : Window) where
   unfolding samples_place
   place_is xs e = e ∙ ap (λ (m : ℕ). first m (bad xs)) (sym (picked_length nan (g.height * g.width * g.channels) (sample_shown g) xs))
 
-  pub rows_searched : (xs : List Float) (y : ℕ) → Searched (bad xs) (g.height * g.width * g.channels) (y * (g.width * g.channels)) → g.height ≤ y → y * (g.width * g.channels) ≡ samples_place (cut_samples g xs)
-  rows_searched xs y i l = place_is xs (search_end i (omega (arith, mul_assoc g.height g.width g.channels, mul-le-mul_right (g.width * g.channels) l)))
+  pub rows_searched : (xs : List Float) (y : ℕ) → Searched (bad xs) (g.height * g.width * g.channels) (y * (g.width * g.channels)) → g.height ≤ y → y ≤ g.height → samples_place (cut_samples g xs) ≡ g.height * g.width * g.channels
+  rows_searched xs y i l u =
+      let e : y * (g.width * g.channels) ≡ samples_place (cut_samples g xs) = place_is xs (search_end i (omega (arith, mul_assoc g.height g.width g.channels, mul-le-mul_right (g.width * g.channels) l))) in
+      sym e ∙ ap (λ (k : ℕ). k * (g.width * g.channels)) (le_antisymm u l) ∙ sym (mul_assoc g.height g.width g.channels)
 
   module _ {xs : List Float} (s : Sampled g xs) {y from : ℕ} (l : y < g.height) (e : from ≡ cell_in g 0 y * g.channels) where
     pub sample_row : SampleRow g.width g.channels from (length xs)
@@ -165,8 +167,14 @@ module _ (g : Window) where
       unfolding part worse samples_place
       place = f ∙ ap (λ (m : ℕ). samples_place (take m (drop from xs))) (add-sub_cancel_left from n) ∙ ap (λ (m : ℕ). first m worse) (part_length xs from n sample_row.last)
 
-      pub row_searched : n ≤ p → Searched (bad xs) (g.height * g.width * g.channels) ((y + 1) * n)
-      row_searched h = subst (Searched (bad xs) (g.height * g.width * g.channels)) (sym (next_row n y)) (search_part i worse place within shown h)
+      length_is : length (take (from + n - from) (drop from xs)) ≡ n
+      length_is = ap (λ (m : ℕ). length (take m (drop from xs))) (add-sub_cancel_left from n) ∙ part_length xs from n sample_row.last
 
-      pub row_found_law : p < n → y * n + p ≡ samples_place (cut_samples g xs)
-      row_found_law h = place_is xs (search_in i worse place within shown h)
+      searched : n ≤ p → Searched (bad xs) (g.height * g.width * g.channels) ((y + 1) * n)
+      searched h = subst (Searched (bad xs) (g.height * g.width * g.channels)) (sym (next_row n y)) (search_part i worse place within shown h)
+
+      pub row_searched : p ≡ length (take (from + n - from) (drop from xs)) → Searched (bad xs) (g.height * g.width * g.channels) ((y + 1) * n)
+      row_searched h = searched (omega (arith, h, length_is))
+
+      pub row_found_law : p < length (take (from + n - from) (drop from xs)) → (y * n + p ≡ samples_place (cut_samples g xs)) × (y * n + p < g.height * g.width * g.channels)
+      row_found_law h = let b : p < n = subst (λ (m : ℕ). p < m) length_is h in (place_is xs (search_in i worse place within shown b), omega (arith, within, b))

@@ -12,16 +12,17 @@ use Rattle.inputs.specs.Inner.{Fits}
 use Rattle.inputs.specs.Checks.{size_refusal}
 use Rattle.correction.specs.View.{viewable, viewed, channels_of}
 use Rattle.inputs.proofs.Laws.Checks.{Sizes, sizes}
+use Rattle.inputs.proofs.Laws.Refusal.{err_numbered, ok_numbered}
 use Rattle.correction.proofs.bitmap.Sizes.{lies}
 use Rattle.correction.proofs.view.texel_view.Goals as goal
-use Rattle.correction.proofs.view.texel_view.Goals.{After-cell-k, After-is_error, After-place-at, After-whole-g, Else-size_refusal-ne0, Else-size_refusal-ne0-2}
+use Rattle.correction.proofs.view.texel_view.Goals.{After-cell-k, After-is_error, After-place-at, After-whole-g, Else-is_err, Else-is_err-2}
 
 -- each bitmap has passed its size checks
-original : (c : Else-size_refusal-ne0) → let a = c.args in size_refusal a.width a.height a.channels (length a.original.now) (length a.stencil.now) ≡ 0
-original c = sym c.size_refusal.ensures ∙ c.if-size_refusal-ne0.false
+original : (c : Else-is_err) → let a = c.args in size_refusal a.width a.height a.channels (length a.original.now) (length a.stencil.now) ≡ 0
+original c = sym c.check_size.ensures.numbers ∙ ok_numbered _ c.if-is_err.ensures.value
 
-corrected : (c : Else-size_refusal-ne0-2) → let a = c.args in size_refusal a.width a.height a.channels (length a.corrected.now) (length a.stencil.now) ≡ 0
-corrected c = sym c.size_refusal-2.ensures ∙ c.if-size_refusal-ne0-2.false
+corrected : (c : Else-is_err-2) → let a = c.args in size_refusal a.width a.height a.channels (length a.corrected.now) (length a.stencil.now) ≡ 0
+corrected c = sym c.check_size-2.ensures.numbers ∙ ok_numbered _ c.if-is_err-2.ensures.value
 
 -- the window is the whole
 module _ (g : Window) (w h ch x y : ℕ) (e : g ≡ whole w h ch) where
@@ -46,44 +47,44 @@ at_place c = whole_place _ _ _ _ _ _ c.whole-g.ensures c.place-at.ensures
 -- the texel has its cell, and its samples in each bitmap
 held : (c : After-place-at) → let a = c.args in let end = c.place-at.result + a.channels in (c.cell-k.result < length a.stencil.now) × (end ≤ length a.original.now) × (end ≤ length a.corrected.now) × (end ≤ 67108864)
 held c =
-    let o = lies _ _ _ _ _ _ _ (sizes _ _ _ _ _ (original (goal.at.After-place-at c).Else-size_refusal-ne0)) c.if-x-width.false c.if-y-height.false in
-    let p = lies _ _ _ _ _ _ _ (sizes _ _ _ _ _ (corrected (goal.at.After-place-at c).Else-size_refusal-ne0-2)) c.if-x-width.false c.if-y-height.false in
+    let o = lies _ _ _ _ _ _ _ (sizes _ _ _ _ _ (original (goal.at.After-place-at c).Else-is_err)) c.if-x-width.false c.if-y-height.false in
+    let p = lies _ _ _ _ _ _ _ (sizes _ _ _ _ _ (corrected (goal.at.After-place-at c).Else-is_err-2)) c.if-x-width.false c.if-y-height.false in
     omega (arith, o, p, at_cell (goal.at.After-place-at c).After-cell-k, at_place c)
 
 -- and the channels of its cell are viewed
 seen : (c : After-is_error) → let a = c.args in viewed (length a.original.now) (length a.corrected.now) a.stencil.now a.width a.height a.channels a.x a.y ≡ channels_of c.is_error.result a.channels (cell a.width a.x a.y)
 unfolding viewed viewable
 seen c =
-    rw (c.is_error.ensures, at_cell (goal.at.After-is_error c).After-cell-k, eq-eqb _ 0 (original (goal.at.After-is_error c).Else-size_refusal-ne0), eq-eqb _ 0 (corrected (goal.at.After-is_error c).Else-size_refusal-ne0-2), lt-ltb _ _ c.if-x-width.false, lt-ltb _ _ c.if-y-height.false)
+    rw (c.is_error.ensures, at_cell (goal.at.After-is_error c).After-cell-k, eq-eqb _ 0 (original (goal.at.After-is_error c).Else-is_err), eq-eqb _ 0 (corrected (goal.at.After-is_error c).Else-is_err-2), lt-ltb _ _ c.if-x-width.false, lt-ltb _ _ c.if-y-height.false)
 
-pub returns-then-size_refusal-ne0 : goal.returns-then-size_refusal-ne0
+pub returns-then-is_err : goal.returns-then-is_err
 unfolding viewed viewable
-returns-then-size_refusal-ne0 c = let o = ne_eqb _ 0 (λ q. c.if-size_refusal-ne0.true (c.size_refusal.ensures ∙ q)) in record { holds = rw o; lies = rw o }
+returns-then-is_err c = let o = ne_eqb _ 0 (λ q. err_numbered _ c.if-is_err.ensures.value (c.check_size.ensures.numbers ∙ q)) in record { holds = rw o; lies = rw o }
 
-pub returns-then-size_refusal-ne0-2 : goal.returns-then-size_refusal-ne0-2
+pub returns-then-is_err-2 : goal.returns-then-is_err-2
 unfolding viewed viewable
-returns-then-size_refusal-ne0-2 c =
-    let o = eq-eqb _ 0 (original (goal.at.returns-then-size_refusal-ne0-2 c).Else-size_refusal-ne0) in
-    let p = ne_eqb _ 0 (λ q. c.if-size_refusal-ne0-2.true (c.size_refusal-2.ensures ∙ q)) in record { holds = rw (o, p); lies = rw (o, p) }
+returns-then-is_err-2 c =
+    let o = eq-eqb _ 0 (original (goal.at.returns-then-is_err-2 c).Else-is_err) in
+    let p = ne_eqb _ 0 (λ q. err_numbered _ c.if-is_err-2.ensures.value (c.check_size-2.ensures.numbers ∙ q)) in record { holds = rw (o, p); lies = rw (o, p) }
 
 pub returns-then-x-width : goal.returns-then-x-width
 unfolding viewed viewable
 returns-then-x-width c =
-    let o = eq-eqb _ 0 (original (goal.at.returns-then-x-width c).Else-size_refusal-ne0) in
-    let p = eq-eqb _ 0 (corrected (goal.at.returns-then-x-width c).Else-size_refusal-ne0-2) in
+    let o = eq-eqb _ 0 (original (goal.at.returns-then-x-width c).Else-is_err) in
+    let p = eq-eqb _ 0 (corrected (goal.at.returns-then-x-width c).Else-is_err-2) in
     let q = le-ltb _ _ c.if-x-width.true in record { holds = rw (o, p, q); lies = rw (o, p, q) }
 
 pub returns-then-y-height : goal.returns-then-y-height
 unfolding viewed viewable
 returns-then-y-height c =
-    let o = eq-eqb _ 0 (original (goal.at.returns-then-y-height c).Else-size_refusal-ne0) in
-    let p = eq-eqb _ 0 (corrected (goal.at.returns-then-y-height c).Else-size_refusal-ne0-2) in
+    let o = eq-eqb _ 0 (original (goal.at.returns-then-y-height c).Else-is_err) in
+    let p = eq-eqb _ 0 (corrected (goal.at.returns-then-y-height c).Else-is_err-2) in
     let q = lt-ltb _ _ c.if-x-width.false in
     let r = le-ltb _ _ c.if-y-height.true in record { holds = rw (o, p, q, r); lies = rw (o, p, q, r) }
 
 -- the texel lies in the window
 within : (c : After-whole-g) → let g = c.whole-g.result in let a = c.args in Fits g × (a.x < g.width) × (a.y < g.height) × (g.channels ≤ 4)
-within c = in_whole _ _ _ _ _ _ c.whole-g.ensures (sizes _ _ _ _ _ (original (goal.at.After-whole-g c).Else-size_refusal-ne0)) c.if-x-width.false c.if-y-height.false
+within c = in_whole _ _ _ _ _ _ c.whole-g.ensures (sizes _ _ _ _ _ (original (goal.at.After-whole-g c).Else-is_err)) c.if-x-width.false c.if-y-height.false
 
 pub cell-k-requires : goal.cell-k-requires
 cell-k-requires c = let i = within c in record { fits = i.0; x_lt_width = (i.1, i.2) }
