@@ -4,4 +4,5 @@ pub mod Bounds
 pub mod Places
 pub mod Windows
 pub mod Checks
+pub mod Filled
 pub mod Alike
