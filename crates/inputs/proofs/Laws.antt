@@ -4,5 +4,6 @@ pub mod Bounds
 pub mod Places
 pub mod Windows
 pub mod Checks
+pub mod Filled
 pub mod Refusal
 pub mod Alike

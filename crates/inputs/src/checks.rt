@@ -20,20 +20,14 @@ pub struct Refusal {
 pub fn bad_channels(ch: usize) -> bool
     ensures { result ≡ Checks.bad_channels ch }
 {
-    if ch == 3 {
-        return false;
-    }
-    ch != 4
+    ch != 3 && ch != 4
 }
 
 // A side outside 1..4,096.
 fn bad_side(n: usize) -> bool
     ensures { result ≡ Checks.bad_side n }
 {
-    if 1 <= n {
-        return !(n <= 4096);
-    }
-    true
+    n < 1 || n > 4096
 }
 
 // Check 2: either side.
@@ -89,10 +83,7 @@ pub fn bad_room(w: usize, n: usize) -> bool
 fn bad_length(v: f64) -> bool
     ensures { result ≡ Checks.bad_length v }
 {
-    if v >= 0.0 {
-        return !(v <= constants::LIMIT_WIDE);
-    }
-    true
+    !(v >= 0.0 && v <= constants::LIMIT_WIDE)
 }
 
 // The place of check 5: the first that is bad, or 5.
@@ -121,10 +112,7 @@ pub fn settings_place(mode: u8, s: Settings) -> usize
 pub fn bad_sample(v: f32) -> bool
     ensures { result ≡ Checks.oversize binary32 v }
 {
-    if v >= -constants::LIMIT {
-        return !(v <= constants::LIMIT);
-    }
-    true
+    !(v >= -constants::LIMIT && v <= constants::LIMIT)
 }
 
 // No sample is bad. All are looked at, and no test waits for another.
@@ -132,10 +120,8 @@ fn all_good(xs: &[f32]) -> bool
     ensures { result ≡ true → length xs.now ≡ Checks.samples_place xs.now }
 {
     let mut good = true;
-    let mut i = 0usize;
-    while i < xs.len() {
-        good = good & ((xs[i] >= -constants::LIMIT) & (xs[i] <= constants::LIMIT));
-        i += 1;
+    for x in xs {
+        good = good & ((*x >= -constants::LIMIT) & (*x <= constants::LIMIT));
     }
     good
 }
@@ -147,24 +133,19 @@ pub fn samples_place(xs: &[f32]) -> usize
     if all_good(xs) {
         return xs.len();
     }
-    let mut i = 0usize;
-    while i < xs.len() {
-        if bad_sample(xs[i]) {
+    for (i, x) in xs.iter().enumerate() {
+        if bad_sample(*x) {
             return i;
         }
-        i += 1;
     }
-    i
+    xs.len()
 }
 
 // Check 7, of so many colours and coordinates.
 fn bad_outlines(colours: usize, coords: usize) -> bool
     ensures { result ≡ Checks.bad_outlines colours coords }
 {
-    if colours > 65536 {
-        return true;
-    }
-    coords != 2 * colours
+    colours > 65536 || coords != 2 * colours
 }
 
 // An end below the last one or above the segment count n.
@@ -178,17 +159,14 @@ fn bad_end(end: usize, last: usize, n: usize) -> bool
 fn ends_place(ends: &[usize], n: usize) -> usize
     ensures { result ≡ Checks.ends_place ends.now n }
 {
-    let mut last = 0usize;
-    let mut i = 0usize;
-    while i < ends.len() {
-        let end = ends[i];
-        if bad_end(end, last, n) {
+    let mut last = 0;
+    for (i, end) in ends.iter().enumerate() {
+        if bad_end(*end, last, n) {
             return i;
         }
-        last = end;
-        i += 1;
+        last = *end;
     }
-    i
+    ends.len()
 }
 
 // The end before end i.
@@ -211,17 +189,14 @@ fn bad_ends(ends: &[usize], n: usize, place: usize) -> bool
 fn bad_coordinate(v: f64) -> bool
     ensures { result ≡ Checks.oversize binary64 v }
 {
-    if v >= -constants::LIMIT_WIDE {
-        return !(v <= constants::LIMIT_WIDE);
-    }
-    true
+    !(v >= -constants::LIMIT_WIDE && v <= constants::LIMIT_WIDE)
 }
 
 // A colour above 7, or a bad coordinate.
 fn bad_segment(colour: u8, x: f64, y: f64) -> bool
     ensures { result ≡ (ltb 7 colour || (Checks.oversize binary64 x || Checks.oversize binary64 y)) }
 {
-    colour > 7 || (bad_coordinate(x) || bad_coordinate(y))
+    colour > 7 || bad_coordinate(x) || bad_coordinate(y)
 }
 
 // The place of check 9: the first bad segment, or their number.
@@ -229,14 +204,12 @@ fn segments_place(colours: &[u8], coords: &[f64]) -> usize
     requires { length coords.now ≡ 2 * length colours.now }
     ensures { result ≡ Checks.segments_place colours.now coords.now }
 {
-    let mut i = 0usize;
-    while i < colours.len() {
-        if bad_segment(colours[i], coords[2 * i], coords[2 * i + 1]) {
+    for (i, colour) in colours.iter().enumerate() {
+        if bad_segment(*colour, coords[2 * i], coords[2 * i + 1]) {
             return i;
         }
-        i += 1;
     }
-    i
+    colours.len()
 }
 
 // The first of checks 7 to 9 that fails, with its place.

@@ -8,9 +8,5 @@ ghost use Rattle.ground.specs.Lists.{tab};
 pub fn clear(room: &mut [f32])
     ensures { room.new ≡ tab (length room.old) (λ k. zero_of binary32) }
 {
-    let mut i = 0usize;
-    while i < room.len() {
-        room[i] = 0.0;
-        i += 1;
-    }
+    room.fill(0.0);
 }

@@ -1,4 +1,7 @@
 // The sizes of a bitmap, and of a window of a sheet.
+ghost use Rattle.std.specs.Prelude.{◌≡◌};
+ghost use Rattle.inputs.specs.Bounds.{in_bounds};
+
 #[derive(Clone, Copy)]
 pub struct Bitmap {
     pub width: usize,
@@ -15,4 +18,11 @@ pub struct Window {
     pub channels: usize,
     pub origin: usize,
     pub stride: usize,
+}
+
+// Column nx and row ny, counted from 1, are inside.
+pub fn in_bounds(width: usize, height: usize, nx: usize, ny: usize) -> bool
+    ensures { result ≡ in_bounds width height nx ny }
+{
+    0 < nx && nx <= width && 0 < ny && ny <= height
 }

@@ -80,30 +80,24 @@ pub fn set_both(v: u8) -> u8
 pub fn fill(stencil: &mut [u8], v: u8)
     ensures { stencil.new ≡ tab (length stencil.old) (λ k. v) }
 {
-    let mut i = 0usize;
-    while i < stencil.len() {
-        stencil[i] = v;
-        i += 1;
-    }
+    stencil.fill(v);
 }
 
 // How many cells have each bit.
 pub fn count_cells(stencil: &[u8]) -> Counts
     ensures { result ≡ Stencil.counts_of stencil.now }
 {
-    let mut p = 0usize;
-    let mut e = 0usize;
-    let mut c = 0usize;
-    let mut i = 0usize;
-    while i < stencil.len() {
-        p += (stencil[i] / PROTECTED % 2) as usize;
-        e += (stencil[i] / ERROR % 2) as usize;
-        c += (stencil[i] / CORNER % 2) as usize;
-        i += 1;
+    let mut protected = 0;
+    let mut error = 0;
+    let mut corner = 0;
+    for v in stencil {
+        protected += (*v / PROTECTED % 2) as usize;
+        error += (*v / ERROR % 2) as usize;
+        corner += (*v / CORNER % 2) as usize;
     }
     Counts {
-        protected: p,
-        error: e,
-        corner: c,
+        protected,
+        error,
+        corner,
     }
 }

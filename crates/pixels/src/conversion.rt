@@ -63,10 +63,8 @@ fn write_bytes(samples: &[f32], bytes: &mut [u8])
     requires { Checks.refusal_number samples.now (length bytes.old) ≡ 0 }
     ensures { bytes.new ≡ Bytes.bytes_of samples.now }
 {
-    let mut i = 0usize;
-    while i < samples.len() {
-        bytes[i] = float_to_byte(samples[i]);
-        i += 1;
+    for (i, byte) in bytes.iter_mut().enumerate() {
+        *byte = float_to_byte(samples[i]);
     }
 }
 
@@ -75,10 +73,8 @@ fn write_samples(bytes: &[u8], samples: &mut [f32])
     requires { length samples.old ≡ length bytes.now }
     ensures { samples.new ≡ Bytes.samples_of bytes.now }
 {
-    let mut i = 0usize;
-    while i < samples.len() {
-        samples[i] = byte_to_float(bytes[i]);
-        i += 1;
+    for (i, sample) in samples.iter_mut().enumerate() {
+        *sample = byte_to_float(bytes[i]);
     }
 }
 

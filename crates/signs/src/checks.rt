@@ -11,20 +11,14 @@ use inputs::sizes::Bitmap;
 fn refused(number: u8, place: usize) -> Refusal
     ensures { (result.number ≡ number) × (result.place ≡ place) }
 {
-    Refusal {
-        number: number,
-        place: place,
-    }
+    Refusal { number, place }
 }
 
 // Check 1.
 fn bad_channels(ch: usize) -> bool
     ensures { result ≡ Checks.bad_channels ch }
 {
-    if ch == 1 {
-        return false;
-    }
-    checks::bad_channels(ch)
+    ch != 1 && checks::bad_channels(ch)
 }
 
 // The first of checks 1 to 3 that fails, of a bitmap with n samples; 0 where all pass.
@@ -48,10 +42,8 @@ fn some_above(filled: &[u8]) -> bool
     ensures { result ≡ Checks.some_above filled.now }
 {
     let mut bad = false;
-    let mut k = 0usize;
-    while k < filled.len() {
-        bad = bad | (filled[k] > 1);
-        k += 1;
+    for byte in filled {
+        bad |= *byte > 1;
     }
     bad
 }
@@ -60,10 +52,7 @@ fn some_above(filled: &[u8]) -> bool
 fn bad_filled(filled: &[u8], n: usize) -> bool
     ensures { result ≡ Checks.bad_filled n filled.now }
 {
-    if filled.len() != n {
-        return true;
-    }
-    some_above(filled)
+    filled.len() != n || some_above(filled)
 }
 
 // The first of all checks that fails, with its place; 0 and 0 where all pass.

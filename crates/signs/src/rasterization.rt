@@ -2,7 +2,6 @@
 ghost use Rattle.std.specs.Prelude.{◌≡◌, ◌+◌, ◌*◌, ◌/◌, ◌%◌, ◌<◌, ◌≤◌, not, cond, ◌&&◌, T, eqb, pos, length, get_or};
 ghost use Rattle.std.specs.Float.{nan};
 ghost use Rattle.std.specs.Float.Ieee.{is_nan};
-ghost use Rattle.inputs.specs.Bounds.{in_bounds};
 ghost use Rattle.numbers.specs.Scalar.{median_of};
 ghost use Rattle.ground.specs.Lists.{tab};
 ghost use Rattle.signs.specs.Flip as Flip;
@@ -13,6 +12,7 @@ ghost use Rattle.signs.specs.Inner.{two_of, flipped_at, turns_at, Mapped, Number
 
 use crate::checks;
 use inputs::checks::Refusal;
+use inputs::sizes;
 use inputs::sizes::Bitmap;
 
 // The value turned over to the other side.
@@ -45,11 +45,9 @@ fn correct_alone(xs: &mut [f32], ch: usize, c: usize, zero: f32, filled: &[u8])
     requires { (length xs.old ≡ length filled.now * ch) × (c < ch) × (length xs.old ≤ 67108864) }
     ensures { xs.new ≡ Signs.flipped_where zero (λ j. eqb (j % ch) c && Flip.is_amiss zero (Signs.filled_at filled.now (j / ch)) (get_or xs.old j nan)) xs.old }
 {
-    let mut k = 0usize;
-    while k < filled.len() {
+    for (k, byte) in filled.iter().enumerate() {
         let at = k * ch + c;
-        xs[at] = corrected(zero, filled[k] == 1, xs[at]);
-        k += 1;
+        xs[at] = corrected(zero, *byte == 1, xs[at]);
     }
 }
 
@@ -75,23 +73,20 @@ fn match_of(zero: f32, filled: bool, a: f32, b: f32, c: f32) -> i8
 
 // The match of every texel.
 fn write_matches(matches: &mut [i8], xs: &[f32], ch: usize, zero: f32, filled: &[u8])
-    requires xs_len { (length xs.now ≡ length filled.now * ch) × (3 ≤ ch) × (length xs.now ≤ 67108864) × (length matches.old ≡ length filled.now) }
-    requires t { T (not (is_nan zero)) × Numbers xs.now }
+    requires sizes { (length xs.now ≡ length filled.now * ch) × (3 ≤ ch) × (length xs.now ≤ 67108864) × (length matches.old ≡ length filled.now) }
+    requires numbers { T (not (is_nan zero)) × Numbers xs.now }
     ensures { matches.new ≡ tab (length filled.now) (Signs.match_at xs.now ch zero filled.now) }
 {
-    let mut k = 0usize;
-    while k < filled.len() {
+    for (k, m) in matches.iter_mut().enumerate() {
         let at = k * ch;
-        let m = match_of(zero, filled[k] == 1, xs[at], xs[at + 1], xs[at + 2]);
-        matches[k] = m;
-        k += 1;
+        *m = match_of(zero, filled[k] == 1, xs[at], xs[at + 1], xs[at + 2]);
     }
 }
 
 // The same of three or four channels: a number that is known beforehand lets the loop take several texels at once.
 fn match_texels(matches: &mut [i8], xs: &[f32], ch: usize, zero: f32, filled: &[u8])
-    requires xs_len { (length xs.now ≡ length filled.now * ch) × (3 ≤ ch) × (ch ≤ 4) × (length xs.now ≤ 67108864) × (length matches.old ≡ length filled.now) }
-    requires t { T (not (is_nan zero)) × Numbers xs.now }
+    requires sizes { (length xs.now ≡ length filled.now * ch) × (3 ≤ ch) × (ch ≤ 4) × (length xs.now ≤ 67108864) × (length matches.old ≡ length filled.now) }
+    requires numbers { T (not (is_nan zero)) × Numbers xs.now }
     ensures { matches.new ≡ tab (length filled.now) (Signs.match_at xs.now ch zero filled.now) }
 {
     if ch == 3 {
@@ -105,26 +100,15 @@ fn match_texels(matches: &mut [i8], xs: &[f32], ch: usize, zero: f32, filled: &[
 fn clear_matches(matches: &mut [i8])
     ensures { matches.new ≡ tab (length matches.old) (λ k. pos 0) }
 {
-    let mut k = 0usize;
-    while k < matches.len() {
-        matches[k] = 0;
-        k += 1;
-    }
+    matches.fill(0);
 }
 
-// Column nx and row ny, counted from 1, are inside.
-fn in_bounds(b: Bitmap, nx: usize, ny: usize) -> bool
-    ensures { result ≡ in_bounds b.width b.height nx ny }
-{
-    0 < nx && (nx <= b.width && (0 < ny && ny <= b.height))
-}
-
-// The match there, and 0 where they are not.
+// The match at column nx and row ny, counted from 1, and 0 where they are not inside.
 fn match_near(ms: &[i8], b: Bitmap, nx: usize, ny: usize) -> i32
     requires { Mapped b.width b.height ms.now }
     ensures { result ≡ Signs.match_near b.width b.height ms.now nx ny }
 {
-    if in_bounds(b, nx, ny) {
+    if sizes::in_bounds(b.width, b.height, nx, ny) {
         let m = ms[(ny - 1) * b.width + (nx - 1)];
         return m as i32;
     }
@@ -134,7 +118,7 @@ fn match_near(ms: &[i8], b: Bitmap, nx: usize, ny: usize) -> i32
 // The sum of the four matches around texel x, y.
 fn vote(ms: &[i8], b: Bitmap, x: usize, y: usize) -> i32
     requires mapped { Mapped b.width b.height ms.now }
-    requires x_lt_width { (x < b.width) × (y < b.height) }
+    requires inside { (x < b.width) × (y < b.height) }
     ensures { result ≡ Signs.vote b.width b.height ms.now x y }
 {
     let left = match_near(ms, b, x, y + 1);
@@ -147,7 +131,7 @@ fn vote(ms: &[i8], b: Bitmap, x: usize, y: usize) -> i32
 // Whether the first three channels of texel x, y, whose number is k, are flipped.
 fn turns(ms: &[i8], b: Bitmap, k: usize, x: usize, y: usize) -> bool
     requires mapped { Mapped b.width b.height ms.now }
-    requires k_value { (k ≡ y * b.width + x) × (x < b.width) × (y < b.height) }
+    requires placed { (k ≡ y * b.width + x) × (x < b.width) × (y < b.height) }
     ensures { result ≡ Signs.turns b.width b.height ms.now x y }
 {
     let m = ms[k];
@@ -184,20 +168,14 @@ fn flip_texel(xs: &mut [f32], at: usize, zero: f32, turn: bool)
 // Flips the first three channels of every texel that turns.
 fn flip_texels(xs: &mut [f32], ms: &[i8], b: Bitmap, zero: f32)
     requires mapped { Mapped b.width b.height ms.now }
-    requires le_channels { (3 ≤ b.channels) × (b.channels ≤ 4) × (length xs.old ≡ length ms.now * b.channels) }
+    requires sizes { (3 ≤ b.channels) × (b.channels ≤ 4) × (length xs.old ≡ length ms.now * b.channels) }
     ensures { xs.new ≡ Signs.flipped_where zero (turns_at b.width b.height b.channels ms.now) xs.old }
 {
-    let mut k = 0usize;
-    let mut x = 0usize;
-    let mut y = 0usize;
-    while k < ms.len() {
-        let turn = turns(ms, b, k, x, y);
-        flip_texel(xs, k * b.channels, zero, turn);
-        k += 1;
-        x += 1;
-        if x == b.width {
-            x = 0;
-            y += 1;
+    for y in 0..b.height {
+        for x in 0..b.width {
+            let k = y * b.width + x;
+            let turn = turns(ms, b, k, x, y);
+            flip_texel(xs, k * b.channels, zero, turn);
         }
     }
 }
@@ -236,9 +214,9 @@ pub fn distance_sign_correction(
     ensures leaves { matches.new ≡ Signs.matches_after (input width height channels samples.old zero filled.now matches.old) }
 {
     let b = Bitmap {
-        width: width,
-        height: height,
-        channels: channels,
+        width,
+        height,
+        channels,
     };
     let f = checks::refusal(b, samples, zero, filled, matches);
     if f.number == 0 {

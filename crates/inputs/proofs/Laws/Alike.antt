@@ -2,6 +2,8 @@
 -- `Post` is a function's promise as the checker makes it of the `ensures` in the source. No public function has a `requires`.
 use mathlib.Core.Path.{◌≡◌, ◌∙◌}
 use Rattle.ground.proofs.Laws.Alike.{Alike, alike}
+use Rattle.inputs.proofs.sizes.in_bounds.Kinds as in_bounds_kinds
+use Rattle.inputs.proofs.sizes.in_bounds.Reads as in_bounds
 use Rattle.inputs.proofs.stencil.is_error.Kinds as is_error_kinds
 use Rattle.inputs.proofs.stencil.is_error.Reads as is_error
 use Rattle.inputs.proofs.stencil.is_protected.Kinds as is_protected_kinds
@@ -36,6 +38,10 @@ use Rattle.inputs.proofs.checks.samples_place.Kinds as samples_place_kinds
 use Rattle.inputs.proofs.checks.samples_place.Reads as samples_place
 use Rattle.inputs.proofs.checks.outline_refusal.Kinds as outline_refusal_kinds
 use Rattle.inputs.proofs.checks.outline_refusal.Reads as outline_refusal
+
+-- Whether a column and a row are inside.
+pub in_bounds_alike : Alike 0 in_bounds_kinds.ps in_bounds_kinds.r in_bounds.Post
+in_bounds_alike κs a r s e f = alike
 
 -- The bits of a byte.
 pub is_error_alike : Alike 0 is_error_kinds.ps is_error_kinds.r is_error.Post

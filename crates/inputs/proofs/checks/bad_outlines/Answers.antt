@@ -7,6 +7,6 @@ pub returns-then-colours-gt65536 : goal.returns-then-colours-gt65536
 unfolding bad_outlines
 returns-then-colours-gt65536 c = simp (lt-ltb _ _ c.if-colours-gt65536.true)
 
-pub returns : goal.returns
+pub returns-else-colours-gt65536 : goal.returns-else-colours-gt65536
 unfolding bad_outlines
-returns c = simp (le-ltb _ _ c.if-colours-gt65536.false)
+returns-else-colours-gt65536 c = simp (le-ltb _ _ c.if-colours-gt65536.false)

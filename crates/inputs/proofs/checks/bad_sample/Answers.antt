@@ -1,11 +1,8 @@
 -- `inputs::checks::bad_sample` meets its contract. Assumes nothing.
 use Rattle.inputs.specs.Checks.{oversize}
 use Rattle.inputs.proofs.checks.bad_sample.Goals as goal
-
-pub returns-then-v : goal.returns-then-v
-unfolding oversize
-returns-then-v c = simp c.if-v.true
+use Rattle.inputs.proofs.checks.bad_sample.Goals.{then-v, else-v}
 
 pub returns : goal.returns
 unfolding oversize
-returns c = simp c.if-v.false
+returns c = elim c.if-v.branch [ then-v w ↦ simp (w.result-is, w.if-v.true) | else-v w ↦ simp (w.result-is, w.if-v.false) ]

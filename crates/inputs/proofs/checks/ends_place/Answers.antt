@@ -1,5 +1,5 @@
 -- `inputs::checks::ends_place` meets its contract: no end before the loop's is bad, and the loop carries the end before its own. Assumes nothing.
-use mathlib.Core.Path.{◌≡◌, sym}
+use mathlib.Core.Path.{◌∙◌, ◌≡◌, sym}
 use native.Mathlib.Omega.{arith}
 use native.Mathlib.Numerals.{add-one}
 use Rattle.inputs.specs.Checks.{bad_end, ends_place}
@@ -16,18 +16,15 @@ answer c = rw (← c.loop-i.invariant.1) c.bad_end.ensures
 pub returns-then-bad_end : goal.returns-then-bad_end
 unfolding ends_place
 returns-then-bad_end c =
-    search_found c.loop-i.invariant.0 c.loop-i-test.true (answer (goal.at.returns-then-bad_end c).After-bad_end) c.if-bad_end.true
+    search_found c.loop-i.invariant.0 (omega arith) (answer (goal.at.returns-then-bad_end c).After-bad_end) c.if-bad_end.true
 
 pub loop-i-preserved : goal.loop-i-preserved
 loop-i-preserved c =
-    (search_more c.loop-i.invariant.0 c.loop-i-test.true (answer (goal.at.loop-i-preserved c).After-bad_end) c.if-bad_end.false, sym (before_next _ _ _ (add-one _)))
+    (search_more c.loop-i.invariant.0 (omega arith) (answer (goal.at.loop-i-preserved c).After-bad_end) c.if-bad_end.false, sym (before_next _ _ _ (add-one _)))
 
 pub returns : goal.returns
 unfolding ends_place
-returns c = search_end c.loop-i.invariant.0 c.loop-i-test.false
+returns c = (omega (arith, c.loop-i.invariant.0.high)) ∙ search_end c.loop-i.invariant.0 c.loop-i-test.false
 
 pub loop-i-init : goal.loop-i-init
 loop-i-init c = (search_none _ _, sym (before_first _))
-
-pub loop-i-smaller : goal.loop-i-smaller
-loop-i-smaller c = omega arith

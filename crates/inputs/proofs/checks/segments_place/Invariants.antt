@@ -1,5 +1,4 @@
 -- `inputs::checks::segments_place` meets its contract: no segment before the loop's is bad. Assumes nothing.
-use Prim.Native.Nat.{◌-◌}
 use lib.ListN.{length}
 use Rattle.inputs.specs.Checks.{bad_segment}
 use Rattle.ground.proofs.Laws.Search.{Searched}
@@ -7,6 +6,3 @@ use Rattle.inputs.proofs.checks.segments_place.Given as goal
 
 abbrev pub invariant-loop-i : goal.invariant-loop-i
 invariant-loop-i l = Searched (bad_segment l.colours l.coords) (length l.colours) l.i
-
-abbrev pub decreases-loop-i : goal.decreases-loop-i
-decreases-loop-i l = length l.colours - l.i

@@ -7,6 +7,6 @@ pub returns-then-filled-n : goal.returns-then-filled-n
 unfolding bad_filled
 returns-then-filled-n c = simp (ne_eqb _ _ c.if-filled-n.true)
 
-pub returns : goal.returns
+pub returns-else-filled-n : goal.returns-else-filled-n
 unfolding bad_filled
-returns c = simp (eq-eqb _ _ c.if-filled-n.false) c.some_above.ensures
+returns-else-filled-n c = simp (eq-eqb _ _ c.if-filled-n.false) c.some_above.ensures

@@ -1,4 +1,4 @@
--- `signs::checks::some_above` meets its contract: so far the test is that of the bytes before k. Assumes nothing.
+-- `signs::checks::some_above` meets its contract: so far the test is that of the bytes before the loop's. Assumes nothing.
 use mathlib.Core.Path.{◌≡◌, refl, ◌∙◌}
 use native.Mathlib.Omega.{arith}
 use native.Mathlib.Numerals.{add-one}
@@ -7,22 +7,17 @@ use Rattle.ground.specs.Lists.{any}
 use Rattle.signs.specs.Checks.{some_above}
 use Rattle.signs.proofs.checks.some_above.Goals as goal
 
-pub loop-k-init : goal.loop-k-init
+pub loop-byte-init : goal.loop-byte-init
 unfolding any
-loop-k-init c = (omega arith, refl)
+loop-byte-init c = refl
 
-pub loop-k-preserved : goal.loop-k-preserved
+pub loop-byte-preserved : goal.loop-byte-preserved
 unfolding any
-loop-k-preserved c =
-    let l = c.loop-k in
-    (omega arith, rw (add-one, l.invariant.1))
+loop-byte-preserved c = rw (add-one, c.loop-byte.invariant)
 
 pub returns : goal.returns
 unfolding some_above
 returns c =
-    let l = c.loop-k in
-    let e : l.k ≡ length c.args.filled.now = omega (arith, l.invariant.0, c.loop-k-test.false) in
-    l.invariant.1 ∙ rw e
-
-pub loop-k-smaller : goal.loop-k-smaller
-loop-k-smaller c = omega arith
+    let l = c.loop-byte in
+    let e : l.byte-index ≡ length c.args.filled.now = omega (arith, l.auto.byte-index-end, c.loop-byte-test.false) in
+    l.invariant ∙ rw e

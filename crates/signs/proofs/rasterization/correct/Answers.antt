@@ -44,12 +44,12 @@ mapped s ms e =
 
 pub match_texels-requires : goal.match_texels-requires
 match_texels-requires c =
-    let p = ok (goal.at.match_texels-requires c).Start in record { xs_len = (many (given (goal.at.match_texels-requires c).Start) p, some (given (goal.at.match_texels-requires c).Start) p c.if-b-eq1.false, p.sizes.few, few (given (goal.at.match_texels-requires c).Start) p, p.matches ∙ sym p.filled); t = (good_number binary32 _ p.zero, numbers (given (goal.at.match_texels-requires c).Start) p) }
+    let p = ok (goal.at.match_texels-requires c).Start in record { sizes = (many (given (goal.at.match_texels-requires c).Start) p, some (given (goal.at.match_texels-requires c).Start) p c.if-b-eq1.false, p.sizes.few, few (given (goal.at.match_texels-requires c).Start) p, p.matches ∙ sym p.filled); numbers = (good_number binary32 _ p.zero, numbers (given (goal.at.match_texels-requires c).Start) p) }
 
 pub flip_texels-requires : goal.flip_texels-requires
 flip_texels-requires c =
     let p = ok (goal.at.flip_texels-requires c).Start in
-    let g = mapped (goal.at.flip_texels-requires c).Start c.match_texels.new.matches c.match_texels.ensures in record { mapped = g; le_channels = (some (given (goal.at.flip_texels-requires c).Start) p c.if-b-eq1.false, p.sizes.few, many (given (goal.at.flip_texels-requires c).Start) p ∙ ap (λ (n : ℕ). n * c.args.b.channels) (texels (given (goal.at.flip_texels-requires c).Start) p ∙ sym g.long)) }
+    let g = mapped (goal.at.flip_texels-requires c).Start c.match_texels.new.matches c.match_texels.ensures in record { mapped = g; sizes = (some (given (goal.at.flip_texels-requires c).Start) p c.if-b-eq1.false, p.sizes.few, many (given (goal.at.flip_texels-requires c).Start) p ∙ ap (λ (n : ℕ). n * c.args.b.channels) (texels (given (goal.at.flip_texels-requires c).Start) p ∙ sym g.long)) }
 
 -- the samples are as many as they were
 still : (f : After-flip_texels) → length f.flip_texels.new.xs ≡ length f.args.xs.now

@@ -1,9 +1,9 @@
 -- `signs::rasterization::correct_alone` meets its contract: channel c has gone by its own comparison in the first k texels. Assumes nothing.
 use mathlib.Core.Bool.{Bool, ◌&&◌}
 use mathlib.Core.List.{List}
-use Prim.Native.Nat.{ℕ, ◌-◌, ◌*◌, ◌/◌, ◌%◌, ◌≤◌}
+use Prim.Native.Nat.{ℕ, ◌*◌, ◌/◌, ◌%◌}
 use lib.Dec.{eqb}
-use lib.ListN.{length, get_or}
+use lib.ListN.{get_or}
 use lib.Ieee.{Float, nan}
 use Rattle.signs.specs.Flip.{is_amiss}
 use Rattle.signs.specs.Signs.{filled_at}
@@ -15,7 +15,4 @@ abbrev pub goes : Float → ℕ → ℕ → List ℕ → List Float → ℕ → 
 goes zero ch c filled xs j = eqb (j % ch) c && is_amiss zero (filled_at filled (j / ch)) (get_or xs j nan)
 
 abbrev pub invariant-loop-k : goal.invariant-loop-k
-invariant-loop-k l = (l.k ≤ length l.filled) × Flipping l.zero (goes l.zero l.ch l.c l.filled l.initial.xs) l.initial.xs (l.k * l.ch) l.xs
-
-abbrev pub decreases-loop-k : goal.decreases-loop-k
-decreases-loop-k l = length l.filled - l.k
+invariant-loop-k l = Flipping l.zero (goes l.zero l.ch l.c l.filled l.initial.xs) l.initial.xs (l.k * l.ch) l.xs

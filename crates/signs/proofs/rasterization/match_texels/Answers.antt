@@ -10,15 +10,15 @@ use Rattle.signs.proofs.rasterization.match_texels.Goals.{Else-ch-eq3}
 
 -- four, where it is not three
 four : (c : Else-ch-eq3) → c.args.ch ≡ 4
-four c = let p = c.requires.xs_len in omega (arith, p.1, p.2, c.if-ch-eq3.false)
+four c = let p = c.requires.sizes in omega (arith, p.1, p.2, c.if-ch-eq3.false)
 
 pub write_matches-requires : goal.write_matches-requires
 write_matches-requires c =
-    let p = c.requires in record { xs_len = (subst (λ (n : ℕ). length c.args.xs.now ≡ length c.args.filled.now * n) c.if-ch-eq3.true p.xs_len.0, omega arith, p.xs_len.3, p.xs_len.4); t = p.t }
+    let p = c.requires in record { sizes = (subst (λ (n : ℕ). length c.args.xs.now ≡ length c.args.filled.now * n) c.if-ch-eq3.true p.sizes.0, omega arith, p.sizes.3, p.sizes.4); numbers = p.numbers }
 
 pub write_matches-requires-else-ch-eq3 : goal.write_matches-requires-else-ch-eq3
 write_matches-requires-else-ch-eq3 c =
-    let p = c.requires in record { xs_len = (subst (λ (n : ℕ). length c.args.xs.now ≡ length c.args.filled.now * n) (four (goal.at.write_matches-requires-else-ch-eq3 c).Else-ch-eq3) p.xs_len.0, omega arith, p.xs_len.3, p.xs_len.4); t = p.t }
+    let p = c.requires in record { sizes = (subst (λ (n : ℕ). length c.args.xs.now ≡ length c.args.filled.now * n) (four (goal.at.write_matches-requires-else-ch-eq3 c).Else-ch-eq3) p.sizes.0, omega arith, p.sizes.3, p.sizes.4); numbers = p.numbers }
 
 pub returns-then-ch-eq3 : goal.returns-then-ch-eq3
 returns-then-ch-eq3 c =

@@ -15,7 +15,7 @@ use Rattle.signs.proofs.rasterization.Votes.{held8, held32, is_nought_law, vote_
 use Rattle.signs.proofs.rasterization.turns.Goals as goal
 
 pub bounds-ms-k : goal.bounds-ms-k
-bounds-ms-k c = let p = c.requires in rw (p.k_value.0, p.mapped.long) (cell_lt _ _ _ _ p.k_value.1 p.k_value.2)
+bounds-ms-k c = let p = c.requires in rw (p.placed.0, p.mapped.long) (cell_lt _ _ _ _ p.placed.1 p.placed.2)
 
 -- a match whose bits are not 0 is not 0
 not_nought : (z : ℤ) → (of_z w8 z ≡ 0 → ⊥) → is_nought z ≡ false
@@ -38,7 +38,7 @@ returns-then-m-eq0 c =
     let v = vote a.b.width a.b.height a.ms.now a.x a.y in
     let small : UpTo 4 c.vote-v.result = subst (UpTo 4) (sym c.vote-v.ensures) (vote_small _ _ _ _ _ held) in
     let z : get_or a.ms.now a.k (pos 0) ≡ pos 0 = is_nought_law _ (held _) c.if-m-eq0.true in
-    by_vote _ v _ (subst (λ (k : ℕ). get_or a.ms.now k (pos 0) ≡ pos 0) s.requires.k_value.0 z) (ap (λ (x : ℤ). lt_z x (pos 0)) (held32 _ small ∙ c.vote-v.ensures))
+    by_vote _ v _ (subst (λ (k : ℕ). get_or a.ms.now k (pos 0) ≡ pos 0) s.requires.placed.0 z) (ap (λ (x : ℤ). lt_z x (pos 0)) (held32 _ small ∙ c.vote-v.ensures))
 
 pub returns : goal.returns
 unfolding turns
@@ -47,5 +47,5 @@ returns c =
     let a = s.args in
     let v = vote a.b.width a.b.height a.ms.now a.x a.y in
     subst (λ (k : ℕ). lt_z (to_z w8 (of_z w8 (get_or a.ms.now a.k (pos 0)))) (pos 0) ≡ cond (is_nought (get_or a.ms.now k (pos 0))) (lt_z v (pos 0)) (lt_z (get_or a.ms.now k (pos 0)) (pos 0)))
-    s.requires.k_value.0
+    s.requires.placed.0
     (let z = get_or a.ms.now a.k (pos 0) in by_match z v (s.requires.mapped.held a.k) (not_nought z c.if-m-eq0.false))

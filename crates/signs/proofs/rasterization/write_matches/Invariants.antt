@@ -1,13 +1,8 @@
 -- `signs::rasterization::write_matches` meets its contract, by the laws of a loop that fills. Assumes nothing.
-use Prim.Native.Nat.{◌-◌, ◌≤◌}
-use lib.ListN.{length}
 use lib.IntN.{pos}
 use Rattle.ground.proofs.Laws.Fill.{Filled}
 use Rattle.signs.specs.Signs.{match_at}
 use Rattle.signs.proofs.rasterization.write_matches.Given as goal
 
 abbrev pub invariant-loop-k : goal.invariant-loop-k
-invariant-loop-k l = (l.k ≤ length l.filled) × Filled (pos 0) (match_at l.xs l.ch l.zero l.filled) l.initial.matches l.k l.matches
-
-abbrev pub decreases-loop-k : goal.decreases-loop-k
-decreases-loop-k l = length l.filled - l.k
+invariant-loop-k l = Filled (pos 0) (match_at l.xs l.ch l.zero l.filled) l.initial.matches l.k l.matches
