@@ -36,9 +36,9 @@ pub fn msdf_error_correction(
     ensures clears { room.new ≡ Pass.room_after (input width height channels samples.old stencil.old room.old mode settings colours.now coords.now ends.now) }
 {
     let b = Bitmap {
-        width: width,
-        height: height,
-        channels: channels,
+        width,
+        height,
+        channels,
     };
     let n = checks::size_refusal(b, samples.len(), stencil.len());
     if n != 0 {

@@ -90,8 +90,7 @@ fn check_cells(
     requires { Laid (sheet b.width b.height b.channels xs.now [] [] cells.now modes.now settings.now colours.now coords.now ends.now) }
     ensures { result ≡ Sheet.content_failure (sheet b.width b.height b.channels xs.now [] [] cells.now modes.now settings.now colours.now coords.now ends.now) }
 {
-    let mut c = 0usize;
-    while c < modes.len() {
+    for c in 0..modes.len() {
         let f = check_cell(b, xs, cells, modes, settings, colours, coords, ends, c);
         if f.number != 0 {
             return Failure {
@@ -100,7 +99,6 @@ fn check_cells(
                 place: f.place,
             };
         }
-        c += 1;
     }
     Failure {
         number: 0,
@@ -141,27 +139,24 @@ pub fn check(
         };
     }
     let n = modes.len();
-    let o = cells::first_outside(b, cells, n);
-    if o < n {
+    if let Some(cell) = cells::first_outside(b, cells, n) {
         return Failure {
             number: 51,
-            cell: o,
+            cell,
             place: 0,
         };
     }
-    let p = cells::first_overlap(cells, n);
-    if p < n {
+    if let Some(cell) = cells::first_overlap(cells, n) {
         return Failure {
             number: 52,
-            cell: p,
+            cell,
             place: 0,
         };
     }
-    let q = cells::first_bad_run(cells, n, colours.len(), coords.len(), ends.len());
-    if q < n {
+    if let Some(cell) = cells::first_bad_run(cells, n, colours.len(), coords.len(), ends.len()) {
         return Failure {
             number: 53,
-            cell: q,
+            cell,
             place: 0,
         };
     }
@@ -215,7 +210,7 @@ fn correct_cell(
         protected: n.protected,
         error: n.error,
         corner: n.corner,
-        tests: tests,
+        tests,
     }
 }
 
@@ -243,8 +238,7 @@ fn correct_cells(
     let mut e = 0usize;
     let mut r = 0usize;
     let mut t = 0usize;
-    let mut c = 0usize;
-    while c < modes.len() {
+    for c in 0..modes.len() {
         let n = correct_cell(
             stencil, xs, room, b, cells, modes, settings, colours, coords, ends, c,
         );
@@ -252,7 +246,6 @@ fn correct_cells(
         e += n.error;
         r += n.corner;
         t += n.tests;
-        c += 1;
     }
     Tally {
         protected: p,
@@ -283,9 +276,9 @@ pub fn msdf_sheet_error_correction(
     ensures clears { room.new ≡ Sheet.sheet_room_after (sheet width height channels samples.old stencil.old room.old cells.now modes.now settings.now colours.now coords.now ends.now) }
 {
     let b = Bitmap {
-        width: width,
-        height: height,
-        channels: channels,
+        width,
+        height,
+        channels,
     };
     let f = check(
         b, samples, stencil, room, cells, modes, settings, colours, coords, ends,

@@ -21,9 +21,9 @@ pub fn texel_view<'a>(
 {
     let none = &original[0..0];
     let b = Bitmap {
-        width: width,
-        height: height,
-        channels: channels,
+        width,
+        height,
+        channels,
     };
     if checks::size_refusal(b, original.len(), stencil.len()) != 0 {
         return none;

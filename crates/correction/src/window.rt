@@ -20,11 +20,9 @@ fn protect_row(stencil: &mut [u8], b: Window, y: usize)
     requires y_lt_height { y < b.height }
     ensures { CellsPasted b stencil.old stencil.new (painted (λ v. 2) (λ k. eqb (k / b.width) y) (cut_cells b stencil.old)) }
 {
-    let mut x = 0usize;
-    while x < b.width {
+    for x in 0..b.width {
         let k = bitmap::cell(b, x, y);
         stencil[k] = stencil::PROTECTED;
-        x += 1;
     }
 }
 
@@ -33,10 +31,8 @@ pub fn protect_all(stencil: &mut [u8], b: Window)
     requires { Stencilled b stencil.old }
     ensures { CellsPasted b stencil.old stencil.new (tab (b.height * b.width) (λ k. 2)) }
 {
-    let mut y = 0usize;
-    while y < b.height {
+    for y in 0..b.height {
         protect_row(stencil, b, y);
-        y += 1;
     }
 }
 
@@ -48,15 +44,13 @@ pub fn count_cells(stencil: &[u8], b: Window) -> Counts
     let mut p = 0usize;
     let mut e = 0usize;
     let mut c = 0usize;
-    let mut y = 0usize;
-    while y < b.height {
+    for y in 0..b.height {
         let from = bitmap::cell(b, 0, y);
         let end = from + b.width;
         let n = stencil::count_cells(&stencil[from..end]);
         p += n.protected;
         e += n.error;
         c += n.corner;
-        y += 1;
     }
     Counts {
         protected: p,
@@ -71,17 +65,15 @@ fn samples_place(xs: &[f32], b: Window) -> usize
     ensures { result ≡ Checks.samples_place (cut_samples b xs.now) }
 {
     let n = b.width * b.channels;
-    let mut y = 0usize;
-    while y < b.height {
+    for y in 0..b.height {
         let from = bitmap::place(b, 0, y);
         let end = from + n;
         let p = checks::samples_place(&xs[from..end]);
         if p < n {
             return y * n + p;
         }
-        y += 1;
     }
-    y * n
+    b.height * n
 }
 
 // Checks 5 to 9 of a window as a bitmap alone, in number order; the first failure answers.

