@@ -1,5 +1,5 @@
 -- What the functions behind a sheet's checks ask of each other and leave for each other. No public function's promise rests on this page. Definitions only.
-use Rattle.std.specs.Prelude.{◌≡◌, ℕ, ◌+◌, ◌*◌, ◌≤◌, ◌<◌, false, List, length, Float}
+use Rattle.std.specs.Prelude.{◌≡◌, ℕ, ◌+◌, ◌*◌, ◌≤◌, ◌<◌, false, List, length, Float, Option, MatchOption}
 use Rattle.inputs.specs.Inner.{Outlined}
 use Rattle.inputs.specs.Stencil.{protected_count, error_count, corner_count}
 use Rattle.inputs.specs.Checks.{Input}
@@ -24,6 +24,10 @@ pub record AreaInside (w h : ℕ) (a : Area) : Type 0 where
 -- the first n cells do
 abbrev pub AreasInside : ℕ → ℕ → List ℕ → ℕ → Type 0
 AreasInside w h cells n = (c : ℕ) → c < n → AreaInside w h (area_at cells c)
+
+-- what a search among n cells answers: its first, or that it has none
+abbrev pub Found : ℕ → ℕ → Option ℕ → Type 0
+Found first n r = MatchOption r (first ≡ n) (λ c. (c ≡ first) × (c < n))
 
 -- a run that lies inside a list of n
 abbrev pub RunInside : Run → ℕ → Type 0

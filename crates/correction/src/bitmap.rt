@@ -77,8 +77,8 @@ pub fn centre_at(xs: &[f32], b: Window, x: usize, y: usize) -> Centre
     Centre {
         texel: a,
         median: m.value,
-        x: x,
-        y: y,
+        x,
+        y,
     }
 }
 

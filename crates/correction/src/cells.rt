@@ -4,7 +4,7 @@ ghost use Rattle.std.specs.Prelude.{◌≡◌, ◌+◌, ◌*◌, ◌<◌, ◌≤
 ghost use Rattle.inputs.specs.Checks.{bad_channels, bad_room};
 ghost use Rattle.correction.specs.Sheet as Sheet;
 ghost use Rattle.correction.specs.Sheet.{failure_in, of_sheet};
-ghost use Rattle.correction.specs.Cells.{AreaInside, AreasInside, cell_at};
+ghost use Rattle.correction.specs.Cells.{AreaInside, AreasInside, Found, cell_at};
 
 use crate::refusal::Refusal;
 use inputs::checks;
@@ -114,11 +114,11 @@ pub fn cell_at(b: Bitmap, cells: &[usize], settings: &[f64], c: usize) -> Cell
     let coords = run_at(cells, at + 6);
     let ends = run_at(cells, at + 8);
     Cell {
-        window: window,
+        window,
         settings: s,
-        colours: colours,
-        coords: coords,
-        ends: ends,
+        colours,
+        coords,
+        ends,
     }
 }
 
@@ -165,19 +165,12 @@ fn bad_area(b: Bitmap, a: Area) -> bool
         || (a.height == 0 || (beyond(a.x, a.width, b.width) || beyond(a.y, a.height, b.height)))
 }
 
-// Its first cell, or the number of cells.
-pub fn first_outside(b: Bitmap, cells: &[usize], n: usize) -> usize
+// Its first cell.
+pub fn first_outside(b: Bitmap, cells: &[usize], n: usize) -> Option<usize>
     requires { (length cells.now ≡ 10 * n) × (n ≤ 4096) }
-    ensures { result ≡ Sheet.first_outside b.width b.height cells.now n }
+    ensures { Found (Sheet.first_outside b.width b.height cells.now n) n result }
 {
-    let mut c = 0usize;
-    while c < n {
-        if bad_area(b, area_at(cells, c)) {
-            return c;
-        }
-        c += 1;
-    }
-    c
+    (0..n).find(|&c| bad_area(b, area_at(cells, c)))
 }
 
 // Two cells share a texel.
@@ -195,30 +188,16 @@ fn overlaps_earlier(cells: &[usize], c: usize) -> bool
     ensures { result ≡ Sheet.overlaps_earlier cells.now c }
 {
     let a = area_at(cells, c);
-    let mut d = 0usize;
-    while d < c {
-        if overlap(area_at(cells, d), a) {
-            return true;
-        }
-        d += 1;
-    }
-    false
+    (0..c).any(|d| overlap(area_at(cells, d), a))
 }
 
-// Check 52: its first cell, or the number of cells. All pairs of cells are compared, and no texels.
-pub fn first_overlap(cells: &[usize], n: usize) -> usize
+// Check 52: its first cell. All pairs of cells are compared, and no texels.
+pub fn first_overlap(cells: &[usize], n: usize) -> Option<usize>
     requires cells_len { (length cells.now ≡ 10 * n) × (n ≤ 4096) }
     requires areas_inside { AreasInside 4096 4096 cells.now n }
-    ensures { result ≡ Sheet.first_overlap cells.now n }
+    ensures { Found (Sheet.first_overlap cells.now n) n result }
 {
-    let mut c = 0usize;
-    while c < n {
-        if overlaps_earlier(cells, c) {
-            return c;
-        }
-        c += 1;
-    }
-    c
+    (0..n).find(|&c| overlaps_earlier(cells, c))
 }
 
 // A run that is not inside its list of n.
@@ -238,17 +217,16 @@ fn bad_runs(cells: &[usize], c: usize, colours: usize, coords: usize, ends: usiz
         || (bad_run(run_at(cells, at + 6), coords) || bad_run(run_at(cells, at + 8), ends))
 }
 
-// Its first cell, or the number of cells.
-pub fn first_bad_run(cells: &[usize], n: usize, colours: usize, coords: usize, ends: usize) -> usize
+// Its first cell.
+pub fn first_bad_run(
+    cells: &[usize],
+    n: usize,
+    colours: usize,
+    coords: usize,
+    ends: usize,
+) -> Option<usize>
     requires { (length cells.now ≡ 10 * n) × (n ≤ 4096) }
-    ensures { result ≡ Sheet.first_bad_run cells.now n colours coords ends }
+    ensures { Found (Sheet.first_bad_run cells.now n colours coords ends) n result }
 {
-    let mut c = 0usize;
-    while c < n {
-        if bad_runs(cells, c, colours, coords, ends) {
-            return c;
-        }
-        c += 1;
-    }
-    c
+    (0..n).find(|&c| bad_runs(cells, c, colours, coords, ends))
 }

@@ -42,11 +42,9 @@ fn collapse_row(stencil: &[u8], xs: &mut [f32], b: Window, y: usize)
     requires y_lt_height { y < b.height }
     ensures { SamplesPasted b xs.old xs.new (Collapse.collapsed (cut_samples b xs.old) b.channels (λ k. eqb (k / b.width) y && is_error (get_or (cut_cells b stencil.now) k 0))) }
 {
-    let mut x = 0usize;
-    while x < b.width {
+    for x in 0..b.width {
         let v = stencil[bitmap::cell(b, x, y)];
         collapse_flagged(xs, b, v, x, y);
-        x += 1;
     }
 }
 
@@ -56,12 +54,10 @@ fn clear_row(stencil: &mut [u8], b: Window, y: usize)
     requires y_lt_height { y < b.height }
     ensures { CellsPasted b stencil.old stencil.new (painted (λ v. v % 8) (λ k. eqb (k / b.width) y) (cut_cells b stencil.old)) }
 {
-    let mut x = 0usize;
-    while x < b.width {
+    for x in 0..b.width {
         let k = bitmap::cell(b, x, y);
         let v = stencil[k];
         stencil[k] = v % stencil::ORDER;
-        x += 1;
     }
 }
 
@@ -72,10 +68,8 @@ pub fn apply(stencil: &mut [u8], xs: &mut [f32], b: Window)
     ensures leaves { CellsPasted b stencil.old stencil.new (without_orders (cut_cells b stencil.old)) }
     ensures writes { SamplesPasted b xs.old xs.new (Collapse.collapsed (cut_samples b xs.old) b.channels (λ k. is_error (get_or (cut_cells b stencil.old) k 0))) }
 {
-    let mut y = 0usize;
-    while y < b.height {
+    for y in 0..b.height {
         collapse_row(stencil, xs, b, y);
         clear_row(stencil, b, y);
-        y += 1;
     }
 }

@@ -118,10 +118,8 @@ fn protect_contour(stencil: &mut [u8], b: Window, colours: &[u8], coords: &[f64]
     requires from_le_end { (c.from ≤ c.end) × (c.end ≤ length colours.now) }
     ensures { CellsPasted b stencil.old stencil.new (painted at_corner (λ k. contour_hits colours.now coords.now c.from c.end (k % b.width) (k / b.width)) (cut_cells b stencil.old)) }
 {
-    let mut i = c.from;
-    while i < c.end {
+    for i in c.from..c.end {
         protect_corner(stencil, b, colours, coords, c, i);
-        i += 1;
     }
 }
 
@@ -138,15 +136,8 @@ pub fn protect_corners(
     ensures { CellsPasted b stencil.old stencil.new (painted at_corner (λ k. Corners.corners_protect (Corners.contours colours.now coords.now ends.now) (k % b.width) (k / b.width)) (cut_cells b stencil.old)) }
 {
     let mut from = 0usize;
-    let mut c = 0usize;
-    while c < ends.len() {
-        let end = ends[c];
-        let contour = Contour {
-            from: from,
-            end: end,
-        };
-        protect_contour(stencil, b, colours, coords, contour);
+    for &end in ends {
+        protect_contour(stencil, b, colours, coords, Contour { from, end });
         from = end;
-        c += 1;
     }
 }

@@ -59,11 +59,9 @@ fn write_medians(room: &mut [f32], xs: &[f32], b: Window, y: usize)
     ensures there { (x : ℕ) → x < b.width → get_or room.new (row_place b (y + 1) + x) nan ≡ get_or room.old (row_place b (y + 1) + x) nan }
 {
     let from = row_place(b, y);
-    let mut x = 0usize;
-    while x < b.width {
+    for x in 0..b.width {
         let m = texel::median(bitmap::texel(xs, b, x, y));
         room[from + x] = m.value;
-        x += 1;
     }
 }
 
@@ -148,8 +146,8 @@ fn some_edge(room: &[f32], xs: &[f32], b: Window, r: Radii, m: f32, x: usize, y:
     let t = Centre {
         texel: bitmap::texel(xs, b, x, y),
         median: m,
-        x: x,
-        y: y,
+        x,
+        y,
     };
     let above = Half {
         lower: true,
@@ -174,15 +172,13 @@ fn protect_row(stencil: &mut [u8], room: &[f32], xs: &[f32], b: Window, r: Radii
     ensures { CellsPasted b stencil.old stencil.new (painted set_protected (λ k. eqb (k / b.width) y && Edges.some_edge (texel (cut_samples b xs.now) b.width b.channels) b.width b.height r.horizontal r.vertical r.diagonal (k % b.width) (k / b.width)) (cut_cells b stencil.old)) }
 {
     let from = row_place(b, y);
-    let mut x = 0usize;
-    while x < b.width {
+    for x in 0..b.width {
         let m = room[from + x];
         if some_edge(room, xs, b, r, m, x, y) {
             let k = bitmap::cell(b, x, y);
             let v = stencil[k];
             stencil[k] = stencil::set_protected(v);
         }
-        x += 1;
     }
 }
 
@@ -200,12 +196,10 @@ pub fn protect_edges(stencil: &mut [u8], xs: &[f32], room: &mut [f32], b: Window
     if b.height > 0 {
         write_medians(room, xs, b, 0);
     }
-    let mut y = 0usize;
-    while y < b.height {
+    for y in 0..b.height {
         if y + 1 < b.height {
             write_medians(room, xs, b, y + 1);
         }
         protect_row(stencil, room, xs, b, r, y);
-        y += 1;
     }
 }

@@ -401,10 +401,8 @@ pub fn find_errors(stencil: &mut [u8], xs: &[f32], b: Window, s: Settings) -> us
     ensures makes { result ≡ made_in (cut_samples b xs.now) b.width b.height b.channels s (cut_cells b stencil.old) }
 {
     let mut tests = 0usize;
-    let mut y = 0usize;
-    while y < b.height {
+    for y in 0..b.height {
         tests += find_in_row(stencil, xs, b, s, y);
-        y += 1;
     }
     tests
 }

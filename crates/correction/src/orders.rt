@@ -16,12 +16,10 @@ fn write_run(stencil: &mut [u8], xs: &[f32], b: Window, y: usize, step: usize)
     requires y_lt_height { (y < b.height) × (step ≡ b.channels) }
     ensures { CellsPasted b stencil.old stencil.new (row_orders (cut_samples b xs.now) b.width b.channels y (cut_cells b stencil.old)) }
 {
-    let mut x = 0usize;
-    while x < b.width {
+    for x in 0..b.width {
         let k = bitmap::cell(b, x, y);
         let v = stencil[k];
         stencil[k] = v + stencil::ORDER * orders::order_code(bitmap::samples_at(xs, k * step));
-        x += 1;
     }
 }
 
@@ -45,9 +43,7 @@ pub fn write_orders(stencil: &mut [u8], xs: &[f32], b: Window)
     requires stencilled { Stencilled b stencil.old × Plain b stencil.old }
     ensures { CellsPasted b stencil.old stencil.new (with_orders (cut_samples b xs.now) b.width b.channels (cut_cells b stencil.old)) }
 {
-    let mut y = 0usize;
-    while y < b.height {
+    for y in 0..b.height {
         write_row(stencil, xs, b, y);
-        y += 1;
     }
 }

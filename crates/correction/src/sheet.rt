@@ -111,17 +111,14 @@ pub fn check(
     };
     cells::check_sheet(b, l)?;
     let n = modes.len();
-    let o = cells::first_outside(b, cells, n);
-    if o < n {
-        return Err(Refusal::Outside(o));
+    if let Some(c) = cells::first_outside(b, cells, n) {
+        return Err(Refusal::Outside(c));
     }
-    let p = cells::first_overlap(cells, n);
-    if p < n {
-        return Err(Refusal::Overlap(p));
+    if let Some(c) = cells::first_overlap(cells, n) {
+        return Err(Refusal::Overlap(c));
     }
-    let q = cells::first_bad_run(cells, n, colours.len(), coords.len(), ends.len());
-    if q < n {
-        return Err(Refusal::Run(q));
+    if let Some(c) = cells::first_bad_run(cells, n, colours.len(), coords.len(), ends.len()) {
+        return Err(Refusal::Run(c));
     }
     check_cells(b, xs, cells, modes, settings, colours, coords, ends)
 }
@@ -173,7 +170,7 @@ fn correct_cell(
         protected: n.protected,
         error: n.error,
         corner: n.corner,
-        tests: tests,
+        tests,
     }
 }
 
@@ -201,8 +198,7 @@ fn correct_cells(
     let mut e = 0usize;
     let mut r = 0usize;
     let mut t = 0usize;
-    let mut c = 0usize;
-    while c < modes.len() {
+    for c in 0..modes.len() {
         let n = correct_cell(
             stencil, xs, room, b, cells, modes, settings, colours, coords, ends, c,
         );
@@ -210,7 +206,6 @@ fn correct_cells(
         e += n.error;
         r += n.corner;
         t += n.tests;
-        c += 1;
     }
     Tally {
         protected: p,
@@ -241,9 +236,9 @@ pub fn msdf_sheet_error_correction(
     ensures clears { room.new ≡ Sheet.sheet_room_after (sheet width height channels samples.old stencil.old room.old cells.now modes.now settings.now colours.now coords.now ends.now) }
 {
     let b = Bitmap {
-        width: width,
-        height: height,
-        channels: channels,
+        width,
+        height,
+        channels,
     };
     check(
         b, samples, stencil, room, cells, modes, settings, colours, coords, ends,

@@ -21,11 +21,9 @@ fn protect_row(stencil: &mut [u8], b: Window, y: usize)
     requires y_lt_height { y < b.height }
     ensures { CellsPasted b stencil.old stencil.new (painted (λ v. 2) (λ k. eqb (k / b.width) y) (cut_cells b stencil.old)) }
 {
-    let mut x = 0usize;
-    while x < b.width {
+    for x in 0..b.width {
         let k = bitmap::cell(b, x, y);
         stencil[k] = stencil::PROTECTED;
-        x += 1;
     }
 }
 
@@ -34,10 +32,8 @@ pub fn protect_all(stencil: &mut [u8], b: Window)
     requires { Stencilled b stencil.old }
     ensures { CellsPasted b stencil.old stencil.new (tab (b.height * b.width) (λ k. 2)) }
 {
-    let mut y = 0usize;
-    while y < b.height {
+    for y in 0..b.height {
         protect_row(stencil, b, y);
-        y += 1;
     }
 }
 
@@ -49,15 +45,13 @@ pub fn count_cells(stencil: &[u8], b: Window) -> Counts
     let mut p = 0usize;
     let mut e = 0usize;
     let mut c = 0usize;
-    let mut y = 0usize;
-    while y < b.height {
+    for y in 0..b.height {
         let from = bitmap::cell(b, 0, y);
         let end = from + b.width;
         let n = stencil::count_cells(&stencil[from..end]);
         p += n.protected;
         e += n.error;
         c += n.corner;
-        y += 1;
     }
     Counts {
         protected: p,

@@ -1,4 +1,4 @@
--- Which check of a sheet answers, by what the code has found: z is the answer of checks 1, 50 and 60, a, b and c are the cells of checks 51, 52 and 53. Assumes nothing.
+-- Which check of a sheet answers, by what the code has found: z is the answer of checks 1, 50 and 60, a, b and c are the cells of checks 51, 52 and 53, where there are some. Assumes nothing.
 --     by_sheet       check 1, 50 or 60 fails
 --     sheet_passes   all three pass
 --     by_outside     and check 51 fails
@@ -10,7 +10,9 @@
 use mathlib.Core.Path.{◌≡◌, refl, sym, ◌∙◌, ap}
 use mathlib.Core.Bool.{Bool, true, false, cond}
 use mathlib.Core.List.{[]}
-use Prim.Native.Nat.{ℕ, suc, ◌<◌, ◌≤◌}
+use Prim.Native.Nat.{ℕ, suc, ◌<◌}
+use native.Mathlib.Nat.{le_of_eq}
+use lib.Dec.{ltb}
 use lib.ListN.{length}
 use Rattle.inputs.specs.Checks.{bad_channels, bad_room}
 use Rattle.inputs.proofs.Laws.Checks.{below, not_below}
@@ -48,6 +50,10 @@ module _ (s : Sheet) where
   abbrev unfit : Bool
   unfit = bad_sheet s.width s.height s.channels (length s.samples) (length s.stencil) (length s.cells) n (length s.settings)
 
+  -- a search that has none
+  past : {m : ℕ} → m ≡ n → ltb m n ≡ false
+  past e = not_below n refl (le_of_eq (sym e))
+
   abbrev short : Bool
   short = bad_room s.width (length s.room)
 
@@ -63,35 +69,33 @@ module _ (s : Sheet) where
       pub sheet_passes : Measured s.width s.height s.channels (length s.samples) (length s.stencil) (length s.cells) n (length s.settings)
       sheet_passes = measured _ _ _ _ _ _ _ _ three.1
 
-      module _ {a : ℕ} (f : a ≡ first_outside s.width s.height s.cells n) where
-        pub by_outside : a < n → failed 51 a ≡ failure s
+      pub by_outside : {a : ℕ} → (a ≡ first_outside s.width s.height s.cells n) × (a < n) → failed 51 a ≡ failure s
+      unfolding failure
+      by_outside f = rw (three.0, three.1, three.2, below n f.0 f.1, f.0)
+
+      module _ (u : first_outside s.width s.height s.cells n ≡ n) where
+        pub all_inside : AreasInside 4096 4096 s.cells n
+        all_inside =
+            let m = sheet_passes in
+            areas_wider s.width s.height 4096 4096 s.cells n m.wide.1 m.high.1 (areas_inside s.width s.height s.cells n (past u))
+
+        pub by_overlap : {b : ℕ} → (b ≡ first_overlap s.cells n) × (b < n) → failed 52 b ≡ failure s
         unfolding failure
-        by_outside l = rw (three.0, three.1, three.2, below n f l, f)
+        by_overlap g = rw (three.0, three.1, three.2, past u, below n g.0 g.1, g.0)
 
-        module _ (u : n ≤ a) where
-          pub all_inside : AreasInside 4096 4096 s.cells n
-          all_inside =
-              let m = sheet_passes in
-              areas_wider s.width s.height 4096 4096 s.cells n m.wide.1 m.high.1 (areas_inside s.width s.height s.cells n (not_below n f u))
+        module _ (v : first_overlap s.cells n ≡ n) where
+          pub by_run : {c : ℕ} → (c ≡ first_bad_run s.cells n (length s.colours) (length s.coords) (length s.ends)) × (c < n) → failed 53 c ≡ failure s
+          unfolding failure
+          by_run k = rw (three.0, three.1, three.2, past u, past v, below n k.0 k.1, k.0)
 
-          module _ {b : ℕ} (g : b ≡ first_overlap s.cells n) where
-            pub by_overlap : b < n → failed 52 b ≡ failure s
+          module _ (w : first_bad_run s.cells n (length s.colours) (length s.coords) (length s.ends) ≡ n) where
+            -- the sheet without its stencil and its room
+            abbrev bare : Sheet
+            bare = sheet s.width s.height s.channels s.samples [] [] s.cells s.modes s.settings s.colours s.coords s.ends
+
+            pub all_laid : Laid bare
+            all_laid = laid_with s s.samples [] [] refl (laid s three.0 three.1 (past u) (past w))
+
+            pub by_cells : {r : Failure} → r ≡ content_failure bare → r ≡ failure s
             unfolding failure
-            by_overlap l = rw (three.0, three.1, three.2, not_below n f u, below n g l, g)
-
-            module _ (v : n ≤ b) {c : ℕ} (k : c ≡ first_bad_run s.cells n (length s.colours) (length s.coords) (length s.ends)) where
-              pub by_run : c < n → failed 53 c ≡ failure s
-              unfolding failure
-              by_run l = rw (three.0, three.1, three.2, not_below n f u, not_below n g v, below n k l, k)
-
-              module _ (w : n ≤ c) where
-                -- the sheet without its stencil and its room
-                abbrev bare : Sheet
-                bare = sheet s.width s.height s.channels s.samples [] [] s.cells s.modes s.settings s.colours s.coords s.ends
-
-                pub all_laid : Laid bare
-                all_laid = laid_with s s.samples [] [] refl (laid s three.0 three.1 (not_below n f u) (not_below n k w))
-
-                pub by_cells : {r : Failure} → r ≡ content_failure bare → r ≡ failure s
-                unfolding failure
-                by_cells i = i ∙ rw (content_same s [] [], three.0, three.1, three.2, not_below n f u, not_below n g v, not_below n k w)
+            by_cells i = i ∙ rw (content_same s [] [], three.0, three.1, three.2, past u, past v, past w)

@@ -1,7 +1,6 @@
 -- `correction::collapse::apply` meets its contract: row by row. Assumes nothing.
 use mathlib.Core.Path.{ap}
 use native.Mathlib.Nat.{mul-le-mul_right}
-use native.Mathlib.Omega.{arith}
 use Rattle.ground.specs.Lists.{painted}
 use Rattle.inputs.specs.Stencil.{is_error}
 use Rattle.inputs.specs.Window.{cut_cells}
@@ -22,9 +21,6 @@ collapse_row-requires c = record { sampled = turning_sampled _ _ _ c.requires.sa
 pub clear_row-requires : goal.clear_row-requires
 clear_row-requires c = record { stencilled = stencilled (goal.at.clear_row-requires c).At-loop-y; y_lt_height = c.loop-y-test.true }
 
-pub overflow_add-y : goal.overflow_add-y
-overflow_add-y c = omega (arith, c.loop-y-test.true, c.requires.sampled.fits.high)
-
 pub loop-y-preserved : goal.loop-y-preserved
 unfolding painted
 loop-y-preserved c =
@@ -41,9 +37,6 @@ returns c =
 
 pub loop-y-init : goal.loop-y-init
 loop-y-init c = (turning_none _ _ _, rows_none bare _ _)
-
-pub loop-y-smaller : goal.loop-y-smaller
-loop-y-smaller c = omega (arith, c.loop-y-test.true)
 
 pub shape_of-stencil : goal.shape_of-stencil
 shape_of-stencil c = upto_long _ _ _ c.loop-y.invariant.1

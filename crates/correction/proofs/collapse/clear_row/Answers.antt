@@ -1,7 +1,6 @@
 -- `correction::collapse::clear_row` meets its contract: the row is given up to column x. Assumes nothing.
 use mathlib.Core.Path.{refl}
 use Prim.Native.Nat.{◌<◌}
-use native.Mathlib.Omega.{arith}
 use lib.ListN.{length}
 use Rattle.ground.specs.Lists.{painted}
 use Rattle.correction.proofs.bitmap.Stretch.{stretch_none, stretch_held, stretch_next, stretch_all, upto_long}
@@ -21,11 +20,6 @@ there c =
     let p = c.requires in
     stretch_held bare _ _ _ p.stencilled p.y_lt_height c.loop-x.invariant c.loop-x-test.true c.cell-k.ensures
 
-pub overflow_add-x : goal.overflow_add-x
-overflow_add-x c =
-    let f = c.requires.stencilled.fits in
-    omega (arith, c.loop-x-test.true, f.wide, f.broad)
-
 pub loop-x-preserved : goal.loop-x-preserved
 loop-x-preserved c =
     stretch_next bare _ _ _ c.requires.stencilled c.requires.y_lt_height c.loop-x.invariant c.loop-x-test.true c.cell-k.ensures refl
@@ -41,9 +35,6 @@ bounds-stencil-k c = there (goal.at.bounds-stencil-k c).After-cell-k
 
 pub bounds-stencil-k-in-loop-x : goal.bounds-stencil-k-in-loop-x
 bounds-stencil-k-in-loop-x c = there (goal.at.bounds-stencil-k-in-loop-x c).After-cell-k
-
-pub loop-x-smaller : goal.loop-x-smaller
-loop-x-smaller c = omega (arith, c.loop-x-test.true)
 
 pub shape_of-stencil : goal.shape_of-stencil
 shape_of-stencil c = upto_long _ _ _ c.loop-x.invariant

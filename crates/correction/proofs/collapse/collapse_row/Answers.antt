@@ -1,5 +1,4 @@
 -- `correction::collapse::collapse_row` meets its contract: the texels of the row are collapsed up to column x. Assumes nothing.
-use native.Mathlib.Omega.{arith}
 use Rattle.inputs.specs.Window.{cut_cells}
 use Rattle.correction.proofs.collapse.Turns.{flags, flag_at, turning_sampled, turning_next, row_none, row_all}
 use Rattle.correction.proofs.collapse.collapse_row.Goals as goal
@@ -20,11 +19,6 @@ pub collapse_flagged-requires : goal.collapse_flagged-requires
 collapse_flagged-requires c =
     let p = c.requires in record { sampled = turning_sampled _ _ _ p.sampled c.loop-x.invariant; x_lt_width = (c.loop-x-test.true, p.y_lt_height) }
 
-pub overflow_add-x : goal.overflow_add-x
-overflow_add-x c =
-    let f = c.requires.sampled.fits in
-    omega (arith, c.loop-x-test.true, f.wide, f.broad)
-
 pub loop-x-preserved : goal.loop-x-preserved
 loop-x-preserved c =
     turning_next _ _ _ c.requires.sampled c.loop-x.invariant c.loop-x-test.true c.requires.y_lt_height (flag_at c.args.b c.args.stencil.now _ _ c.loop-x-test.true c.requires.y_lt_height c.cell.ensures) c.collapse_flagged.ensures
@@ -32,9 +26,6 @@ loop-x-preserved c =
 pub returns : goal.returns
 returns c =
     row_all (flags (cut_cells c.args.b c.args.stencil.now)) _ _ c.requires.sampled _ c.loop-x.invariant c.loop-x-test.false
-
-pub loop-x-smaller : goal.loop-x-smaller
-loop-x-smaller c = omega (arith, c.loop-x-test.true)
 
 pub shape_of-xs : goal.shape_of-xs
 shape_of-xs c = c.loop-x.invariant.rest.long

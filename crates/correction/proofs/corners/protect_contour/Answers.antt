@@ -36,11 +36,5 @@ returns c =
     let e : c.loop-i.i ≡ c.args.c.end = omega (arith, c.loop-i.invariant.high) in
     rw e at c.loop-i.invariant.done
 
-pub overflow_add-i : goal.overflow_add-i
-overflow_add-i c = omega arith
-
-pub loop-i-smaller : goal.loop-i-smaller
-loop-i-smaller c = omega arith
-
 pub shape_of-stencil : goal.shape_of-stencil
 shape_of-stencil c = c.loop-i.invariant.done.long

@@ -21,6 +21,3 @@ pub record Inv (st₀ : List ℕ) (g : Window) (colours : List ℕ) (coords : Li
 
 abbrev pub invariant-loop-i : goal.invariant-loop-i
 invariant-loop-i l = Inv l.initial.stencil l.b l.colours l.coords l.c.from l.c.end l.stencil l.i
-
-abbrev pub decreases-loop-i : goal.decreases-loop-i
-decreases-loop-i l = l.c.end - l.i

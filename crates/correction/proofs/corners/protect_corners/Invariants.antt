@@ -1,8 +1,8 @@
--- `correction::corners::protect_corners` meets its contract: after each turn the stencil is painted by the contours before c. Assumes nothing.
+-- `correction::corners::protect_corners` meets its contract: after each turn the stencil is painted by the contours before the next. Assumes nothing.
 use mathlib.Core.Path.{◌≡◌}
 use mathlib.Core.Bool.{Bool}
 use mathlib.Core.List.{List}
-use Prim.Native.Nat.{ℕ, ◌-◌, ◌/◌, ◌%◌, ◌≤◌}
+use Prim.Native.Nat.{ℕ, ◌/◌, ◌%◌, ◌≤◌}
 use lib.ListN.{length, get_or}
 use lib.Ieee.{Float}
 use Rattle.ground.specs.Lists.{any}
@@ -21,8 +21,5 @@ pub record Inv (st₀ : List ℕ) (g : Window) (colours : List ℕ) (coords : Li
   pub start : from ≡ start_at ends c
   pub done : Painted at_corner g (λ k. any c (λ j. nth g.width colours coords ends j k)) st₀ st
 
-abbrev pub invariant-loop-c : goal.invariant-loop-c
-invariant-loop-c l = Inv l.initial.stencil l.b l.colours l.coords l.ends l.stencil l.from l.c
-
-abbrev pub decreases-loop-c : goal.decreases-loop-c
-decreases-loop-c l = length l.ends - l.c
+abbrev pub invariant-loop-end : goal.invariant-loop-end
+invariant-loop-end l = Inv l.initial.stencil l.b l.colours l.coords l.ends l.stencil l.from l.end-index

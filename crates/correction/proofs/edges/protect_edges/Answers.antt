@@ -63,10 +63,6 @@ pub protect_row-requires : goal.protect_row-requires
 protect_row-requires c =
     let p = c.requires in record { sampled = (p.sampled.0, omega (arith, ample (goal.at.protect_row-requires c).At-loop-y, (second (goal.at.protect_row-requires c).Joined-y-b).0)); stencilled = still_stencilled _ p.stencilled _ (upto_long _ _ _ c.loop-y.invariant.done); y_lt_height = (c.loop-y-test.true, (second (goal.at.protect_row-requires c).Joined-y-b).1) }
 
-pub overflow_add-y-in-loop-y : goal.overflow_add-y-in-loop-y
-overflow_add-y-in-loop-y c =
-    omega (arith, c.loop-y-test.true, c.requires.stencilled.fits.high)
-
 pub loop-y-preserved : goal.loop-y-preserved
 loop-y-preserved c =
     let a = c.args in
@@ -103,9 +99,6 @@ overflow_add-y c = omega (arith, c.loop-y-test.true, c.requires.stencilled.fits.
 
 pub overflow_add-y-then-y-b : goal.overflow_add-y-then-y-b
 overflow_add-y-then-y-b c = omega (arith, c.loop-y-test.true, c.requires.stencilled.fits.high)
-
-pub loop-y-smaller : goal.loop-y-smaller
-loop-y-smaller c = omega (arith, c.loop-y-test.true)
 
 pub shape_of-stencil : goal.shape_of-stencil
 shape_of-stencil c = upto_long _ _ _ c.loop-y.invariant.done

@@ -1,7 +1,7 @@
 -- `correction::edges::protect_edges` meets its contract: before row y the rows below it are given, and its medians are in the room. Assumes nothing.
 use mathlib.Core.Path.{◌≡◌}
 use mathlib.Core.List.{List}
-use Prim.Native.Nat.{ℕ, ◌-◌, ◌<◌, ◌≤◌}
+use Prim.Native.Nat.{ℕ, ◌<◌, ◌≤◌}
 use lib.ListN.{length}
 use lib.Ieee.{Float}
 use Rattle.inputs.specs.declared.sizes.Window.{Window}
@@ -20,6 +20,3 @@ pub record Inv (st₀ : List ℕ) (xs room₀ : List Float) (g : Window) (r : Ra
 
 abbrev pub invariant-loop-y : goal.invariant-loop-y
 invariant-loop-y l = Inv l.initial.stencil l.xs l.initial.room l.b l.r l.stencil l.room l.y
-
-abbrev pub decreases-loop-y : goal.decreases-loop-y
-decreases-loop-y l = l.b.height - l.y

@@ -86,11 +86,5 @@ bounds-stencil-k c = there (goal.at.bounds-stencil-k c).After-cell-k
 pub bounds-stencil-k-then-some_edge : goal.bounds-stencil-k-then-some_edge
 bounds-stencil-k-then-some_edge c = there (goal.at.bounds-stencil-k-then-some_edge c).After-cell-k
 
-pub overflow_add-x : goal.overflow_add-x
-overflow_add-x c = omega (arith, c.loop-x-test.true, held (goal.at.overflow_add-x c).In-loop-x, c.well_formed)
-
-pub loop-x-smaller : goal.loop-x-smaller
-loop-x-smaller c = omega (arith, c.loop-x-test.true)
-
 pub shape_of-stencil : goal.shape_of-stencil
 shape_of-stencil c = upto_long _ _ _ c.loop-x.invariant.1

@@ -1,5 +1,5 @@
 -- `correction::edges::protect_row` meets its contract: the row is given up to column x. Assumes nothing.
-use Prim.Native.Nat.{◌-◌, ◌≤◌}
+use Prim.Native.Nat.{◌≤◌}
 use Rattle.inputs.specs.Window.{cut_samples}
 use Rattle.correction.proofs.bitmap.Stretch.{Stretched}
 use Rattle.correction.proofs.edges.Byte.{byte}
@@ -7,6 +7,3 @@ use Rattle.correction.proofs.edges.protect_row.Given as goal
 
 abbrev pub invariant-loop-x : goal.invariant-loop-x
 invariant-loop-x l = (l.x ≤ l.b.width) × Stretched (byte (cut_samples l.b l.xs) l.b l.r) l.b l.initial.stencil l.y l.x l.stencil
-
-abbrev pub decreases-loop-x : goal.decreases-loop-x
-decreases-loop-x l = l.b.width - l.x

@@ -35,11 +35,5 @@ overflow_add-room c = omega (arith, held c, c.well_formed)
 pub offset_bounds-room-from : goal.offset_bounds-room-from
 offset_bounds-room-from c = omega (arith, held c, c.well_formed)
 
-pub overflow_add-x : goal.overflow_add-x
-overflow_add-x c = omega (arith, held c, c.well_formed)
-
-pub loop-x-smaller : goal.loop-x-smaller
-loop-x-smaller c = omega (arith, c.loop-x-test.true)
-
 pub shape_of-room : goal.shape_of-room
 shape_of-room c = c.loop-x.invariant.long

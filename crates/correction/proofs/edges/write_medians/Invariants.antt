@@ -1,10 +1,6 @@
 -- `correction::edges::write_medians` meets its contract. Assumes nothing.
-use Prim.Native.Nat.{◌-◌}
 use Rattle.correction.proofs.edges.Room.{Written}
 use Rattle.correction.proofs.edges.write_medians.Given as goal
 
 abbrev pub invariant-loop-x : goal.invariant-loop-x
 invariant-loop-x l = Written l.b l.xs l.initial.room l.y l.room l.x
-
-abbrev pub decreases-loop-x : goal.decreases-loop-x
-decreases-loop-x l = l.b.width - l.x

@@ -16,9 +16,6 @@ overflow_add-tests c =
     let p = c.requires.stencilled in
     omega (arith, rows_few _ _ _ _ p.0 p.1 (rows_then _ _ _ _ p.0 p.1 c.loop-y.invariant c.loop-y-test.true c.find_in_row-tests.ensures.finds c.find_in_row-tests.ensures.makes))
 
-pub loop-y-smaller : goal.loop-y-smaller
-loop-y-smaller c = omega (arith, c.loop-y-test.true)
-
 pub loop-y-preserved : goal.loop-y-preserved
 loop-y-preserved c =
     let p = c.requires.stencilled in

@@ -29,8 +29,5 @@ returns c =
     let a = c.args in
     rows_all (above a.b a.xs.now) _ _ c.loop-y.invariant c.loop-y-test.false
 
-pub loop-y-smaller : goal.loop-y-smaller
-loop-y-smaller c = omega (arith, c.loop-y-test.true)
-
 pub shape_of-stencil : goal.shape_of-stencil
 shape_of-stencil c = upto_long _ _ _ c.loop-y.invariant

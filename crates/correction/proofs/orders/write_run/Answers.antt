@@ -68,11 +68,5 @@ overflow_add-stencil c = omega (arith, c.order_code.ensures.1, few (goal.at.over
 pub bounds-stencil-k-in-loop-x : goal.bounds-stencil-k-in-loop-x
 bounds-stencil-k-in-loop-x c = there (goal.at.bounds-stencil-k-in-loop-x c).In-loop-x c.cell-k.ensures
 
-pub overflow_add-x : goal.overflow_add-x
-overflow_add-x c = omega (arith, c.loop-x-test.true, (start (goal.at.overflow_add-x c).In-loop-x).requires.sampled.fits.wide, (start (goal.at.overflow_add-x c).In-loop-x).requires.sampled.fits.broad)
-
-pub loop-x-smaller : goal.loop-x-smaller
-loop-x-smaller c = omega (arith, c.loop-x-test.true)
-
 pub shape_of-stencil : goal.shape_of-stencil
 shape_of-stencil c = upto_long _ _ _ c.loop-x.invariant

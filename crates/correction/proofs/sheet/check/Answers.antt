@@ -19,31 +19,31 @@ returns-in_err-check_sheet c =
     let p = err_from_is_err_and c.from_residual.result c.from_residual.ensures.1 in
     ap failure_in (p.1 ∙ ap Err p.2) ∙ by_sheet (given (goal.at.returns-in_err-check_sheet c).Start) c.in_err-check_sheet.ensures (told_not_0 _)
 
-pub first_outside-o-requires : goal.first_outside-o-requires
-first_outside-o-requires c = let m = sheet_passes (given (goal.at.first_outside-o-requires c).Start) c.in_ok-check_sheet.ensures refl in (m.numbers, m.few)
+pub first_outside-requires : goal.first_outside-requires
+first_outside-requires c = let m = sheet_passes (given (goal.at.first_outside-requires c).Start) c.in_ok-check_sheet.ensures refl in (m.numbers, m.few)
 
-pub returns-then-o-n : goal.returns-then-o-n
-returns-then-o-n c =
-    by_outside (given (goal.at.returns-then-o-n c).Start) c.in_ok-check_sheet.ensures refl c.first_outside-o.ensures c.if-o-n.true
+pub returns-in-Some : goal.returns-in-Some
+returns-in-Some c =
+    by_outside (given (goal.at.returns-in-Some c).Start) c.in_ok-check_sheet.ensures refl c.in-Some.ensures
 
-pub first_overlap-p-requires : goal.first_overlap-p-requires
-first_overlap-p-requires c = record { cells_len = first_outside-o-requires (goal.at.first_overlap-p-requires c).In_ok-check_sheet; areas_inside = all_inside (given (goal.at.first_overlap-p-requires c).Start) c.in_ok-check_sheet.ensures refl c.first_outside-o.ensures c.if-o-n.false }
+pub first_overlap-requires : goal.first_overlap-requires
+first_overlap-requires c = record { cells_len = first_outside-requires (goal.at.first_overlap-requires c).In_ok-check_sheet; areas_inside = all_inside (given (goal.at.first_overlap-requires c).Start) c.in_ok-check_sheet.ensures refl c.in_default.ensures }
 
-pub returns-then-p-n : goal.returns-then-p-n
-returns-then-p-n c =
-    by_overlap (given (goal.at.returns-then-p-n c).Start) c.in_ok-check_sheet.ensures refl c.first_outside-o.ensures c.if-o-n.false c.first_overlap-p.ensures c.if-p-n.true
+pub returns-in-Some-first_overlap : goal.returns-in-Some-first_overlap
+returns-in-Some-first_overlap c =
+    by_overlap (given (goal.at.returns-in-Some-first_overlap c).Start) c.in_ok-check_sheet.ensures refl c.in_default.ensures c.in-Some-first_overlap.ensures
 
-pub first_bad_run-q-requires : goal.first_bad_run-q-requires
-first_bad_run-q-requires c = first_outside-o-requires (goal.at.first_bad_run-q-requires c).In_ok-check_sheet
+pub first_bad_run-requires : goal.first_bad_run-requires
+first_bad_run-requires c = first_outside-requires (goal.at.first_bad_run-requires c).In_ok-check_sheet
 
-pub returns-then-q-n : goal.returns-then-q-n
-returns-then-q-n c =
-    by_run (given (goal.at.returns-then-q-n c).Start) c.in_ok-check_sheet.ensures refl c.first_outside-o.ensures c.if-o-n.false c.first_overlap-p.ensures c.if-p-n.false c.first_bad_run-q.ensures c.if-q-n.true
+pub returns-in-Some-first_bad_run : goal.returns-in-Some-first_bad_run
+returns-in-Some-first_bad_run c =
+    by_run (given (goal.at.returns-in-Some-first_bad_run c).Start) c.in_ok-check_sheet.ensures refl c.in_default.ensures c.in_default-first_overlap.ensures c.in-Some-first_bad_run.ensures
 
 pub check_cells-requires : goal.check_cells-requires
 check_cells-requires c =
-    all_laid (given (goal.at.check_cells-requires c).Start) c.in_ok-check_sheet.ensures refl c.first_outside-o.ensures c.if-o-n.false c.first_overlap-p.ensures c.if-p-n.false c.first_bad_run-q.ensures c.if-q-n.false
+    all_laid (given (goal.at.check_cells-requires c).Start) c.in_ok-check_sheet.ensures refl c.in_default.ensures c.in_default-first_overlap.ensures c.in_default-first_bad_run.ensures
 
 pub returns : goal.returns
 returns c =
-    by_cells (given (goal.at.returns c).Start) c.in_ok-check_sheet.ensures refl c.first_outside-o.ensures c.if-o-n.false c.first_overlap-p.ensures c.if-p-n.false c.first_bad_run-q.ensures c.if-q-n.false c.check_cells.ensures
+    by_cells (given (goal.at.returns c).Start) c.in_ok-check_sheet.ensures refl c.in_default.ensures c.in_default-first_overlap.ensures c.in_default-first_bad_run.ensures c.check_cells.ensures

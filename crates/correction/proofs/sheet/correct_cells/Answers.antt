@@ -63,12 +63,6 @@ returns c =
     let m = c.loop-c-test.false in
     let j = ended (given (goal.at.returns c).Start) _ _ _ i.0 i.2 m in record { counts = summed_all (given (goal.at.returns c).Start) _ _ _ _ _ i.1 i.2 m; leaves = all_cells (given (goal.at.returns c).Start) r j (r.long ∙ mul_comm _ _); writes = all_samples (given (goal.at.returns c).Start) r j }
 
-pub overflow_add-c : goal.overflow_add-c
-overflow_add-c c = omega (arith, few (goal.at.overflow_add-c c).After-correct_cell-n)
-
-pub loop-c-smaller : goal.loop-c-smaller
-loop-c-smaller c = omega (arith, c.loop-c-test.true)
-
 pub shape_of-stencil : goal.shape_of-stencil
 shape_of-stencil c = c.loop-c.invariant.0.long
 

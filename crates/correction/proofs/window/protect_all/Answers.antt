@@ -1,7 +1,6 @@
 -- `correction::window::protect_all` meets its contract: row by row. Assumes nothing.
 use mathlib.Core.Path.{ap}
 use Prim.Native.Nat.{ℕ, ◌*◌}
-use native.Mathlib.Omega.{arith}
 use Rattle.ground.specs.Lists.{painted, tab}
 use Rattle.ground.proofs.Laws.Picked.{picked_length, pasted_as}
 use Rattle.inputs.specs.Window.{cell_shown}
@@ -26,12 +25,6 @@ returns c =
 
 pub loop-y-init : goal.loop-y-init
 loop-y-init c = rows_none alone _ _
-
-pub overflow_add-y : goal.overflow_add-y
-overflow_add-y c = omega arith
-
-pub loop-y-smaller : goal.loop-y-smaller
-loop-y-smaller c = omega arith
 
 pub shape_of-stencil : goal.shape_of-stencil
 shape_of-stencil c = upto_long _ _ _ c.loop-y.invariant

@@ -1,11 +1,7 @@
 -- `correction::window::protect_all` meets its contract: row by row. Assumes nothing.
-use Prim.Native.Nat.{◌-◌}
 use Rattle.correction.proofs.bitmap.Stretch.{Rowed}
 use Rattle.correction.proofs.window.Rows.{alone}
 use Rattle.correction.proofs.window.protect_all.Given as goal
 
 abbrev pub invariant-loop-y : goal.invariant-loop-y
 invariant-loop-y l = Rowed alone l.b l.initial.stencil l.y l.stencil
-
-abbrev pub decreases-loop-y : goal.decreases-loop-y
-decreases-loop-y l = l.b.height - l.y

@@ -1,7 +1,6 @@
 -- `correction::window::protect_row` meets its contract: the row is given up to column x. Assumes nothing.
 use mathlib.Core.Path.{refl}
 use Prim.Native.Nat.{◌<◌}
-use native.Mathlib.Omega.{arith}
 use lib.ListN.{length}
 use Rattle.ground.specs.Lists.{painted}
 use Rattle.correction.proofs.bitmap.Stretch.{stretch_none, stretch_held, stretch_next, stretch_all, upto_long}
@@ -21,11 +20,6 @@ there c =
     let p = c.requires in
     stretch_held alone _ _ _ p.stencilled p.y_lt_height c.loop-x.invariant c.loop-x-test.true c.cell-k.ensures
 
-pub overflow_add-x : goal.overflow_add-x
-overflow_add-x c =
-    let f = c.requires.stencilled.fits in
-    omega (arith, c.loop-x-test.true, f.wide, f.broad)
-
 pub loop-x-preserved : goal.loop-x-preserved
 loop-x-preserved c =
     stretch_next alone _ _ _ c.requires.stencilled c.requires.y_lt_height c.loop-x.invariant c.loop-x-test.true c.cell-k.ensures refl
@@ -38,9 +32,6 @@ returns c =
 
 pub bounds-stencil-k : goal.bounds-stencil-k
 bounds-stencil-k c = there c
-
-pub loop-x-smaller : goal.loop-x-smaller
-loop-x-smaller c = omega (arith, c.loop-x-test.true)
 
 pub shape_of-stencil : goal.shape_of-stencil
 shape_of-stencil c = upto_long _ _ _ c.loop-x.invariant

@@ -1,11 +1,7 @@
 -- `correction::window::protect_row` meets its contract: the row is given up to column x. Assumes nothing.
-use Prim.Native.Nat.{◌-◌}
 use Rattle.correction.proofs.bitmap.Stretch.{Stretched}
 use Rattle.correction.proofs.window.Rows.{alone}
 use Rattle.correction.proofs.window.protect_row.Given as goal
 
 abbrev pub invariant-loop-x : goal.invariant-loop-x
 invariant-loop-x l = Stretched alone l.b l.initial.stencil l.y l.x l.stencil
-
-abbrev pub decreases-loop-x : goal.decreases-loop-x
-decreases-loop-x l = l.b.width - l.x
