@@ -1,5 +1,5 @@
 -- What the inner functions ask of each other; no public promise rests on it. Definitions only.
-use Rattle.std.specs.Prelude.{◌≡◌, ℕ, zero, suc, ◌+◌, ◌-◌, ◌*◌, ◌≤◌, ◌<◌, Bool, cond, List, length, get_or, Float}
+use Rattle.std.specs.Prelude.{◌≡◌, ℕ, zero, suc, ◌+◌, ◌-◌, ◌*◌, ◌≤◌, ◌<◌, Bool, cond, List, length, get_or, Float, Option, Some, None}
 use Rattle.ground.specs.Write.{Written}
 use Rattle.inputs.specs.Checks.{Input}
 use Rattle.inputs.specs.declared.stencil.Counts.{Counts}
@@ -14,8 +14,6 @@ use Rattle.reading.specs.Grammar.{fine, length_at, start, before, contours_from,
 use Rattle.reading.specs.Case.{colours_of, coords_of, ends_of}
 use Rattle.reading.specs.Text.{refused_text, counts_text, counts_plainly, accepted_with}
 use Rattle.reading.specs.Answer.{printed, written, printed_plainly, written_plainly}
-use Rattle.reading.specs.declared.text.Tests.{Tests}
-use Rattle.reading.specs.declared.text.Tests.TheVariants.{Counted, Uncounted}
 use Rattle.reading.specs.declared.engines.Judged.{Judged}
 use Rattle.reading.specs.declared.engines.Judged.TheVariants.{Accepted, Refused}
 use Rattle.reading.specs.declared.reader.Field.{Field}
@@ -135,17 +133,17 @@ pub record Decoded (s : List ℕ) (k n : ℕ) (cs₀ cs : List ℕ) (ps₀ ps : 
 -- ---- either engine: the plain one, or the first
 
 -- the counts' line, with the tests where they are counted
-unfoldable pub counts_line : Counts → Tests → List ℕ
-counts_line c (Counted t) = counts_text c t
-counts_line c Uncounted = counts_plainly c
+unfoldable pub counts_line : Counts → Option ℕ → List ℕ
+counts_line c (Some t) = counts_text c t
+counts_line c None = counts_plainly c
 
 -- an answer of the first engine, the pass, and one of the plain engine
 unfoldable pub of_pass : First.Answer → Judged
-of_pass (first.Accepted c t) = Accepted c (Counted t)
+of_pass (first.Accepted c t) = Accepted c (Some t)
 of_pass (first.Refused n p) = Refused n p
 
 unfoldable pub of_plain : Plain.Answer → Judged
-of_plain (plain.Accepted c) = Accepted c Uncounted
+of_plain (plain.Accepted c) = Accepted c None
 of_plain (plain.Refused n p) = Refused n p
 
 -- what the engine answers

@@ -4,17 +4,16 @@ ghost use Rattle.inputs.specs.Checks.{input};
 ghost use Rattle.correction.specs.Pass as Pass;
 ghost use Rattle.reading.specs.Inner as Inner;
 
-use crate::text::Tests;
 use correction::pass;
 use inputs::sizes::Bitmap;
 use inputs::stencil::Counts;
 use plain::pass as plain_pass;
 use ranges::config::Settings;
 
-// What either engine answers: the counts and the tests, or the number of the first check that fails and its place.
+// What either engine answers: the counts and the tests, where it counts them, or the number of the first check that fails and its place.
 #[derive(Clone, Copy)]
 pub enum Judged {
-    Accepted(Counts, Tests),
+    Accepted(Counts, Option<usize>),
     Refused(u8, usize),
 }
 
@@ -23,7 +22,7 @@ fn of_pass(a: pass::Answer) -> Judged
     ensures { result ≡ Inner.of_pass a }
 {
     match a {
-        pass::Answer::Accepted(c, t) => Judged::Accepted(c, Tests::Counted(t)),
+        pass::Answer::Accepted(c, t) => Judged::Accepted(c, Some(t)),
         pass::Answer::Refused(n, p) => Judged::Refused(n, p),
     }
 }
@@ -33,7 +32,7 @@ fn of_plain(a: plain_pass::Answer) -> Judged
     ensures { result ≡ Inner.of_plain a }
 {
     match a {
-        plain_pass::Answer::Accepted(c) => Judged::Accepted(c, Tests::Uncounted),
+        plain_pass::Answer::Accepted(c) => Judged::Accepted(c, None),
         plain_pass::Answer::Refused(n, p) => Judged::Refused(n, p),
     }
 }

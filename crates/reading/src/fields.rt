@@ -3,8 +3,7 @@ ghost use Rattle.std.specs.Prelude.{◌≡◌, ◌+◌, ◌≤◌, ◌<◌, leng
 ghost use Rattle.reading.specs.Grammar as Grammar;
 ghost use Rattle.reading.specs.Inner.{Told, Begun, Sized, Outlining, Rowing, Walked, Stepped, Read};
 
-use crate::reader;
-use crate::reader::Field;
+use crate::reader::{Field, Reader};
 use ground::bytes;
 
 // No breach.
@@ -237,12 +236,12 @@ fn step(s: &[u8], f: Field, l: Layout) -> Layout
 pub fn read(s: &[u8]) -> Layout
     ensures { Read s.now result.breach result.rows result.contours result.segments }
 {
-    let mut r = reader::new(s);
+    let mut r = Reader::new(s);
     let mut l = start(s);
     while 0 < l.due {
-        let f = reader::tell(r);
+        let f = r.field();
         l = step(s, f, l);
-        r = reader::behind(r, f.next);
+        r = r.behind(f.next);
     }
     l
 }

@@ -32,12 +32,8 @@ fn keep(xs: &[f32], out: &mut [f32]) -> usize
     requires { length xs.now ≤ length out.old }
     ensures { Written out.old 0 xs.now result out.new }
 {
-    let mut j = 0usize;
-    while j < xs.len() {
-        out[j] = xs[j];
-        j += 1;
-    }
-    j
+    out[..xs.len()].copy_from_slice(xs);
+    xs.len()
 }
 
 // The pass on a decoded case, by the plain engine or the first, with the mode and the settings of the input s. The medians are printed of the samples as they came in.
@@ -80,11 +76,7 @@ fn clear(out: &mut [u8], n: usize) -> usize
     requires { n ≤ length out.old }
     ensures { Written out.old 0 (tab n (λ k. 0)) result out.new × (result ≡ n) }
 {
-    let mut i = 0usize;
-    while i < n {
-        out[i] = 0;
-        i += 1;
-    }
+    out[..n].fill(0);
     n
 }
 
