@@ -17,10 +17,10 @@ fn answer_into(plain: bool, input: &[u8], out: &mut [u8]) -> usize
     requires { 131072 ≤ length out.old }
     ensures { (result ≡ length (printed_by plain input.now)) × (out.new ≡ printed_by plain input.now ++ drop result out.old) }
 {
-    let l = fields::read(input);
-    if l.breach != fields::FINE {
-        return text::put_bad(out, l.breach);
-    }
+    let l = match fields::read(input) {
+        Ok(l) => l,
+        Err(place) => return text::put_bad(out, place),
+    };
     if input[7] == 0 {
         return text::put_refused(out, 1, 0);
     }

@@ -1,6 +1,6 @@
 // The field reader: the input, and the place in it at which the next field starts.
 // It tells the field at its place and moves on behind it, and `fields::read` makes one and walks it through the whole input.
-// These three and that loop are all that holds a reader: whatever judges or decodes a field takes the slice and the field that was told.
+// These three and that function are all that holds a reader: whatever judges or decodes a field takes the slice and the field that was told.
 ghost use Rattle.std.specs.Prelude.{◌≡◌};
 ghost use Rattle.reading.specs.Inner.{Told};
 
