@@ -102,9 +102,7 @@ fn samples_place(xs: &[f32]) -> usize
     ensures { result ≡ Checks.samples_place xs.now }
 {
     let mut place = xs.len();
-    let mut j = xs.len();
-    while j > 0 {
-        j -= 1;
+    for j in (0..xs.len()).rev() {
         place = place_of(bad_sample(xs[j]), j, place);
     }
     place
@@ -142,9 +140,7 @@ fn ends_place(ends: &[usize], n: usize) -> usize
     ensures { result ≡ Checks.ends_place ends.now n }
 {
     let mut place = ends.len();
-    let mut i = ends.len();
-    while i > 0 {
-        i -= 1;
+    for i in (0..ends.len()).rev() {
         place = place_of(bad_end(ends, n, i), i, place);
     }
     place
@@ -181,9 +177,7 @@ fn segments_place(colours: &[u8], coords: &[f64]) -> usize
     ensures { result ≡ Checks.segments_place colours.now coords.now }
 {
     let mut place = colours.len();
-    let mut i = colours.len();
-    while i > 0 {
-        i -= 1;
+    for i in (0..colours.len()).rev() {
         place = place_of(bad_segment(colours, coords, i), i, place);
     }
     place

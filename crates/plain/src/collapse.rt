@@ -32,10 +32,7 @@ pub fn collapse(stencil: &[u8], xs: &mut [f32], channels: usize)
     requires { Collapsible channels (length xs.old) (length stencil.now) }
     ensures { xs.new ≡ Collapse.collapsed xs.old channels (λ k. is_error (slice_index stencil.now k)) }
 {
-    let mut k = 0usize;
-    while k < stencil.len() {
-        let flagged = is_flagged(stencil[k]);
-        collapse_texel(xs, k * channels, flagged);
-        k += 1;
+    for (k, v) in stencil.iter().enumerate() {
+        collapse_texel(xs, k * channels, is_flagged(*v));
     }
 }

@@ -110,12 +110,10 @@ fn mark_contour(
     ensures { stencil.new ≡ painted Inner.corner (λ k. contour_hits colours.now coords.now from end (k % b.width) (k / b.width)) stencil.old }
 {
     let mut last = last_colour(colours, from, end);
-    let mut i = from;
-    while i < end {
+    for i in from..end {
         let colour = colours[i];
         mark_segment(stencil, b, last, colour, coords[2 * i], coords[2 * i + 1]);
         last = colour;
-        i += 1;
     }
 }
 
@@ -125,10 +123,8 @@ pub fn mark_corners(stencil: &mut [u8], b: Bitmap, colours: &[u8], coords: &[f64
     requires outlined { Outlined colours.now coords.now ends.now }
     ensures { stencil.new ≡ painted Inner.corner (λ k. Corners.corners_protect (Corners.contours colours.now coords.now ends.now) (k % b.width) (k / b.width)) stencil.old }
 {
-    let mut c = 0usize;
-    while c < ends.len() {
+    for (c, end) in ends.iter().enumerate() {
         let from = checks::end_before(ends, c);
-        mark_contour(stencil, b, colours, coords, from, ends[c]);
-        c += 1;
+        mark_contour(stencil, b, colours, coords, from, *end);
     }
 }

@@ -66,11 +66,11 @@ fn some_side(xs: &[f32], b: Bitmap, s: Settings, protected: bool, x: usize, y: u
 {
     let row = Classifier {
         span: s.ratio * s.horizontal,
-        protected: protected,
+        protected,
     };
     let column = Classifier {
         span: s.ratio * s.vertical,
-        protected: protected,
+        protected,
     };
     let left = towards_side(xs, b, row, x, y, texels::previous(x), y);
     let below = towards_side(xs, b, column, x, y, x, texels::previous(y));
@@ -87,7 +87,7 @@ fn some_across(xs: &[f32], b: Bitmap, s: Settings, protected: bool, x: usize, y:
 {
     let k = Classifier {
         span: s.ratio * s.diagonal,
-        protected: protected,
+        protected,
     };
     let left = texels::previous(x);
     let below = texels::previous(y);

@@ -15,8 +15,8 @@ ghost use Rattle.plain.specs.Inner as Inner;
 
 use crate::{checks, collapse, corners, edges, errors};
 use inputs::sizes::Bitmap;
-use inputs::stencil;
 use inputs::stencil::Counts;
+use inputs::{room, stencil};
 use ranges::config;
 use ranges::config::Settings;
 
@@ -54,35 +54,13 @@ fn byte_at(xs: &[f32], b: Bitmap, mode: u8, s: Settings, corner: bool, x: usize,
     byte(corner, protected, error)
 }
 
-// Clears every cell.
-fn clear(stencil: &mut [u8])
-    ensures { stencil.new ≡ tab (length stencil.old) (λ k. 0) }
-{
-    let mut k = 0usize;
-    while k < stencil.len() {
-        stencil[k] = 0;
-        k += 1;
-    }
-}
-
-// The same of the room.
-fn clear_room(room: &mut [f32])
-    ensures { room.new ≡ tab (length room.old) (λ k. zero_of binary32) }
-{
-    let mut k = 0usize;
-    while k < room.len() {
-        room[k] = 0.0;
-        k += 1;
-    }
-}
-
 // Clears the stencil and marks the corners: only EdgePriority has any.
 fn mark(stencil: &mut [u8], b: Bitmap, mode: u8, colours: &[u8], coords: &[f64], ends: &[usize])
     requires celled { Celled b.width b.height stencil.old }
     requires outlined { Outlined colours.now coords.now ends.now }
     ensures { stencil.new ≡ tab (length stencil.old) (λ k. (if nat_eq mode edge_priority && corners_protect (contours colours.now coords.now ends.now) (k % b.width) (k / b.width) then 4 else 0)) }
 {
-    clear(stencil);
+    stencil::fill(stencil, 0);
     if mode == config::EDGE_PRIORITY {
         corners::mark_corners(stencil, b, colours, coords, ends);
     }
@@ -94,11 +72,9 @@ fn gather(stencil: &mut [u8], xs: &[f32], b: Bitmap, mode: u8, s: Settings)
     requires stencil_len { length stencil.old ≡ b.height * b.width }
     ensures { stencil.new ≡ tab (length stencil.old) (λ k. Inner.byte_by (texel xs.now b.width b.channels) b.width b.height mode s (slice_index stencil.old k == 4) (k % b.width) (k / b.width)) }
 {
-    let mut k = 0usize;
-    while k < stencil.len() {
-        let corner = stencil[k] == stencil::CORNER;
-        stencil[k] = byte_at(xs, b, mode, s, corner, k % b.width, k / b.width);
-        k += 1;
+    for (k, cell) in stencil.iter_mut().enumerate() {
+        let corner = *cell == stencil::CORNER;
+        *cell = byte_at(xs, b, mode, s, corner, k % b.width, k / b.width);
     }
 }
 
@@ -109,18 +85,15 @@ fn count(stencil: &[u8]) -> Counts
     let mut protected = 0usize;
     let mut error = 0usize;
     let mut corner = 0usize;
-    let mut k = 0usize;
-    while k < stencil.len() {
-        let v = stencil[k];
-        corner += (v / 4 % 2) as usize;
-        protected += (v / 2 % 2) as usize;
-        error += (v % 2) as usize;
-        k += 1;
+    for v in stencil {
+        corner += (*v / 4 % 2) as usize;
+        protected += (*v / 2 % 2) as usize;
+        error += (*v % 2) as usize;
     }
     Counts {
-        protected: protected,
-        error: error,
-        corner: corner,
+        protected,
+        error,
+        corner,
     }
 }
 
@@ -146,7 +119,7 @@ fn correct(
     mark(stencil, b, mode, colours, coords, ends);
     gather(stencil, xs, b, mode, s);
     collapse::collapse(stencil, xs, b.channels);
-    clear_room(room);
+    room::clear(room);
 }
 
 // The error correction of a bitmap, in place.
@@ -169,9 +142,9 @@ pub fn plain_error_correction(
     ensures clears { room.new ≡ Pass.room_after (input width height channels samples.old stencil.old room.old mode settings colours.now coords.now ends.now) }
 {
     let b = Bitmap {
-        width: width,
-        height: height,
-        channels: channels,
+        width,
+        height,
+        channels,
     };
     let f = checks::check(
         b, samples, stencil, room, mode, settings, colours, coords, ends,

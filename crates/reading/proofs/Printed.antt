@@ -1,4 +1,5 @@
 -- What is printed for an input, case by case, and that it fits. Assumes nothing.
+use Rattle.std.specs.Prelude.{Option, Some, None}
 use mathlib.Core.Bool.{Bool, true, false, cond}
 use mathlib.Core.List.{List}
 use mathlib.Core.Path.{◌≡◌, refl, ap, subst}
@@ -25,8 +26,6 @@ use Rattle.reading.specs.Case.{row_samples, samples_of}
 use Rattle.reading.specs.Grammar.{breach, width, height, channels, row_at, row_size}
 use Rattle.reading.specs.Inner.{counts_line, of_pass, of_plain, judged, judged_text, printed_by}
 use Rattle.reading.specs.Text.{bad_text, refused_text, cells_text, accepted_text, accepted_plainly}
-use Rattle.reading.specs.declared.text.Tests.{Tests}
-use Rattle.reading.specs.declared.text.Tests.TheVariants.{Counted, Uncounted}
 use Rattle.reading.specs.declared.engines.Judged.TheVariants.{Accepted, Refused}
 use Rattle.reading.proofs.run.Answered.{sized, stencil_length, refused_text_law}
 use Rattle.reading.proofs.decode.Decoded.{row_length}
@@ -91,7 +90,7 @@ unfolding test_count
 tests_fit i a = subst (λ (b : Bool). cond b (pass_tests i) 0 ≤ 1409286144) a (test_count_fits i)
 
 -- an accepted case: its sides, its channels and its counts are at most 4,096, and so are its cells
-accepted_fits : (i : Input) (t : Tests) → accepted i ≡ true → length i.samples ≤ 12288 → (length (cells_text (counts_of (pass_stencil i))) ≤ 85 → length (counts_line (counts_of (pass_stencil i)) t) ≤ 113) → length (judged_text i (Accepted (counts_of (pass_stencil i)) t)) ≤ 131072
+accepted_fits : (i : Input) (t : Option ℕ) → accepted i ≡ true → length i.samples ≤ 12288 → (length (cells_text (counts_of (pass_stencil i))) ≤ 85 → length (counts_line (counts_of (pass_stencil i)) t) ≤ 113) → length (judged_text i (Accepted (counts_of (pass_stencil i)) t)) ≤ 131072
 unfolding judged_text
 accepted_fits i t a l f =
     let z = sized i a in
@@ -109,8 +108,8 @@ refused_fits i l m n = omega (arith, refused_length (refusal_number i) (refusal_
 -- an answer of either engine
 fits_go : (plain : Bool) (i : Input) (t : Bool) → accepted i ≡ t → length i.samples ≤ 12288 → length i.ends ≤ 12288 → length i.colours ≤ 12288 → length (judged_text i (cond plain (of_plain (untested (cond t (first.Accepted (counts_of (pass_stencil i)) (pass_tests i)) (first.Refused (refusal_number i) (refusal_place i))))) (of_pass (cond t (first.Accepted (counts_of (pass_stencil i)) (pass_tests i)) (first.Refused (refusal_number i) (refusal_place i)))))) ≤ 131072
 unfolding untested of_plain of_pass
-fits_go true i true a l m n = accepted_fits i Uncounted a l (uncounted_length (counts_of (pass_stencil i)))
-fits_go false i true a l m n = accepted_fits i (Counted (pass_tests i)) a l (λ h. counted_length (counts_of (pass_stencil i)) (pass_tests i) h (omega (arith, tests_fit i a)))
+fits_go true i true a l m n = accepted_fits i None a l (uncounted_length (counts_of (pass_stencil i)))
+fits_go false i true a l m n = accepted_fits i (Some (pass_tests i)) a l (λ h. counted_length (counts_of (pass_stencil i)) (pass_tests i) h (omega (arith, tests_fit i a)))
 fits_go true i false a l m n = refused_fits i l m n
 fits_go false i false a l m n = refused_fits i l m n
 

@@ -1,5 +1,5 @@
 -- What the inner functions ask of each other; no public promise rests on it. Definitions only.
-use Rattle.std.specs.Prelude.{◌≡◌, ℕ, zero, suc, ◌+◌, ◌-◌, ◌*◌, ◌≤◌, ◌<◌, Bool, cond, List, length, get_or, Float}
+use Rattle.std.specs.Prelude.{◌≡◌, ℕ, ◌+◌, ◌-◌, ◌*◌, ◌≤◌, ◌<◌, Bool, cond, List, length, get_or, Float, Option, Some, None, Result, MatchResult}
 use Rattle.ground.specs.Write.{Written}
 use Rattle.inputs.specs.Checks.{Input}
 use Rattle.inputs.specs.declared.stencil.Counts.{Counts}
@@ -10,16 +10,13 @@ use Rattle.correction.specs.declared.pass.Answer.TheVariants as first
 use Rattle.plain.specs.Answer.{plain_answer}
 use Rattle.plain.specs.declared.pass.Answer as Plain
 use Rattle.plain.specs.declared.pass.Answer.TheVariants as plain
-use Rattle.reading.specs.Grammar.{fine, length_at, start, before, contours_from, contours, row_size, size_breach, field_breach, outline_breach, rows_breach, end_at, width, height, channels, breach}
+use Rattle.reading.specs.Grammar.{fine, length_at, start, before, contours_from, contours, row_size, size_breach, field_breach, outline_breach, rows_breach, end_at, width, height, channels}
 use Rattle.reading.specs.Case.{colours_of, coords_of, ends_of}
 use Rattle.reading.specs.Text.{refused_text, counts_text, counts_plainly, accepted_with}
 use Rattle.reading.specs.Answer.{printed, written, printed_plainly, written_plainly}
-use Rattle.reading.specs.declared.text.Tests.{Tests}
-use Rattle.reading.specs.declared.text.Tests.TheVariants.{Counted, Uncounted}
 use Rattle.reading.specs.declared.engines.Judged.{Judged}
 use Rattle.reading.specs.declared.engines.Judged.TheVariants.{Accepted, Refused}
 use Rattle.reading.specs.declared.reader.Field.{Field}
-use Rattle.reading.specs.declared.fields.Layout.{Layout}
 
 -- what a field reader tells of the field at a place: its tag, 0 where there is none, its length where that is there, and where its contents end where they are there
 pub record Told (s : List ℕ) (at : ℕ) (f : Field) : Type 0 where
@@ -55,10 +52,13 @@ pub record Whole (s : List ℕ) (at k n : ℕ) : Type 0 where
   pub outlined : Outlined s at k n
   pub rowed : end_at s ≤ length s
 
--- what reading answers
-pub record Read (s : List ℕ) (b at k n : ℕ) : Type 0 where
-  pub breached : b ≡ breach s
-  pub whole : b ≡ fine → Whole s at k n
+-- a check's answer: it passes where the number says that there is no breach, and else its error is the breach
+abbrev pub Checked : {A : Type 0} → ℕ → Result A ℕ → Type 0
+Checked n r = MatchResult r (λ x. n ≡ fine) (λ b. (b ≡ n) × (b ≡ fine → ⊥))
+
+-- the same, and what is known of what it answers
+abbrev pub Found : {A : Type 0} → ℕ → Result A ℕ → (A → Type 0) → Type 0
+Found n r known = MatchResult r (λ x. (n ≡ fine) × known x) (λ b. (b ≡ n) × (b ≡ fine → ⊥))
 
 -- the size field is read, and says how long a row is
 pub record Measured (s : List ℕ) (row : ℕ) : Type 0 where
@@ -66,18 +66,7 @@ pub record Measured (s : List ℕ) (row : ℕ) : Type 0 where
   pub sized : size_breach s ≡ fine
   pub wide : row ≡ 4 * row_size s
 
--- 01 is due: nothing is read but the length
-pub record Begun (s : List ℕ) (at : ℕ) : Type 0 where
-  pub short : length s ≤ 65536
-  pub first : at ≡ 0
-
--- 02 is due: the size is read, and all rows are left
-pub record Sized (s : List ℕ) (at left row : ℕ) : Type 0 where
-  pub measured : Measured s row
-  pub all : left ≡ height s
-  pub place : at ≡ 8
-
--- 03 is due, or what comes after the contours, which so far end at the place
+-- where 03 is due, or what comes after the contours, which so far end at the place
 pub record Outlining (s : List ℕ) (at left row rows k n : ℕ) : Type 0 where
   pub measured : Measured s row
   pub all : left ≡ height s
@@ -85,7 +74,7 @@ pub record Outlining (s : List ℕ) (at left row rows k n : ℕ) : Type 0 where
   pub reached : Reached s at k n
   pub place : rows ≡ at
 
--- 04 is due while rows are left, and then 00: what is left decides whether the rows have a breach
+-- where 04 is due while rows are left, and then 00: what is left decides whether the rows have a breach
 pub record Rowing (s : List ℕ) (at left row rows k n : ℕ) : Type 0 where
   pub measured : Measured s row
   pub set : field_breach s 8 2 33 ≡ fine
@@ -94,29 +83,6 @@ pub record Rowing (s : List ℕ) (at left row rows k n : ℕ) : Type 0 where
   pub same : rows_breach (height s) s rows (row_size s) ≡ rows_breach left s at (row_size s)
   pub ends : at + left * (3 + 4 * row_size s) ≡ end_at s
   pub inside : at ≤ length s
-
--- what is known where a tag is due at a place; 0 says that none is, since a breach was met or the end
-unfoldable pub Stage : ℕ → List ℕ → ℕ → Layout → Type 0
-Stage zero s at l = Read s l.breach l.rows l.contours l.segments
-Stage (suc zero) s at l = Begun s at
-Stage (suc (suc zero)) s at l = Sized s at l.left l.row
-Stage (suc (suc (suc zero))) s at l = Outlining s at l.left l.row l.rows l.contours l.segments
-Stage (suc (suc (suc (suc zero)))) s at l = Rowing s at l.left l.row l.rows l.contours l.segments
-Stage (suc (suc (suc (suc (suc d))))) s at l = ⊥
-
--- the fields before a place are walked
-abbrev pub Walked : List ℕ → ℕ → Layout → Type 0
-Walked s at l = Stage l.due s at l
-
--- how many turns there are at most from a place on, where a tag is due
-unfoldable pub turns : ℕ → ℕ → ℕ
-turns at zero = 0
-turns at (suc due) = 65537 - at
-
--- the field at a place is walked: what is known behind it, and that fewer turns are left
-pub record Stepped (s : List ℕ) (at next due : ℕ) (r : Layout) : Type 0 where
-  pub walked : Walked s next r
-  pub fewer : turns next r.due < turns at due
 
 -- the slices that are lent for the case
 pub record Lent (xs : List Float) (st cs : List ℕ) (ps : List Float) (es : List ℕ) : Type 0 where
@@ -135,17 +101,17 @@ pub record Decoded (s : List ℕ) (k n : ℕ) (cs₀ cs : List ℕ) (ps₀ ps : 
 -- ---- either engine: the plain one, or the first
 
 -- the counts' line, with the tests where they are counted
-unfoldable pub counts_line : Counts → Tests → List ℕ
-counts_line c (Counted t) = counts_text c t
-counts_line c Uncounted = counts_plainly c
+unfoldable pub counts_line : Counts → Option ℕ → List ℕ
+counts_line c (Some t) = counts_text c t
+counts_line c None = counts_plainly c
 
 -- an answer of the first engine, the pass, and one of the plain engine
 unfoldable pub of_pass : First.Answer → Judged
-of_pass (first.Accepted c t) = Accepted c (Counted t)
+of_pass (first.Accepted c t) = Accepted c (Some t)
 of_pass (first.Refused n p) = Refused n p
 
 unfoldable pub of_plain : Plain.Answer → Judged
-of_plain (plain.Accepted c) = Accepted c Uncounted
+of_plain (plain.Accepted c) = Accepted c None
 of_plain (plain.Refused n p) = Refused n p
 
 -- what the engine answers

@@ -14,10 +14,8 @@ fn decode_row(s: &[u8], from: usize, n: usize, out: &mut [f32], at: usize) -> us
     requires { (from + 3 + 4 * n ≤ length s.now) × (at + n ≤ length out.old) }
     ensures { Written out.old at (Case.row_samples s.now from n) result out.new }
 {
-    let mut j = 0usize;
-    while j < n {
+    for j in 0..n {
         out[at + j] = bytes::f32_at(s, from + 3 + 4 * j);
-        j += 1;
     }
     at + n
 }
@@ -28,12 +26,8 @@ pub fn decode_samples(s: &[u8], from: usize, h: usize, n: usize, out: &mut [f32]
     ensures { Written out.old 0 (joined h (λ y. Case.row_samples s.now (from + y * (3 + 4 * n)) n)) result out.new × (result ≡ h * n) }
 {
     let mut at = 0usize;
-    let mut place = from;
-    let mut y = 0usize;
-    while y < h {
-        at = decode_row(s, place, n, out, at);
-        place = place + (3 + 4 * n);
-        y += 1;
+    for y in 0..h {
+        at = decode_row(s, from + y * (3 + 4 * n), n, out, at);
     }
     at
 }
@@ -43,10 +37,8 @@ fn contour_colours(s: &[u8], from: usize, n: usize, out: &mut [u8], at: usize) -
     requires { (from + 3 + 17 * n ≤ length s.now) × (at + n ≤ length out.old) }
     ensures { Written out.old at (Case.contour_colours s.now from n) result out.new }
 {
-    let mut j = 0usize;
-    while j < n {
+    for j in 0..n {
         out[at + j] = s[from + 3 + 17 * j];
-        j += 1;
     }
     at + n
 }
@@ -67,10 +59,8 @@ fn contour_coords(s: &[u8], from: usize, n: usize, out: &mut [f64], at: usize) -
     ensures { Written out.old at (Case.contour_coords s.now from n) result out.new }
 {
     let mut next = at;
-    let mut j = 0usize;
-    while j < n {
+    for j in 0..n {
         next = segment_coords(s, from + 3 + 17 * j, out, next);
-        j += 1;
     }
     next
 }
@@ -92,13 +82,11 @@ pub fn decode_outline(
     let mut last = 0usize;
     let mut at = 0usize;
     let mut place = 44usize;
-    let mut i = 0usize;
-    while i < k {
+    for i in 0..k {
         let f = reader::field_at(s, place);
         last = contour_colours(s, place, f.len / 17, colours, last);
         at = contour_coords(s, place, f.len / 17, coords, at);
         ends[i] = last;
         place = f.next;
-        i += 1;
     }
 }

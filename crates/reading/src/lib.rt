@@ -12,15 +12,17 @@ mod reader;
 mod run;
 mod text;
 
-// Writes what the program prints for an input, with the plain engine or the first, into the front of `out`, and answers how many bytes that is.
-fn answer_into(plain: bool, input: &[u8], out: &mut [u8]) -> usize
+use engines::{Engine, First, Plain};
+
+// Writes what the program prints for an input, with either engine, into the front of `out`, and answers how many bytes that is.
+fn answer_into<E: Engine>(input: &[u8], out: &mut [u8]) -> usize
     requires { 131072 ≤ length out.old }
-    ensures { (result ≡ length (printed_by plain input.now)) × (out.new ≡ printed_by plain input.now ++ drop result out.old) }
+    ensures { (result ≡ length (printed_by E.plainly input.now)) × (out.new ≡ printed_by E.plainly input.now ++ drop result out.old) }
 {
-    let l = fields::read(input);
-    if l.breach != fields::FINE {
-        return text::put_bad(out, l.breach);
-    }
+    let l = match fields::read(input) {
+        Ok(l) => l,
+        Err(place) => return text::put_bad(out, place),
+    };
     if input[7] == 0 {
         return text::put_refused(out, 1, 0);
     }
@@ -29,8 +31,7 @@ fn answer_into(plain: bool, input: &[u8], out: &mut [u8]) -> usize
     let mut colours = [0u8; 256];
     let mut coords = [0.0f64; 512];
     let mut ends = [0usize; 64];
-    run::answer_case(
-        plain,
+    run::answer_case::<E>(
         input,
         l,
         out,
@@ -43,25 +44,25 @@ fn answer_into(plain: bool, input: &[u8], out: &mut [u8]) -> usize
 }
 
 // The same for any slice: one with less room than the longest text needs is left alone, and the answer is 0.
-fn answer_by(plain: bool, input: &[u8], out: &mut [u8]) -> usize
-    ensures { (result ≡ length (written_by plain (length out.old) input.now)) × (out.new ≡ written_by plain (length out.old) input.now ++ drop result out.old) }
+fn answer_by<E: Engine>(input: &[u8], out: &mut [u8]) -> usize
+    ensures { (result ≡ length (written_by E.plainly (length out.old) input.now)) × (out.new ≡ written_by E.plainly (length out.old) input.now ++ drop result out.old) }
 {
     if out.len() < 131072 {
         return 0;
     }
-    answer_into(plain, input, out)
+    answer_into::<E>(input, out)
 }
 
 // Writes what the program prints for an input into the front of `out`, and answers how many bytes that is; a slice with less room than the longest text needs is left alone, and the answer is 0.
 pub fn answer(input: &[u8], out: &mut [u8]) -> usize
     ensures { (result ≡ length (written (length out.old) input.now)) × (out.new ≡ written (length out.old) input.now ++ drop result out.old) }
 {
-    answer_by(false, input, out)
+    answer_by::<First>(input, out)
 }
 
 // The same for the plain program, which judges with the plain engine and prints no tests.
 pub fn answer_plainly(input: &[u8], out: &mut [u8]) -> usize
     ensures { (result ≡ length (written_plainly (length out.old) input.now)) × (out.new ≡ written_plainly (length out.old) input.now ++ drop result out.old) }
 {
-    answer_by(true, input, out)
+    answer_by::<Plain>(input, out)
 }

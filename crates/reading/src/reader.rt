@@ -1,6 +1,6 @@
 // The field reader: the input, and the place in it at which the next field starts.
 // It tells the field at its place and moves on behind it, and `fields::read` makes one and walks it through the whole input.
-// These three and that loop are all that holds a reader: whatever judges or decodes a field takes the slice and the field that was told.
+// These three and that function are all that holds a reader: whatever judges or decodes a field takes the slice and the field that was told.
 ghost use Rattle.std.specs.Prelude.{◌≡◌};
 ghost use Rattle.reading.specs.Inner.{Told};
 
@@ -60,23 +60,25 @@ pub fn field_at(s: &[u8], at: usize) -> Field
     }
 }
 
-// A reader at the first field.
-pub fn new<'a>(src: &'a [u8]) -> Reader<'a>
-    ensures { (result.src ≡ src.entry) × (result.at ≡ 0) }
-{
-    Reader { src, at: 0 }
-}
+impl<'a> Reader<'a> {
+    // A reader at the first field.
+    pub fn new(src: &'a [u8]) -> Reader<'a>
+        ensures { (result.src ≡ src.entry) × (result.at ≡ 0) }
+    {
+        Reader { src, at: 0 }
+    }
 
-// What stands at the reader's place.
-pub fn tell<'a>(r: Reader<'a>) -> Field
-    ensures { Told r.entry.src.now r.entry.at result }
-{
-    field_at(r.src, r.at)
-}
+    // What stands at the reader's place.
+    pub fn field(self) -> Field
+        ensures { Told self.entry.src.now self.entry.at result }
+    {
+        field_at(self.src, self.at)
+    }
 
-// The reader behind a field that ends at a place.
-pub fn behind<'a>(r: Reader<'a>, at: usize) -> Reader<'a>
-    ensures { (result.src ≡ r.entry.src) × (result.at ≡ at) }
-{
-    Reader { src: r.src, at }
+    // The reader behind a field that ends at a place.
+    pub fn behind(self, at: usize) -> Reader<'a>
+        ensures { (result.src ≡ self.entry.src) × (result.at ≡ at) }
+    {
+        Reader { src: self.src, at }
+    }
 }

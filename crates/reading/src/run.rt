@@ -8,9 +8,9 @@ ghost use Rattle.reading.specs.Case.{mode_of};
 ghost use Rattle.reading.specs.Grammar.{channels};
 ghost use Rattle.reading.specs.Inner as Inner;
 
-use crate::engines::Judged;
+use crate::engines::{Engine, Judged};
 use crate::fields::Layout;
-use crate::{decode, engines, text};
+use crate::{decode, text};
 use ground::bytes;
 use inputs::sizes::Bitmap;
 use ranges::config::Settings;
@@ -32,17 +32,12 @@ fn keep(xs: &[f32], out: &mut [f32]) -> usize
     requires { length xs.now ≤ length out.old }
     ensures { Written out.old 0 xs.now result out.new }
 {
-    let mut j = 0usize;
-    while j < xs.len() {
-        out[j] = xs[j];
-        j += 1;
-    }
-    j
+    out[..xs.len()].copy_from_slice(xs);
+    xs.len()
 }
 
-// The pass on a decoded case, by the plain engine or the first, with the mode and the settings of the input s. The medians are printed of the samples as they came in.
-fn run(
-    plain: bool,
+// The pass on a decoded case, by either engine, with the mode and the settings of the input s. The medians are printed of the samples as they came in.
+fn run<E: Engine>(
     out: &mut [u8],
     s: &[u8],
     b: Bitmap,
@@ -53,13 +48,12 @@ fn run(
     ends: &[usize],
 ) -> usize
     requires { (131072 ≤ length out.old) × (length samples.old ≤ 12288) × (11 < length s.now) }
-    ensures { Written out.old 0 (Inner.judged_text (input b.width b.height b.channels samples.old stencil.old Answers.lent_room (mode_of s.now) (Answers.settings_of s.now) colours.now coords.now ends.now) (Inner.judged plain (input b.width b.height b.channels samples.old stencil.old Answers.lent_room (mode_of s.now) (Answers.settings_of s.now) colours.now coords.now ends.now))) result out.new }
+    ensures { Written out.old 0 (Inner.judged_text (input b.width b.height b.channels samples.old stencil.old Answers.lent_room (mode_of s.now) (Answers.settings_of s.now) colours.now coords.now ends.now) (Inner.judged E.plainly (input b.width b.height b.channels samples.old stencil.old Answers.lent_room (mode_of s.now) (Answers.settings_of s.now) colours.now coords.now ends.now))) result out.new }
 {
     let mut kept = [0.0f32; 12288];
     let mut room = [0.0f32; 8192];
     let n = keep(samples, &mut kept);
-    match engines::judge(
-        plain,
+    match E::judge(
         b,
         samples,
         stencil,
@@ -80,17 +74,12 @@ fn clear(out: &mut [u8], n: usize) -> usize
     requires { n ≤ length out.old }
     ensures { Written out.old 0 (tab n (λ k. 0)) result out.new × (result ≡ n) }
 {
-    let mut i = 0usize;
-    while i < n {
-        out[i] = 0;
-        i += 1;
-    }
+    out[..n].fill(0);
     n
 }
 
 // A well formed input, laid out as l says, decoded into what is lent.
-pub fn answer_case(
-    plain: bool,
+pub fn answer_case<E: Engine>(
     s: &[u8],
     l: Layout,
     out: &mut [u8],
@@ -103,7 +92,7 @@ pub fn answer_case(
     requires whole { Inner.Whole s.now l.rows l.contours l.segments }
     requires in_bounds { (131072 ≤ length out.old) × (0 < channels s.now) }
     requires lent { Inner.Lent samples.old stencil.old colours.old coords.old ends.old }
-    ensures { Written out.old 0 (Inner.judged_text (Answers.case_of s.now) (Inner.judged plain (Answers.case_of s.now))) result out.new }
+    ensures { Written out.old 0 (Inner.judged_text (Answers.case_of s.now) (Inner.judged E.plainly (Answers.case_of s.now))) result out.new }
 {
     let b = Bitmap {
         width: bytes::be16(s, 3),
@@ -115,8 +104,7 @@ pub fn answer_case(
     let a = decode::decode_samples(s, l.rows, b.height, b.width * b.channels, samples);
     let c = clear(stencil, b.width * b.height);
     decode::decode_outline(s, l.rows, k, n, colours, coords, ends);
-    run(
-        plain,
+    run::<E>(
         out,
         s,
         b,

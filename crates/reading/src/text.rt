@@ -26,15 +26,12 @@ fn put_all(out: &mut [u8], at: usize, t: &[u8]) -> usize
     requires { at + length t.now ≤ length out.old }
     ensures { Written out.old at t.now result out.new }
 {
-    let mut j = 0usize;
-    while j < t.len() {
-        out[at + j] = t[j];
-        j += 1;
-    }
-    at + j
+    let end = at + t.len();
+    out[at..end].copy_from_slice(t);
+    end
 }
 
-// How many digits n has in decimal.
+// How many digits n has in decimal. What is left falls tenfold a turn, so no range counts the turns.
 fn digits(n: usize) -> usize
     ensures { result ≡ length (decimal n) }
 {
@@ -47,7 +44,7 @@ fn digits(n: usize) -> usize
     count
 }
 
-// The digits of n, written from the last to the first.
+// The digits of n, written from the last to the first, a turn for each tenfold.
 fn put_decimal(out: &mut [u8], at: usize, n: usize) -> usize
     requires { at + length (decimal n) ≤ length out.old }
     ensures { Written out.old at (decimal n) result out.new }
@@ -171,22 +168,15 @@ fn put_cells(out: &mut [u8], at: usize, c: Counts) -> usize
     put_decimal(out, d, c.corner)
 }
 
-// How many range tests were made, where they are counted.
-#[derive(Clone, Copy)]
-pub enum Tests {
-    Counted(usize),
-    Uncounted,
-}
-
-// The counts' line: the tests are there where they are counted.
-fn put_counts(out: &mut [u8], at: usize, c: Counts, tests: Tests) -> usize
+// The counts' line: the range tests are there where they are counted.
+fn put_counts(out: &mut [u8], at: usize, c: Counts, tests: Option<usize>) -> usize
     requires { at + 113 ≤ length out.old }
     ensures { Written out.old at (counts_line c tests) result out.new × (result ≤ at + 113) }
 {
     let a = put_cells(out, at, c);
     match tests {
-        Tests::Counted(t) => put_named(out, a, b" tests ", t, 10),
-        Tests::Uncounted => put(out, a, 10),
+        Some(t) => put_named(out, a, b" tests ", t, 10),
+        None => put(out, a, 10),
     }
 }
 
@@ -194,10 +184,8 @@ fn put_marks(out: &mut [u8], at: usize, st: &[u8], from: usize, w: usize) -> usi
     requires { (at + w ≤ length out.old) × (from + w ≤ length st.now) }
     ensures { Written out.old at (Text.marks_text w st.now from) result out.new }
 {
-    let mut x = 0usize;
-    while x < w {
+    for x in 0..w {
         out[at + x] = mark(st[from + x]);
-        x += 1;
     }
     at + w
 }
@@ -217,10 +205,8 @@ fn put_rows(out: &mut [u8], at: usize, st: &[u8], b: Bitmap) -> usize
     ensures { Written out.old at (Text.rows_text b.width b.height st.now) result out.new }
 {
     let mut next = at;
-    let mut y = 0usize;
-    while y < b.height {
+    for y in 0..b.height {
         next = put_row(out, next, st, b.width, y);
-        y += 1;
     }
     next
 }
@@ -259,10 +245,8 @@ fn put_texels(out: &mut [u8], at: usize, st: &[u8], xs: &[f32], b: Bitmap) -> us
 {
     let n = b.width * b.height;
     let mut next = at;
-    let mut k = 0usize;
-    while k < n {
+    for k in 0..n {
         next = put_flagged(out, next, st, xs, b, k);
-        k += 1;
     }
     next
 }
@@ -272,7 +256,7 @@ pub fn put_accepted(
     out: &mut [u8],
     b: Bitmap,
     c: Counts,
-    tests: Tests,
+    tests: Option<usize>,
     st: &[u8],
     xs: &[f32],
 ) -> usize

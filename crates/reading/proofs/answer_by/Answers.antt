@@ -23,7 +23,7 @@ enough : (plain : Bool) (n : ℕ) (s : List ℕ) → 131072 ≤ n → written_by
 enough plain n s h = either plain n s ∙ ap (λ (b : Bool). cond b (printed_by plain s) []) (is_true (leb 131072 n) (le→leb 131072 n h))
 
 pub returns-then-out-lt131072 : goal.returns-then-out-lt131072
-returns-then-out-lt131072 c = rw (short _ _ _ c.if-out-lt131072.true) (refl, refl)
+returns-then-out-lt131072 g c = rw (short _ _ _ c.if-out-lt131072.true) (refl, refl)
 
 pub returns : goal.returns
-returns c = rw (enough _ _ _ c.if-out-lt131072.false) c.answer_into.ensures
+returns g c = rw (enough _ _ _ c.if-out-lt131072.false) c.answer_into.ensures

@@ -5,23 +5,24 @@ use Rattle.reading.proofs.Printed.{some, printed_bad, printed_case, no_channels,
 use Rattle.reading.specs.Inner.{printed_by}
 use Rattle.reading.specs.Text.{bad_text}
 use native.Mathlib.Omega.{arith}
-use mathlib.Core.Path.{sym, ◌∙◌, ap}
+use mathlib.Core.Path.{◌∙◌, ap}
 use Rattle.reading.proofs.answer_into.Goals as goal
 
-pub returns-then-l-ne-FINE : goal.returns-then-l-ne-FINE
-returns-then-l-ne-FINE c =
-    written_front (written_as (printed_by c.args.plain c.args.input.now) (ap bad_text c.read-l.ensures.breached ∙ printed_bad _ _ (λ z. c.if-l-ne-FINE.true (c.read-l.ensures.breached ∙ z))) c.put_bad.ensures) (le_trans (printed_fits c.args.plain c.args.input.now) c.requires)
+pub returns-in-Err : goal.returns-in-Err
+returns-in-Err g c =
+    let q = c.in-Err.ensures in
+    written_front (written_as (printed_by g.E.Engine.plainly c.args.input.now) (ap bad_text q.0 ∙ printed_bad _ _ (λ z. q.1 (q.0 ∙ z))) c.put_bad.ensures) (le_trans (printed_fits g.E.Engine.plainly c.args.input.now) c.requires)
 
 pub bounds-input-7 : goal.bounds-input-7
-bounds-input-7 c = omega (arith, (c.read-l.ensures.whole c.if-l-ne-FINE.false).headed)
+bounds-input-7 g c = omega (arith, c.in-Ok.ensures.1.headed)
 
 pub returns-then-input-eq0 : goal.returns-then-input-eq0
-returns-then-input-eq0 c =
-    written_front (written_as (printed_by c.args.plain c.args.input.now) (no_channels _ _ c.if-input-eq0.true ∙ printed_case _ _ (sym c.read-l.ensures.breached ∙ c.if-l-ne-FINE.false)) c.put_refused.ensures) (le_trans (printed_fits c.args.plain c.args.input.now) c.requires)
+returns-then-input-eq0 g c =
+    written_front (written_as (printed_by g.E.Engine.plainly c.args.input.now) (no_channels _ _ c.if-input-eq0.true ∙ printed_case _ _ c.in-Ok.ensures.0) c.put_refused.ensures) (le_trans (printed_fits g.E.Engine.plainly c.args.input.now) c.requires)
 
 pub answer_case-requires : goal.answer_case-requires
-answer_case-requires c = record { whole = (c.read-l.ensures.whole c.if-l-ne-FINE.false); in_bounds = (c.requires, some _ c.if-input-eq0.false); lent = record { samples = le_refl 12288; cells = le_refl 12288; colours = le_refl 256; coords = le_refl 512; ends = le_refl 64 } }
+answer_case-requires g c = record { whole = c.in-Ok.ensures.1; in_bounds = (c.requires, some _ c.if-input-eq0.false); lent = record { samples = le_refl 12288; cells = le_refl 12288; colours = le_refl 256; coords = le_refl 512; ends = le_refl 64 } }
 
 pub returns : goal.returns
-returns c =
-    written_front (written_as (printed_by c.args.plain c.args.input.now) (printed_case _ _ (sym c.read-l.ensures.breached ∙ c.if-l-ne-FINE.false)) c.answer_case.ensures) (le_trans (printed_fits c.args.plain c.args.input.now) c.requires)
+returns g c =
+    written_front (written_as (printed_by g.E.Engine.plainly c.args.input.now) (printed_case _ _ c.in-Ok.ensures.0) c.answer_case.ensures) (le_trans (printed_fits g.E.Engine.plainly c.args.input.now) c.requires)

@@ -1,7 +1,7 @@
 -- What a breach says, and what is there where a field has none. Assumes nothing.
 use mathlib.Core.Bool.{Bool, true, false, cond, not}
 use mathlib.Core.List.{List}
-use mathlib.Core.Path.{◌≡◌, refl, ap}
+use mathlib.Core.Path.{◌≡◌, refl, sym, ap, ◌∙◌}
 use Prim.Native.Nat.{ℕ, zero, suc, ◌+◌, ◌-◌, ◌*◌, ◌/◌, ◌%◌, ◌≤◌, ◌<◌}
 use native.Mathlib.Nat.{not-suc-le-zero}
 use native.Mathlib.Omega.{arith}
@@ -19,6 +19,10 @@ found a b n = simp (ne_eqb a 65537 n)
 pub passed : (a b : ℕ) → a ≡ 65537 → or_else a b ≡ b
 unfolding or_else
 passed a b e = simp (eq-eqb a 65537 e)
+
+-- a breach that the first of two checks finds
+pub found_at : {a n : ℕ} (b : ℕ) → (n ≡ a) × (n ≡ 65537 → ⊥) → (n ≡ or_else a b) × (n ≡ 65537 → ⊥)
+found_at {a} b q = (q.0 ∙ sym (found a b (λ z. q.1 (q.0 ∙ z))), q.1)
 
 -- no breach where a test fails
 pub test_fine : (t : Bool) (x y : ℕ) → (x ≡ 65537 → ⊥) → cond t x y ≡ 65537 → (t ≡ false) × (y ≡ 65537)

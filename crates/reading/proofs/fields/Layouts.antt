@@ -8,7 +8,6 @@ use lib.Dec.{ltb}
 use lib.ListN.{length}
 use borrow.Author.Tests.{lt-ltb, le-ltb, ltb-false}
 use Rattle.reading.specs.Grammar.{or_else, size_breach, settings_breach, outline_breach, rows_breach, end_breach, field_breach, breach, width, height, channels, row_size, rows_at, end_at}
-use Rattle.reading.specs.Inner.{Read}
 use Rattle.reading.proofs.fields.Breaches.{found, passed, both_fine, test_fine, field_fine}
 
 -- the sample count with the height in front
@@ -21,10 +20,6 @@ unfolding size_breach
 size_fine s short e =
     let p = both_fine (field_breach s 0 1 5) _ e in
     (field_fine s short 0 1 5 (omega arith) p.0, ltb-false 12288 _ (test_fine (ltb 12288 (width s * height s * channels s)) 0 65537 (λ z. omega arith) p.1).0)
-
--- a breach that is found
-pub read_found : (s : List ℕ) {b at k n : ℕ} → b ≡ breach s → (b ≡ 65537 → ⊥) → Read s b at k n
-read_found s e n = record { breached = e; whole = λ z. absurd (n z) }
 
 -- too long
 pub breach_long : (s : List ℕ) → 65536 < length s → breach s ≡ 65536

@@ -9,10 +9,6 @@ use native.Mathlib.Omega.{arith}
 pub pair_fits : (a b : ℕ) → a < 65536 → b < 65536 → a * b ≤ 4294967296
 pair_fits a b p q = omega (arith, mul-le-mul_left a (le_of_lt q))
 
--- and one of one byte
-pub triple_fits : (a b c : ℕ) → a < 65536 → b < 65536 → c < 256 → a * b * c ≤ 1099511627776
-triple_fits a b c p q r = omega (arith, mul-le-mul_left (a * b) (le_of_lt r), pair_fits a b p q)
-
 -- the samples of a row
 pub row_fits : (a b : ℕ) → a < 65536 → b < 256 → a * b < 16777216
 row_fits a b p q = let r : b ≤ 255 = omega arith in omega (arith, mul-le-mul_left a r)

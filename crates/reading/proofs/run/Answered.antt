@@ -1,15 +1,15 @@
 -- What an accepted case leaves in the stencil, and the samples that it was given, are what is printed of it. Assumes nothing.
+use Rattle.std.specs.Prelude.{Option}
 use mathlib.Core.Bool.{Bool, true, false, cond}
-use mathlib.Core.List.{List, ◌∷◌}
+use mathlib.Core.List.{List}
 use mathlib.Core.Path.{◌≡◌, refl, sym, ap, ◌∙◌}
-use Prim.Native.Nat.{ℕ, zero, suc, ◌*◌, ◌≤◌, ◌<◌}
+use Prim.Native.Nat.{ℕ, ◌*◌, ◌≤◌, ◌<◌}
 use native.Mathlib.Nat.{mul-le-mul_left}
 use native.Mathlib.Omega.{arith}
 use lib.Ieee.{Float, binary32}
 use lib.ListN.{length, replicate}
 use borrow.Author.Tests.{eqb-true}
 use Rattle.numbers.specs.Constants.{zero_of}
-use Rattle.ground.specs.Lists.{tab}
 use Rattle.ranges.specs.declared.config.Settings.{Settings}
 use Rattle.inputs.specs.Checks.{Input, refusal_number, accepted}
 use Rattle.inputs.proofs.Laws.Checks.{sizes, passed}
@@ -21,8 +21,8 @@ use Rattle.inputs.specs.declared.stencil.Counts.{Counts}
 use Rattle.plain.specs.Answer.{plain_answer, untested}
 use Rattle.reading.specs.Inner.{counts_line, of_pass, of_plain, judged, judged_text}
 use Rattle.reading.specs.Answer.{lent_room}
+use Rattle.reading.proofs.Copied.{repeated}
 use Rattle.reading.specs.Text.{accepted_with, refused_text}
-use Rattle.reading.specs.declared.text.Tests.{Tests}
 use Rattle.reading.specs.declared.engines.Judged.TheVariants.{Accepted, Refused}
 
 -- ---- what acceptance says of the sizes
@@ -45,14 +45,14 @@ sized i a =
 
 -- ---- the answer
 
-accepted_go : (plain b : Bool) (c d : Counts) (t : Tests) (u n p : ℕ) → Accepted c t ≡ cond plain (of_plain (untested (cond b (first.Accepted d u) (first.Refused n p)))) (of_pass (cond b (first.Accepted d u) (first.Refused n p))) → b ≡ true
+accepted_go : (plain b : Bool) (c d : Counts) (t : Option ℕ) (u n p : ℕ) → Accepted c t ≡ cond plain (of_plain (untested (cond b (first.Accepted d u) (first.Refused n p)))) (of_pass (cond b (first.Accepted d u) (first.Refused n p))) → b ≡ true
 unfolding untested of_plain of_pass
 accepted_go plain true c d t u n p e = refl
 accepted_go true false c d t u n p e = absurd (let z : ◌≡◌ {A = ℕ} 0 1 = cc in omega arith)
 accepted_go false false c d t u n p e = absurd (let z : ◌≡◌ {A = ℕ} 0 1 = cc in omega arith)
 
 -- an answer that counts is one of acceptance
-pub was_accepted : (plain : Bool) (i : Input) (c : Counts) (t : Tests) → Accepted c t ≡ judged plain i → accepted i ≡ true
+pub was_accepted : (plain : Bool) (i : Input) (c : Counts) (t : Option ℕ) → Accepted c t ≡ judged plain i → accepted i ≡ true
 unfolding judged plain_answer answer
 was_accepted plain i c t e = accepted_go plain (accepted i) c _ t _ _ _ e
 
@@ -69,7 +69,7 @@ module _ (i : Input) (a : accepted i ≡ true) where
 -- ---- the text
 
 -- what is printed from the stencil that an accepted pass leaves and the samples that it was given
-pub accepted_text_law : (plain : Bool) (i : Input) (c : Counts) (t : Tests) (st : List ℕ) (xs : List Float) → Accepted c t ≡ judged plain i → st ≡ stencil_after i → xs ≡ i.samples → accepted_with i.width i.height i.channels (counts_line c t) st (cell_texel xs i.channels) ≡ judged_text i (judged plain i)
+pub accepted_text_law : (plain : Bool) (i : Input) (c : Counts) (t : Option ℕ) (st : List ℕ) (xs : List Float) → Accepted c t ≡ judged plain i → st ≡ stencil_after i → xs ≡ i.samples → accepted_with i.width i.height i.channels (counts_line c t) st (cell_texel xs i.channels) ≡ judged_text i (judged plain i)
 unfolding judged_text
 accepted_text_law plain i c t st xs e p q = rw (p, q, stencil_left i (was_accepted plain i c t e)) (ap (judged_text i) e)
 
@@ -80,7 +80,7 @@ pub record Roomy (i : Input) (st : List ℕ) (xs : List Float) : Type 0 where
   pub samples : i.width * i.height * i.channels ≤ length xs
 
 -- the stencil and the samples are long enough to be printed
-pub roomy : (plain : Bool) (i : Input) (c : Counts) (t : Tests) (st : List ℕ) (xs : List Float) → Accepted c t ≡ judged plain i → length i.samples ≤ 12288 → st ≡ stencil_after i → xs ≡ i.samples → Roomy i st xs
+pub roomy : (plain : Bool) (i : Input) (c : Counts) (t : Option ℕ) (st : List ℕ) (xs : List Float) → Accepted c t ≡ judged plain i → length i.samples ≤ 12288 → st ≡ stencil_after i → xs ≡ i.samples → Roomy i st xs
 roomy plain i c t st xs e few p q =
     let a = was_accepted plain i c t e in
     let z = sized i a in
@@ -96,11 +96,6 @@ unfolding judged_text
 refused_text_law plain i n p e = ap (judged_text i) e
 
 -- ---- the room
-
-repeated : {A : Type 0} (n : ℕ) (v : A) → replicate n v ≡ tab n (λ k. v)
-unfolding tab
-repeated zero v = refl
-repeated (suc n) v = ap (λ l. v ∷ l) (repeated n v)
 
 -- what an array of zeros lends
 pub lent : replicate 8192 (zero_of binary32) ≡ lent_room

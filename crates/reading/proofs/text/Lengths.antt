@@ -1,4 +1,5 @@
 -- How long the printed texts are at most. Assumes nothing.
+use Rattle.std.specs.Prelude.{Some, None}
 use mathlib.Core.Bool.{Bool, true, false, cond}
 use mathlib.Core.List.{List, [], ◌∷◌}
 use mathlib.Core.Path.{◌≡◌, ap, ◌∙◌}
@@ -17,7 +18,6 @@ use Rattle.inputs.specs.declared.stencil.Counts.{Counts}
 use Rattle.inputs.specs.Stencil.{is_error}
 use Rattle.reading.specs.Text.{hex_pair, hex, numbered, bad_text, refused_text, size_text, cells_text, tests_text, counts_text, counts_plainly, marks_text, row_text, rows_text, texel_text, flagged_text, accepted_with}
 use Rattle.reading.specs.Inner.{counts_line}
-use Rattle.reading.specs.declared.text.Tests.TheVariants.{Counted, Uncounted}
 use Rattle.reading.proofs.Laws.Decimal.{decimal_length, decimal_length_u64}
 
 cond_length : (t : Bool) (m : ℕ) (l : List ℕ) → length l ≤ m → length (cond t l []) ≤ m
@@ -82,11 +82,11 @@ unfolding cells_text
 cells_length c l m n = simp length-append (omega (arith, numbered_length c.protected 32 l, numbered_length c.error 32 m, decimal_length_u64 c.corner n))
 
 -- their line with the tests, and without
-pub counted_length : (c : Counts) (t : ℕ) → length (cells_text c) ≤ 85 → t < 2 ^ 64 → length (counts_line c (Counted t)) ≤ 113
+pub counted_length : (c : Counts) (t : ℕ) → length (cells_text c) ≤ 85 → t < 2 ^ 64 → length (counts_line c (Some t)) ≤ 113
 unfolding counts_line counts_text tests_text
 counted_length c t l o = simp length-append (omega (arith, decimal_length_u64 t o))
 
-pub uncounted_length : (c : Counts) → length (cells_text c) ≤ 85 → length (counts_line c Uncounted) ≤ 113
+pub uncounted_length : (c : Counts) → length (cells_text c) ≤ 85 → length (counts_line c None) ≤ 113
 unfolding counts_line counts_plainly
 uncounted_length c l = simp length-append (omega arith)
 

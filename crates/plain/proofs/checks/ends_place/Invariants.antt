@@ -6,6 +6,3 @@ use Rattle.plain.proofs.checks.ends_place.Given as goal
 
 abbrev pub invariant-loop-i : goal.invariant-loop-i
 invariant-loop-i l = Kept (bad_end l.ends l.n) (length l.ends) l.i l.place
-
-abbrev pub decreases-loop-i : goal.decreases-loop-i
-decreases-loop-i l = l.i

@@ -7,6 +7,3 @@ use Rattle.plain.proofs.checks.samples_place.Given as goal
 
 abbrev pub invariant-loop-j : goal.invariant-loop-j
 invariant-loop-j l = Kept (λ k. oversize binary32 (get_or l.xs k nan)) (length l.xs) l.j l.place
-
-abbrev pub decreases-loop-j : goal.decreases-loop-j
-decreases-loop-j l = l.j

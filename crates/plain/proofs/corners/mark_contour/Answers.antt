@@ -1,8 +1,7 @@
 -- `plain::corners::mark_contour` meets its contract: after each turn the stencil is painted by the segments before i, and `last` is the colour of the one that comes before i, cyclic. Assumes nothing.
 use Rattle.std.proofs.Common.{◌≡◌, ℕ, ◌+◌, ◌-◌, Bool, refl, ◌∙◌, arith, lt-ltb, eq-eqb, ne_eqb}
 use native.Mathlib.Nat.{sub_self}
-use Rattle.ground.proofs.Laws.Painted.{painted_zero, painted_long, painted_turn}
-use Rattle.inputs.proofs.Laws.Places.{still_celled}
+use Rattle.ground.proofs.Laws.Painted.{painted_zero, painted_turn}
 use Rattle.correction.specs.Numbered.{corner_hits, contour_hits}
 use Rattle.plain.specs.Inner.{corner}
 use Rattle.plain.proofs.corners.mark_contour.Goals as goal
@@ -18,10 +17,6 @@ loop-i-init c =
       known = λ l. c.last_colour-last.ensures ∙ simp (lt-ltb a.from a.end l, eq-eqb a.from a.from refl);
       done = rw (sub_self a.from) (painted_zero corner f a.stencil.now);
     }
-
-pub mark_segment-requires : goal.mark_segment-requires
-mark_segment-requires c =
-    still_celled c.requires.celled (painted_long corner (λ v. refl) _ _ _ _ c.loop-i.invariant.done)
 
 pub loop-i-preserved : goal.loop-i-preserved
 unfolding corner_hits
@@ -44,39 +39,3 @@ unfolding contour_hits
 returns c =
     let e : c.loop-i.i ≡ c.args.end = omega (arith, c.loop-i.invariant.high) in
     rw e at c.loop-i.invariant.done
-
-pub last_colour-last-requires : goal.last_colour-last-requires
-last_colour-last-requires c = omega arith
-
-pub bounds-colours-i : goal.bounds-colours-i
-bounds-colours-i c = omega arith
-
-pub overflow_mul-i : goal.overflow_mul-i
-overflow_mul-i c = omega arith
-
-pub offset_bounds-coords-i : goal.offset_bounds-coords-i
-offset_bounds-coords-i c = omega arith
-
-pub bounds-coords-i : goal.bounds-coords-i
-bounds-coords-i c = omega arith
-
-pub overflow_mul-i-in-loop-i : goal.overflow_mul-i-in-loop-i
-overflow_mul-i-in-loop-i c = omega arith
-
-pub overflow_add-i : goal.overflow_add-i
-overflow_add-i c = omega arith
-
-pub offset_bounds-coords-i-in-loop-i : goal.offset_bounds-coords-i-in-loop-i
-offset_bounds-coords-i-in-loop-i c = omega arith
-
-pub bounds-coords-i-in-loop-i : goal.bounds-coords-i-in-loop-i
-bounds-coords-i-in-loop-i c = omega arith
-
-pub overflow_add-i-in-loop-i : goal.overflow_add-i-in-loop-i
-overflow_add-i-in-loop-i c = omega arith
-
-pub loop-i-smaller : goal.loop-i-smaller
-loop-i-smaller c = omega arith
-
-pub shape_of-stencil : goal.shape_of-stencil
-shape_of-stencil c = painted_long corner (λ v. refl) _ _ _ _ c.loop-i.invariant.done

@@ -18,6 +18,3 @@ pub record Inv (st₀ : List ℕ) (w : ℕ) (colours : List ℕ) (coords : List 
 
 abbrev pub invariant-loop-i : goal.invariant-loop-i
 invariant-loop-i l = Inv l.initial.stencil l.b.width l.colours l.coords l.from l.end l.stencil l.last l.i
-
-abbrev pub decreases-loop-i : goal.decreases-loop-i
-decreases-loop-i l = l.end - l.i

@@ -1,7 +1,6 @@
 -- `plain::corners::mark_corners` meets its contract: after each turn the stencil is painted by the contours before c. Assumes nothing.
 use Rattle.std.proofs.Common.{◌≡◌, ℕ, zero, suc, ◌-◌, List, length, refl, ◌∙◌, arith, ne_eqb}
-use Rattle.ground.proofs.Laws.Painted.{painted_zero, painted_same, painted_long, painted_turn}
-use Rattle.inputs.proofs.Laws.Places.{still_celled}
+use Rattle.ground.proofs.Laws.Painted.{painted_zero, painted_same, painted_turn}
 use Rattle.inputs.specs.Checks.{end_before}
 use Rattle.correction.specs.Numbered.{start_at}
 use Rattle.correction.proofs.Laws.Contours.{start_le, corners_at}
@@ -20,12 +19,12 @@ loop-c-init c =
     let a = c.args in
     record { high = omega arith; done = painted_zero corner (nth a.b.width a.colours.now a.coords.now a.ends.now) a.stencil.now }
 
-pub mark_contour-requires : goal.mark_contour-requires
-mark_contour-requires c =
+pub mark_contour-requires-clause-from_le_end : goal.mark_contour-requires-clause-from_le_end
+mark_contour-requires-clause-from_le_end c =
     let l = c.loop-c in
-    let r = c.requires in
-    let o = r.outlined in
-    let from = c.end_before-from.ensures ∙ starts _ _ in record { celled = still_celled r.celled (painted_long corner (λ v. refl) _ _ _ _ l.invariant.done); coords_len = (o.twice, o.few); from_le_end = (omega (arith, from, start_le o l.c c.loop-c-test.true), o.within l.c c.loop-c-test.true) }
+    let o = c.requires.outlined in
+    let from = c.end_before-from.ensures ∙ starts _ _ in
+    (omega (arith, from, start_le o l.c c.loop-c-test.true), o.within l.c c.loop-c-test.true)
 
 pub loop-c-preserved : goal.loop-c-preserved
 loop-c-preserved c =
@@ -38,21 +37,3 @@ returns c =
     let e : c.loop-c.c ≡ length c.args.ends.now = omega (arith, v.high) in
     rw e at v.done
     ∙ painted_same corner _ _ _ (λ k. corners_at _ _ _ c.requires.outlined _ _)
-
-pub end_before-from-requires : goal.end_before-from-requires
-end_before-from-requires c = omega (arith, c.loop-c-test.true)
-
-pub offset_bounds-ends-c : goal.offset_bounds-ends-c
-offset_bounds-ends-c c = omega (arith, c.well_formed, c.loop-c-test.true)
-
-pub bounds-ends-c : goal.bounds-ends-c
-bounds-ends-c c = c.loop-c-test.true
-
-pub overflow_add-c : goal.overflow_add-c
-overflow_add-c c = omega (arith, c.well_formed, c.loop-c-test.true)
-
-pub loop-c-smaller : goal.loop-c-smaller
-loop-c-smaller c = omega (arith, c.loop-c-test.true)
-
-pub shape_of-stencil : goal.shape_of-stencil
-shape_of-stencil c = painted_long corner (λ v. refl) _ _ _ _ c.loop-c.invariant.done

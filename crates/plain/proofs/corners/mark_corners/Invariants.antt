@@ -1,5 +1,5 @@
 -- `plain::corners::mark_corners` meets its contract: after each turn the stencil is painted by the contours before c. Assumes nothing.
-use Rattle.std.proofs.Common.{◌≡◌, ℕ, ◌-◌, ◌/◌, ◌%◌, ◌≤◌, Bool, List, length, get_or}
+use Rattle.std.proofs.Common.{◌≡◌, ℕ, ◌/◌, ◌%◌, ◌≤◌, Bool, List, length, get_or}
 use lib.Ieee.{Float}
 use Rattle.ground.specs.Lists.{painted, any}
 use Rattle.correction.specs.Numbered.{start_at, contour_hits}
@@ -16,6 +16,3 @@ pub record Inv (st₀ : List ℕ) (w : ℕ) (colours : List ℕ) (coords : List 
 
 abbrev pub invariant-loop-c : goal.invariant-loop-c
 invariant-loop-c l = Inv l.initial.stencil l.b.width l.colours l.coords l.ends l.stencil l.c
-
-abbrev pub decreases-loop-c : goal.decreases-loop-c
-decreases-loop-c l = length l.ends - l.c

@@ -31,4 +31,4 @@ collapse-requires c =
 
 pub returns : goal.returns
 returns c =
-    let d = done (given (goal.at.returns c).Start) c.requires.sized c.requires.stencil_len _ _ c.mark.ensures c.gather.ensures _ c.collapse.ensures in record { leaves = d.0; writes = d.1; clears = c.clear_room.ensures }
+    let d = done (given (goal.at.returns c).Start) c.requires.sized c.requires.stencil_len _ _ c.mark.ensures c.gather.ensures _ c.collapse.ensures in record { leaves = d.0; writes = d.1; clears = c.clear.ensures }

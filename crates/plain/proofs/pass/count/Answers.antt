@@ -23,38 +23,20 @@ module _ (st : List ℕ) {p e c k : ℕ} (v : Counted st p e c k) where
   unfolding protected_count error_count corner_count
   all l = let q : length st ≡ k = le_antisymm l v.in_range_law in (rw q v.protected, rw q v.error, rw q v.corner)
 
-pub loop-k-init : goal.loop-k-init
-loop-k-init c = record { in_range_law = omega arith; protected = sym (none_counted _); error = sym (none_counted _); corner = sym (none_counted _) }
+pub loop-v-init : goal.loop-v-init
+loop-v-init c = record { in_range_law = omega arith; protected = sym (none_counted _); error = sym (none_counted _); corner = sym (none_counted _) }
 
 pub overflow_add-corner : goal.overflow_add-corner
-overflow_add-corner c = omega (arith, (few _ c.loop-k.invariant).2)
+overflow_add-corner c = omega (arith, (few _ c.loop-v.invariant).2)
 
 pub overflow_add-protected : goal.overflow_add-protected
-overflow_add-protected c = omega (arith, (few _ c.loop-k.invariant).0)
+overflow_add-protected c = omega (arith, (few _ c.loop-v.invariant).0)
 
 pub overflow_add-error : goal.overflow_add-error
-overflow_add-error c = omega (arith, (few _ c.loop-k.invariant).1)
+overflow_add-error c = omega (arith, (few _ c.loop-v.invariant).1)
 
 pub returns : goal.returns
-returns c = let r = all _ c.loop-k.invariant c.loop-k-test.false in rw (r.0, r.1, r.2)
+returns c = let r = all _ c.loop-v.invariant c.loop-v-test.false in rw (r.0, r.1, r.2)
 
-pub bounds-stencil-k : goal.bounds-stencil-k
-bounds-stencil-k c = omega arith
-
-pub overflow_cast-corner : goal.overflow_cast-corner
-overflow_cast-corner c = omega arith
-
-pub overflow_cast-protected : goal.overflow_cast-protected
-overflow_cast-protected c = omega arith
-
-pub overflow_cast-error : goal.overflow_cast-error
-overflow_cast-error c = omega arith
-
-pub overflow_add-k : goal.overflow_add-k
-overflow_add-k c = omega arith
-
-pub loop-k-smaller : goal.loop-k-smaller
-loop-k-smaller c = omega arith
-
-pub loop-k-preserved : goal.loop-k-preserved
-loop-k-preserved c = more _ c.loop-k.invariant c.loop-k-test.true
+pub loop-v-preserved : goal.loop-v-preserved
+loop-v-preserved c = more _ c.loop-v.invariant c.loop-v-test.true

@@ -1,5 +1,5 @@
 -- `plain::pass::gather` meets its contract, by the laws of a loop that fills: a cell is read before it is written. Assumes nothing.
-use Rattle.std.proofs.Common.{ℕ, ◌-◌, ◌/◌, ◌%◌, eqb, List, length, get_or}
+use Rattle.std.proofs.Common.{ℕ, ◌/◌, ◌%◌, eqb, List, get_or}
 use lib.Ieee.{Float}
 use Rattle.ground.proofs.Laws.Fill.{Filled}
 use Rattle.ranges.specs.declared.config.Settings.{Settings}
@@ -13,6 +13,3 @@ gathered xs w h ch mode s st k = byte_by (texel xs w ch) w h mode s (eqb (get_or
 
 abbrev pub invariant-loop-k : goal.invariant-loop-k
 invariant-loop-k l = Filled 0 (gathered l.xs l.b.width l.b.height l.b.channels l.mode l.s l.initial.stencil) l.initial.stencil l.k l.stencil
-
-abbrev pub decreases-loop-k : goal.decreases-loop-k
-decreases-loop-k l = length l.initial.stencil - l.k

@@ -4,7 +4,7 @@ use Rattle.plain.proofs.pass.mark.Goals as goal
 
 pub returns-then-mode-eq-EDGE_PRIORITY : goal.returns-then-mode-eq-EDGE_PRIORITY
 returns-then-mode-eq-EDGE_PRIORITY c =
-    marks _ _ _ _ _ c.if-mode-eq-EDGE_PRIORITY.true c.clear.ensures c.mark_corners.ensures
+    marks _ _ _ _ _ c.if-mode-eq-EDGE_PRIORITY.true c.fill.ensures c.mark_corners.ensures
 
 pub returns-else-mode-eq-EDGE_PRIORITY : goal.returns-else-mode-eq-EDGE_PRIORITY
-returns-else-mode-eq-EDGE_PRIORITY c = no_marks _ _ _ _ c.if-mode-eq-EDGE_PRIORITY.false c.clear.ensures
+returns-else-mode-eq-EDGE_PRIORITY c = no_marks _ _ _ _ c.if-mode-eq-EDGE_PRIORITY.false c.fill.ensures

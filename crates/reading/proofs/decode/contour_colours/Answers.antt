@@ -18,33 +18,3 @@ loop-j-preserved c = (omega arith, simp length-set c.loop-j.invariant.1, written
 pub returns : goal.returns
 unfolding contour_colours
 returns c = let z : c.loop-j.j ≡ c.args.n = omega arith in written_to _ (ap (λ x. c.args.at + x) z) (tab_all _ (colour c.args.s.now c.args.from) c.loop-j.invariant.2 z)
-
-pub overflow_add-out : goal.overflow_add-out
-overflow_add-out c = omega arith
-
-pub overflow_mul-out : goal.overflow_mul-out
-overflow_mul-out c = omega arith
-
-pub overflow_add-out-in-loop-j : goal.overflow_add-out-in-loop-j
-overflow_add-out-in-loop-j c = omega arith
-
-pub bounds-s-from : goal.bounds-s-from
-bounds-s-from c = omega arith
-
-pub overflow_add-out-in-loop-j-2 : goal.overflow_add-out-in-loop-j-2
-overflow_add-out-in-loop-j-2 c = omega arith
-
-pub bounds-out-at : goal.bounds-out-at
-bounds-out-at c = omega arith
-
-pub overflow_add-j : goal.overflow_add-j
-overflow_add-j c = omega arith
-
-pub loop-j-smaller : goal.loop-j-smaller
-loop-j-smaller c = omega arith
-
-pub overflow_add-result : goal.overflow_add-result
-overflow_add-result c = omega arith
-
-pub shape_of-out : goal.shape_of-out
-shape_of-out c = c.loop-j.invariant.1

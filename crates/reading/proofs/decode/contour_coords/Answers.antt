@@ -9,9 +9,6 @@ use Rattle.reading.proofs.decode.contour_coords.Invariants.{pair}
 pub loop-j-init : goal.loop-j-init
 loop-j-init c = (omega arith, refl, omega arith, joined_none _ _ _)
 
-pub segment_coords-next-requires : goal.segment_coords-next-requires
-segment_coords-next-requires c = (omega arith, omega arith)
-
 pub loop-j-preserved : goal.loop-j-preserved
 loop-j-preserved c =
     let i = c.loop-j.invariant in
@@ -22,21 +19,3 @@ loop-j-preserved c =
 pub returns : goal.returns
 unfolding contour_coords
 returns c = joined_all _ (pair _ _) c.loop-j.invariant.3 (omega arith)
-
-pub overflow_add-from : goal.overflow_add-from
-overflow_add-from c = omega arith
-
-pub overflow_mul-j : goal.overflow_mul-j
-overflow_mul-j c = omega arith
-
-pub overflow_add-from-in-loop-j : goal.overflow_add-from-in-loop-j
-overflow_add-from-in-loop-j c = omega arith
-
-pub overflow_add-j : goal.overflow_add-j
-overflow_add-j c = omega arith
-
-pub loop-j-smaller : goal.loop-j-smaller
-loop-j-smaller c = omega arith
-
-pub shape_of-out : goal.shape_of-out
-shape_of-out c = c.loop-j.invariant.1

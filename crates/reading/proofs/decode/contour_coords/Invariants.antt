@@ -1,7 +1,7 @@
 -- `reading::decode::contour_coords` meets its contract: before segment j those below it are decoded. Assumes nothing.
 use mathlib.Core.List.{List, [], ◌∷◌}
 use mathlib.Core.Path.{◌≡◌}
-use Prim.Native.Nat.{ℕ, ◌+◌, ◌-◌, ◌*◌, ◌≤◌}
+use Prim.Native.Nat.{ℕ, ◌+◌, ◌*◌, ◌≤◌}
 use lib.Ieee.{Float}
 use lib.ListN.{length}
 use Rattle.ground.specs.Lists.{joined}
@@ -16,6 +16,3 @@ pair s from j = f64_at s (segment_at from j + 1) ∷ f64_at s (segment_at from j
 
 abbrev pub invariant-loop-j : goal.invariant-loop-j
 invariant-loop-j l = (l.j ≤ l.n) × (length l.out ≡ length l.initial.out) × (l.next ≡ l.at + 2 * l.j) × Written l.initial.out l.at (joined l.j (pair l.s l.from)) l.next l.out
-
-abbrev pub decreases-loop-j : goal.decreases-loop-j
-decreases-loop-j l = l.n - l.j

@@ -1,7 +1,7 @@
 -- `reading::decode::decode_row` meets its contract: before sample j those below it are decoded. Assumes nothing.
 use mathlib.Core.List.{List}
 use mathlib.Core.Path.{◌≡◌}
-use Prim.Native.Nat.{ℕ, ◌+◌, ◌-◌, ◌*◌, ◌≤◌}
+use Prim.Native.Nat.{ℕ, ◌+◌, ◌*◌, ◌≤◌}
 use lib.Ieee.{Float}
 use lib.ListN.{length}
 use Rattle.ground.specs.Lists.{tab}
@@ -15,6 +15,3 @@ sample s from j = f32_at s (from + 3 + 4 * j)
 
 abbrev pub invariant-loop-j : goal.invariant-loop-j
 invariant-loop-j l = (l.j ≤ l.n) × (length l.out ≡ length l.initial.out) × Written l.initial.out l.at (tab l.j (sample l.s l.from)) (l.at + l.j) l.out
-
-abbrev pub decreases-loop-j : goal.decreases-loop-j
-decreases-loop-j l = l.n - l.j

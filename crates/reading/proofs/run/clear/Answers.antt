@@ -1,28 +1,13 @@
--- `reading::run::clear` meets its contract: before cell i those below it are zeros. Assumes nothing.
-use mathlib.Core.Path.{◌≡◌, refl}
-use native.Mathlib.Omega.{arith}
-use lib.ListN.{length-set}
-use Rattle.ground.proofs.Laws.Write.{tab_none, tab_next, tab_all, written_to}
+-- `reading::run::clear` meets its contract: what fills the front is n zeros. Assumes nothing.
+use Rattle.std.proofs.Common.{◌≡◌, ◌∙◌, length, replicate, refl, sym, ap, arith}
+use Rattle.std.proofs.lemmas.List.{length-take-le}
+use Rattle.ground.specs.Lists.{tab}
+use Rattle.ground.proofs.Laws.Fill.{tab_length}
+use Rattle.reading.proofs.Copied.{copied, repeated}
 use Rattle.reading.proofs.run.clear.Goals as goal
-use Rattle.reading.proofs.run.clear.Invariants.{zeros}
-
-pub loop-i-init : goal.loop-i-init
-loop-i-init c = (omega arith, refl, tab_none _ _ _)
-
-pub loop-i-preserved : goal.loop-i-preserved
-loop-i-preserved c = (omega arith, simp length-set c.loop-i.invariant.1, tab_next _ zeros _ c.loop-i.invariant.2 refl)
 
 pub returns : goal.returns
-returns c = let z : c.loop-i.i ≡ c.args.n = omega arith in (written_to _ z (tab_all _ zeros c.loop-i.invariant.2 z), refl)
-
-pub bounds-out-i : goal.bounds-out-i
-bounds-out-i c = omega arith
-
-pub overflow_add-i : goal.overflow_add-i
-overflow_add-i c = omega arith
-
-pub loop-i-smaller : goal.loop-i-smaller
-loop-i-smaller c = omega arith
-
-pub shape_of-out : goal.shape_of-out
-shape_of-out c = c.loop-i.invariant.1
+returns c =
+    let n = c.args.n in
+    let long : length (tab n (λ k. 0)) ≡ n = tab_length n (λ k. 0) in
+    (copied _ 0 n _ _ (c.fill.ensures.after (λ y e. e) ∙ ap (λ m. replicate m 0) (length-take-le n c.args.out.now c.requires) ∙ repeated n 0) (sym long) (omega (arith, long)) (omega (arith, long)), refl)

@@ -11,46 +11,47 @@ use Rattle.ranges.specs.declared.config.Settings.{Settings}
 use Rattle.inputs.specs.Checks.{Input, input}
 use Rattle.reading.specs.Case.{mode_of}
 use Rattle.reading.proofs.run.Answered.{accepted_text_law, refused_text_law, roomy, printed_as}
+use Rattle.reading.proofs.run.run.Given.{Over}
 use Rattle.reading.proofs.run.run.Goals as goal
 use Rattle.reading.proofs.run.run.Goals.{After-keep-n, After-settings}
 
 -- all samples are kept, and they fit
-keeps : (c : After-keep-n) → c.keep-n.result ≤ 12288
-keeps c = omega (arith, c.keep-n.ensures.to, c.requires.1)
+keeps : (g : Over) (c : After-keep-n g) → c.keep-n.result ≤ 12288
+keeps g c = omega (arith, c.keep-n.ensures.to, c.requires.1)
 
 -- what the pass is given, with some settings and some room
-abbrev case : After-settings → Settings → List Float → Input
-case c t room = let d = c.args in input d.b.width d.b.height d.b.channels d.samples.now d.stencil.now room (mode_of d.s.now) t d.colours.now d.coords.now d.ends.now
+abbrev case : (g : Over) → After-settings g → Settings → List Float → Input
+case g c t room = let d = c.args in input d.b.width d.b.height d.b.channels d.samples.now d.stencil.now room (mode_of d.s.now) t d.colours.now d.coords.now d.ends.now
 
 -- the room that the array lends
 abbrev zeros : List Float
 zeros = replicate 8192 (zero_of binary32)
 
 pub slice_bounds-kept-end : goal.slice_bounds-kept-end
-slice_bounds-kept-end c =
-    subst (λ n. c.keep-n.result ≤ n) (sym c.keep-n.auto.out) (keeps (goal.at.slice_bounds-kept-end c).After-keep-n)
+slice_bounds-kept-end g c =
+    subst (λ n. c.keep-n.result ≤ n) (sym c.keep-n.auto.out) (keeps g (goal.at.slice_bounds-kept-end g c).After-keep-n)
 
 pub slice_bounds-put_accepted-end : goal.slice_bounds-put_accepted-end
-slice_bounds-put_accepted-end c =
-    front_length c.keep-n.ensures (keeps (goal.at.slice_bounds-put_accepted-end c).After-keep-n)
+slice_bounds-put_accepted-end g c =
+    front_length c.keep-n.ensures (keeps g (goal.at.slice_bounds-put_accepted-end g c).After-keep-n)
 
 pub put_accepted-requires : goal.put_accepted-requires
-put_accepted-requires c =
-    let i = case (goal.at.put_accepted-requires c).After-settings c.settings.result zeros in
+put_accepted-requires g c =
+    let i = case g (goal.at.put_accepted-requires g c).After-settings c.settings.result zeros in
     let p = c.judge.ensures in
-    let r = roomy _ i _ _ _ _ (c.in-Accepted.ensures.answers) c.requires.1 p.leaves (front c.keep-n.ensures (keeps (goal.at.put_accepted-requires c).After-keep-n)) in record { width_nonzero = r.sizes; height_in_bounds = (r.cells, r.samples, c.requires.0) }
+    let r = roomy _ i _ _ _ _ (c.in-Accepted.ensures.answers) c.requires.1 p.leaves (front c.keep-n.ensures (keeps g (goal.at.put_accepted-requires g c).After-keep-n)) in record { width_nonzero = r.sizes; height_in_bounds = (r.cells, r.samples, c.requires.0) }
 
 pub returns-in-Accepted : goal.returns-in-Accepted
-returns-in-Accepted c =
-    let f = case (goal.at.returns-in-Accepted c).After-settings in
+returns-in-Accepted g c =
+    let f = case g (goal.at.returns-in-Accepted g c).After-settings in
     let i = f c.settings.result zeros in
     let p = c.judge.ensures in
-    let e = accepted_text_law _ i _ _ _ _ (c.in-Accepted.ensures.answers) p.leaves (front c.keep-n.ensures (keeps (goal.at.returns-in-Accepted c).After-keep-n)) in
-    written_as _ (e ∙ printed_as c.args.plain f c.settings.ensures) c.put_accepted.ensures
+    let e = accepted_text_law _ i _ _ _ _ (c.in-Accepted.ensures.answers) p.leaves (front c.keep-n.ensures (keeps g (goal.at.returns-in-Accepted g c).After-keep-n)) in
+    written_as _ (e ∙ printed_as g.E.Engine.plainly f c.settings.ensures) c.put_accepted.ensures
 
 pub returns-in-Refused : goal.returns-in-Refused
-returns-in-Refused c =
-    let f = case (goal.at.returns-in-Refused c).After-settings in
+returns-in-Refused g c =
+    let f = case g (goal.at.returns-in-Refused g c).After-settings in
     let i = f c.settings.result zeros in
     let e = refused_text_law _ i _ _ (c.in-Refused.ensures.answers) in
-    written_as _ (e ∙ printed_as c.args.plain f c.settings.ensures) c.put_refused.ensures
+    written_as _ (e ∙ printed_as g.E.Engine.plainly f c.settings.ensures) c.put_refused.ensures

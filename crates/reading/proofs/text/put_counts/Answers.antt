@@ -1,4 +1,5 @@
 -- `reading::text::put_counts` meets its contract: each arm is given whether the tests are counted. Assumes nothing.
+use Rattle.std.specs.Prelude.{Option}
 use mathlib.Core.List.{List}
 use mathlib.Core.Path.{◌≡◌}
 use Prim.Native.Nat.{ℕ, ◌+◌, ◌≤◌}
@@ -9,7 +10,6 @@ use Rattle.ground.proofs.Laws.Write.{written_then, written_room}
 use Rattle.inputs.specs.declared.stencil.Counts.{Counts}
 use Rattle.reading.specs.Inner.{counts_line}
 use Rattle.reading.specs.Text.{numbered, cells_text, tests_text, counts_text, counts_plainly}
-use Rattle.reading.specs.declared.text.Tests.{Tests}
 use Rattle.reading.proofs.text.Lengths.{cells_length, counted_length, uncounted_length}
 use Rattle.reading.proofs.text.put_counts.Goals as goal
 use Rattle.reading.proofs.text.put_counts.Goals.{After-put_cells-a}
@@ -22,7 +22,7 @@ room : (c : After-put_cells-a) → c.put_cells-a.result + 28 ≤ length c.put_ce
 room c = written_room 85 28 c.put_cells-a.ensures (short c) (omega arith)
 
 -- the line, by what is known of the tests
-line : {out after : List ℕ} {at next : ℕ} (c : Counts) (t u : Tests) → t ≡ u → length (counts_line c u) ≤ 113 → Written out at (counts_line c u) next after → Written out at (counts_line c t) next after × (next ≤ at + 113)
+line : {out after : List ℕ} {at next : ℕ} (c : Counts) (t u : Option ℕ) → t ≡ u → length (counts_line c u) ≤ 113 → Written out at (counts_line c u) next after → Written out at (counts_line c t) next after × (next ≤ at + 113)
 line c t u e l p = rw e (p, omega (arith, p.to))
 
 pub put_named-requires : goal.put_named-requires
@@ -31,12 +31,12 @@ put_named-requires c = omega (arith, room (goal.at.put_named-requires c).After-p
 pub put-requires : goal.put-requires
 put-requires c = omega (arith, room (goal.at.put-requires c).After-put_cells-a)
 
-pub returns-in-Counted : goal.returns-in-Counted
+pub returns-in-Some : goal.returns-in-Some
 unfolding counts_line counts_text tests_text numbered
-returns-in-Counted c =
-    line _ _ _ c.in-Counted.is (counted_length _ _ (short (goal.at.returns-in-Counted c).After-put_cells-a) (omega arith)) (written_then c.put_cells-a.ensures c.put_named.ensures)
+returns-in-Some c =
+    line _ _ _ c.in-Some.is (counted_length _ _ (short (goal.at.returns-in-Some c).After-put_cells-a) (omega arith)) (written_then c.put_cells-a.ensures c.put_named.ensures)
 
-pub returns-in-Uncounted : goal.returns-in-Uncounted
+pub returns-in-None : goal.returns-in-None
 unfolding counts_line counts_plainly
-returns-in-Uncounted c =
-    line _ _ _ c.in-Uncounted.is (uncounted_length _ (short (goal.at.returns-in-Uncounted c).After-put_cells-a)) (written_then c.put_cells-a.ensures c.put.ensures)
+returns-in-None c =
+    line _ _ _ c.in-None.is (uncounted_length _ (short (goal.at.returns-in-None c).After-put_cells-a)) (written_then c.put_cells-a.ensures c.put.ensures)

@@ -22,30 +22,3 @@ returns c =
     let d = c.args in
     let z : c.loop-x.x ≡ d.w = omega arith in
     written_to _ (ap (λ x. d.at + x) z) (tab_all _ (cell d.st.now d.from) c.loop-x.invariant.2 z)
-
-pub overflow_add-from : goal.overflow_add-from
-overflow_add-from c = omega arith
-
-pub bounds-st-from : goal.bounds-st-from
-bounds-st-from c = omega arith
-
-pub mark-requires : goal.mark-requires
-mark-requires c = tt
-
-pub overflow_add-out : goal.overflow_add-out
-overflow_add-out c = omega arith
-
-pub bounds-out-at : goal.bounds-out-at
-bounds-out-at c = omega arith
-
-pub overflow_add-x : goal.overflow_add-x
-overflow_add-x c = omega arith
-
-pub loop-x-smaller : goal.loop-x-smaller
-loop-x-smaller c = omega arith
-
-pub overflow_add-result : goal.overflow_add-result
-overflow_add-result c = omega arith
-
-pub shape_of-out : goal.shape_of-out
-shape_of-out c = c.loop-x.invariant.1

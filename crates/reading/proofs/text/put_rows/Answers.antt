@@ -32,12 +32,3 @@ loop-y-preserved c =
 pub returns : goal.returns
 unfolding rows_text
 returns c = joined_all _ _ c.loop-y.invariant.3 (omega arith)
-
-pub overflow_add-y : goal.overflow_add-y
-overflow_add-y c = omega arith
-
-pub loop-y-smaller : goal.loop-y-smaller
-loop-y-smaller c = omega arith
-
-pub shape_of-out : goal.shape_of-out
-shape_of-out c = c.loop-y.invariant.1

@@ -27,15 +27,3 @@ loop-k-preserved c =
 
 pub returns : goal.returns
 returns c = joined_all _ _ c.loop-k.invariant.3 (omega arith)
-
-pub overflow_mul-n : goal.overflow_mul-n
-overflow_mul-n c = omega arith
-
-pub overflow_add-k : goal.overflow_add-k
-overflow_add-k c = omega arith
-
-pub loop-k-smaller : goal.loop-k-smaller
-loop-k-smaller c = omega arith
-
-pub shape_of-out : goal.shape_of-out
-shape_of-out c = c.loop-k.invariant.1

@@ -1,7 +1,7 @@
--- `reading::engines::of_plain` meets its contract: each arm is given which answer it has. Assumes nothing.
+-- `Judged::from` of an answer of the plain engine meets its contract: each arm is given which answer it has. Assumes nothing.
 use mathlib.Core.Path.{sym, ap}
 use Rattle.reading.specs.Inner.{of_plain}
-use Rattle.reading.proofs.engines.of_plain.Goals as goal
+use Rattle.reading.proofs.engines.JudgedFromPlain_passAnswer.from.Goals as goal
 
 pub returns-in-Accepted : goal.returns-in-Accepted
 unfolding of_plain

@@ -1,7 +1,7 @@
--- `reading::engines::of_pass` meets its contract: each arm is given which answer it has. Assumes nothing.
+-- `Judged::from` of an answer of the pass meets its contract: each arm is given which answer it has. Assumes nothing.
 use mathlib.Core.Path.{sym, ap}
 use Rattle.reading.specs.Inner.{of_pass}
-use Rattle.reading.proofs.engines.of_pass.Goals as goal
+use Rattle.reading.proofs.engines.JudgedFromPassAnswer.from.Goals as goal
 
 pub returns-in-Accepted : goal.returns-in-Accepted
 unfolding of_pass
