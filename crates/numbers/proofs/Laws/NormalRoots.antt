@@ -10,7 +10,7 @@
 --     counts_alike                          how many roots there are does not depend on the root: of any three values both rules give as many
 --     normal_solver_true                    so of three finite values of binary32 the second solver gives the true number too
 --     apart_subnormal, apart_infinite       evaluated: of values of binary64 whose discriminant is subnormal, or overflows, the two do differ
-use Rattle.std.proofs.Common.{◌≡◌, ℕ, ◌+◌, ◌-◌, ◌*◌, ◌/◌, ◌^◌, ◌<◌, ◌≤◌, Bool, true, false, cond, not, T, List, [], ◌∷◌, length, pos, negsuc, sym, refl, ap, ◌∙◌, subst, le_trans, le_of_eq, le_refl, le_of_lt, mul-le-mul_right, mul_assoc, mul_comm, mul-pos, one-mul, le-div_iff_mul-le, le_of_mul-le-mul_right, arith, lit≤, pow_pos, pow-add}
+use Rattle.std.proofs.Common.{◌≡◌, ℕ, ◌+◌, ◌-◌, ◌*◌, ◌/◌, ◌^◌, ◌<◌, ◌≤◌, Bool, true, false, cond, not, T, [], ◌∷◌, length, pos, negsuc, sym, refl, ap, ◌∙◌, subst, le_trans, le_of_eq, le_refl, le_of_lt, mul-le-mul_right, mul_assoc, mul_comm, mul-pos, one-mul, le-div_iff_mul-le, le_of_mul-le-mul_right, arith, lit≤, pow_pos, pow-add}
 use mathlib.Core.Bool.{beq}
 use lib.Ieee.{Float, inf, fin, binary32, binary64, up, down, size, unlike, below, round, add, sub, mul, div, neg, lt, le, eq, fits, to_bits, of_bits, hid, ones}
 use lib.Ieee.Digits.{size-le, size_reaches}
