@@ -15,7 +15,8 @@ ghost use Rattle.inputs.specs.Window.{cell_in, cut_cells, cut_samples, CellsPast
 
 use crate::bitmap;
 use crate::bitmap::Centre;
-use detectors::{diagonal, linear, orders, texel, verdict};
+use detectors::verdict::Verdict;
+use detectors::{diagonal, linear, orders, texel};
 use inputs::sizes::Window;
 use inputs::stencil;
 use ranges::config::Settings;
@@ -115,7 +116,7 @@ fn side_artifact(
     protected: bool,
     am: f32,
     a: [f32; 3],
-) -> usize
+) -> Verdict
     requires { at + 2 < length xs.now }
     ensures { result ≡ verdict (has_linear_artifact (side_span s upright) protected am a (samples_at xs.now at)) (linear_tests (side_span s upright) protected am a (samples_at xs.now at)) }
 {
@@ -132,7 +133,7 @@ fn row_artifact(
     protected: bool,
     t: Centre,
     nx: usize,
-) -> usize
+) -> Verdict
     requires sampled { Sampled b xs.now }
     requires stencilled { Stencilled b stencil.now × Ordered b xs.now stencil.now }
     requires y_lt_height { (t.y < b.height) × (o ≡ order_code t.texel) }
@@ -145,7 +146,7 @@ fn row_artifact(
             return side_artifact(xs, at, s, false, protected, t.median, a);
         }
     }
-    0
+    Verdict::NONE
 }
 
 // The same in the column at row ny, counted from 1.
@@ -158,7 +159,7 @@ fn column_artifact(
     protected: bool,
     t: Centre,
     ny: usize,
-) -> usize
+) -> Verdict
     requires sampled { Sampled b xs.now }
     requires stencilled { Stencilled b stencil.now × Ordered b xs.now stencil.now }
     requires x_lt_width { (t.x < b.width) × (o ≡ order_code t.texel) }
@@ -171,7 +172,7 @@ fn column_artifact(
             return side_artifact(xs, at, s, true, protected, t.median, a);
         }
     }
-    0
+    Verdict::NONE
 }
 
 // The pairs of channels that the orders leave in doubt between texel a of t, of the order o, and the one across at x, y.
@@ -200,7 +201,7 @@ fn diagonal_artifact(
     am: f32,
     a: [f32; 3],
     doubt: u8,
-) -> usize
+) -> Verdict
     requires row_in_bounds { (row + 2 < length xs.now) × (column + 2 < length xs.now) × (across + 2 < length xs.now) }
     requires doubts { Doubts doubt (four_at xs.now a row column across) }
     ensures { result ≡ verdict (has_diagonal_artifact (diagonal_span s) protected am (four_at xs.now a row column across)) (diagonal_tests (diagonal_span s) protected am (four_at xs.now a row column across)) }
@@ -217,7 +218,7 @@ fn diagonal_artifact(
         ];
         return diagonal::has_guarded_artifact(s, protected, am, dm, m, doubt);
     }
-    0
+    Verdict::NONE
 }
 
 // Texel a of t, of the order o, against the diagonal neighbour in the row below at column nx, counted from 1.
@@ -230,7 +231,7 @@ fn lower_artifact(
     protected: bool,
     t: Centre,
     nx: usize,
-) -> usize
+) -> Verdict
     requires sampled { Sampled b xs.now }
     requires stencilled { Stencilled b stencil.now × Ordered b xs.now stencil.now }
     requires x_lt_width { (t.x < b.width) × (t.y < b.height) × (o ≡ order_code t.texel) }
@@ -246,7 +247,7 @@ fn lower_artifact(
             return diagonal_artifact(xs, row, column, across, s, protected, t.median, a, q);
         }
     }
-    0
+    Verdict::NONE
 }
 
 // The same in the row above.
@@ -259,7 +260,7 @@ fn upper_artifact(
     protected: bool,
     t: Centre,
     nx: usize,
-) -> usize
+) -> Verdict
     requires sampled { Sampled b xs.now }
     requires stencilled { Stencilled b stencil.now × Ordered b xs.now stencil.now }
     requires x_lt_width { (t.x < b.width) × (t.y < b.height) × (o ≡ order_code t.texel) }
@@ -275,7 +276,7 @@ fn upper_artifact(
             return diagonal_artifact(xs, row, column, across, s, protected, t.median, a, q);
         }
     }
-    0
+    Verdict::NONE
 }
 
 // Texel a of t, of the order o, towards its neighbours in order, up to the first with an artifact: left, below, right, above, lower left, lower right, upper left, upper right.
@@ -287,7 +288,7 @@ fn some_artifact(
     o: u8,
     protected: bool,
     t: Centre,
-) -> usize
+) -> Verdict
     requires sampled { Sampled b xs.now }
     requires stencilled { Stencilled b stencil.now × Ordered b xs.now stencil.now }
     requires x_lt_width { (t.x < b.width) × (t.y < b.height) × (o ≡ order_code t.texel) }
@@ -298,34 +299,34 @@ fn some_artifact(
     let right = left + 2;
     let high = low + 2;
     let v1 = row_artifact(stencil, xs, b, s, o, protected, t, left);
-    if v1 >= verdict::ARTIFACT {
+    if v1.is_artifact() {
         return v1;
     }
-    let v2 = v1 + column_artifact(stencil, xs, b, s, o, protected, t, low);
-    if v2 >= verdict::ARTIFACT {
+    let v2 = v1.then(column_artifact(stencil, xs, b, s, o, protected, t, low));
+    if v2.is_artifact() {
         return v2;
     }
-    let v3 = v2 + row_artifact(stencil, xs, b, s, o, protected, t, right);
-    if v3 >= verdict::ARTIFACT {
+    let v3 = v2.then(row_artifact(stencil, xs, b, s, o, protected, t, right));
+    if v3.is_artifact() {
         return v3;
     }
-    let v4 = v3 + column_artifact(stencil, xs, b, s, o, protected, t, high);
-    if v4 >= verdict::ARTIFACT {
+    let v4 = v3.then(column_artifact(stencil, xs, b, s, o, protected, t, high));
+    if v4.is_artifact() {
         return v4;
     }
-    let v5 = v4 + lower_artifact(stencil, xs, b, s, o, protected, t, left);
-    if v5 >= verdict::ARTIFACT {
+    let v5 = v4.then(lower_artifact(stencil, xs, b, s, o, protected, t, left));
+    if v5.is_artifact() {
         return v5;
     }
-    let v6 = v5 + lower_artifact(stencil, xs, b, s, o, protected, t, right);
-    if v6 >= verdict::ARTIFACT {
+    let v6 = v5.then(lower_artifact(stencil, xs, b, s, o, protected, t, right));
+    if v6.is_artifact() {
         return v6;
     }
-    let v7 = v6 + upper_artifact(stencil, xs, b, s, o, protected, t, left);
-    if v7 >= verdict::ARTIFACT {
+    let v7 = v6.then(upper_artifact(stencil, xs, b, s, o, protected, t, left));
+    if v7.is_artifact() {
         return v7;
     }
-    v7 + upper_artifact(stencil, xs, b, s, o, protected, t, right)
+    v7.then(upper_artifact(stencil, xs, b, s, o, protected, t, right))
 }
 
 // The verdict of texel x, y, whose cell has the byte v.
@@ -337,7 +338,7 @@ fn verdict_at(
     v: u8,
     x: usize,
     y: usize,
-) -> usize
+) -> Verdict
     requires sampled { Sampled b xs.now }
     requires stencilled { Stencilled b stencil.now × Ordered b xs.now stencil.now }
     requires x_lt_width { (x < b.width) × (y < b.height) × (v ≡ get_or stencil.now (cell_in b x y) 0) }
@@ -356,10 +357,10 @@ fn verdict_at(
 }
 
 // The byte of a cell, with its error bit set where the verdict of its texel says so.
-fn marked_byte(v: u8, found: usize) -> u8
+fn marked_byte(v: u8, found: Verdict) -> u8
     ensures { result ≡ cond (leb 128 found) (set_error v) v }
 {
-    if found >= verdict::ARTIFACT {
+    if found.is_artifact() {
         stencil::set_error(v)
     } else {
         v
@@ -387,7 +388,7 @@ fn find_in_row(stencil: &mut [u8], xs: &[f32], b: Window, s: Settings, y: usize)
         let byte = stencil[k];
         let v = verdict_at(stencil, xs, b, s, byte, at.x, y);
         stencil[k] = marked_byte(byte, v);
-        tests += v % verdict::ARTIFACT;
+        tests += v.tests();
         at = settle(stencil, b, y, step(stencil, b, y, at));
     }
     tests

@@ -1,10 +1,9 @@
 -- What the inner functions ask of each other and leave for each other. No public function's promise rests on this page. Definitions only.
-use Rattle.std.specs.Prelude.{◌≡◌, ℕ, ◌+◌, Bool, true, false, cond, ◌&&◌, ◌||◌, ◌⊎◌, List, pos, negsuc, ◌==◌, nat_le, Float}
+use Rattle.std.specs.Prelude.{◌≡◌, ℕ, ◌+◌, Bool, true, false, cond, ◌&&◌, ◌||◌, ◌⊎◌, List, [], pos, negsuc, nat_le, Float}
 use Rattle.std.specs.Float.{binary32, binary64, fin}
 use Rattle.std.specs.Float.Ieee.{lt, le, eq}
 use Rattle.numbers.specs.Constants.{zero_of, one_of}
 use Rattle.ranges.specs.Classifier.{range_test}
-use Rattle.numbers.specs.EquationSolver.{Listed}
 use Rattle.detectors.specs.Texel.{channel}
 use Rattle.detectors.specs.Pairs.{mixed_channel, mixed_median}
 use Rattle.detectors.specs.Edge.{edge_point}
@@ -16,17 +15,13 @@ use Rattle.detectors.specs.Orders.{NoRoot, doubted}
 abbrev pub ample : Float → Bool
 ample d = (eq d (zero_of binary32) || le (fin false 1 (negsuc 6)) d) && le d (fin false 1 (pos 12))
 
--- root k of up to two
-abbrev pub root_at : Float → Float → ℕ → Float
-root_at first second k = cond (k == 0) first second
-
--- the roots of pair p, as a count and two values: those by the root without branches, or none where none is inside
-abbrev pub Sought : List (List Float) → ℕ → ℕ → Float → Float → Type 0
-Sought m p n u v = Listed (normal_pair_roots m p) n u v ⊎ (n ≡ 0) × NoRoot m p
+-- the roots of pair p: those by the root without branches, or none where none is inside
+abbrev pub Sought : List (List Float) → ℕ → List Float → Type 0
+Sought m p ts = (ts ≡ normal_pair_roots m p) ⊎ (ts ≡ []) × NoRoot m p
 
 -- those that are tried: none where the pair is not in doubt
-abbrev pub Tried : ℕ → List (List Float) → ℕ → ℕ → Float → Float → Type 0
-Tried bits m p n u v = ((doubted bits p ≡ true) × Sought m p n u v) ⊎ ((doubted bits p ≡ false) × (n ≡ 0))
+abbrev pub Tried : ℕ → List (List Float) → ℕ → List Float → Type 0
+Tried bits m p ts = ((doubted bits p ≡ true) × Sought m p ts) ⊎ ((doubted bits p ≡ false) × (ts ≡ []))
 
 -- the verdict of what was tried before and what comes next, which is not tried where there is an artifact
 abbrev pub or_else : ℕ → ℕ → ℕ

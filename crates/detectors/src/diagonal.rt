@@ -1,6 +1,6 @@
 // The diagonal detector: a texel, its two side neighbours and the one across.
 ghost use Rattle.std.specs.Prelude.{◌≡◌, ◌<◌, ◌≤◌, true, false, [], if◌then◌else◌, slice_index_or};
-ghost use Rattle.numbers.specs.EquationSolver.{Listed};
+ghost use Rattle.numbers.specs.EquationSolver.{listed};
 ghost use Rattle.detectors.specs.Verdict.{verdict};
 ghost use Rattle.detectors.specs.Diagonal as Diagonal;
 ghost use Rattle.ground.specs.Lists.{any, some, spent};
@@ -11,7 +11,8 @@ ghost use Rattle.detectors.specs.Discriminant.{normal_quadratic_roots};
 ghost use Rattle.detectors.specs.Inner as Inner;
 ghost use Rattle.detectors.specs.Inner.{root_verdict, root_count};
 
-use crate::{pairs, texel, verdict};
+use crate::verdict::Verdict;
+use crate::{pairs, texel};
 use numbers::equation_solver::Roots;
 use numbers::{equation_solver, rounding, scalar};
 use ranges::classifier::Classifier;
@@ -136,7 +137,7 @@ fn falls(da: f32, dbc: f32, dd: f32) -> bool
 
 // The roots of a pair's difference, a quadratic in t, by the root without branches.
 fn pair_roots(da: f32, dbc: f32, dd: f32) -> Roots
-    ensures { Listed (normal_quadratic_roots da dbc dd) result.count result.first result.second }
+    ensures { listed result ≡ normal_quadratic_roots da dbc dd }
 {
     let a = std::num::f32_to_f64_with_nan(dd - dbc + da);
     let b = std::num::f32_to_f64_with_nan(dbc - da - da);
@@ -201,7 +202,7 @@ fn root_test_count(e: f64, f: f64) -> usize
 }
 
 // The verdict at root t of pair p.
-fn diagonal_at(k: Classifier, am: f32, dm: f32, m: &[[f32; 3]; 4], p: usize, t: f64) -> usize
+fn diagonal_at(k: Classifier, am: f32, dm: f32, m: &[[f32; 3]; 4], p: usize, t: f64) -> Verdict
     requires { p < 3 }
     ensures { result ≡ verdict (Diagonal.diagonal_at k.span k.protected am dm m.now p t) (Diagonal.diagonal_tests_at m.now p t) }
 {
@@ -211,18 +212,11 @@ fn diagonal_at(k: Classifier, am: f32, dm: f32, m: &[[f32; 3]; 4], p: usize, t: 
         let xm = interpolated_median_quad(m, t);
         let n = root_test_count(e, f);
         if root_tests(k, am, dm, m, t, xm, e, f) {
-            return verdict::ARTIFACT + n;
+            return Verdict::artifact(n);
         }
-        return n;
+        return Verdict::clear(n);
     }
-    0
-}
-
-// Root i of up to two.
-fn root_at(r: Roots, i: usize) -> f64
-    ensures { result ≡ Inner.root_at r.first r.second i }
-{
-    if i == 0 { r.first } else { r.second }
+    Verdict::NONE
 }
 
 // Pair p is among those that are in doubt.
@@ -241,48 +235,34 @@ fn in_doubt(doubt: u8, p: usize) -> bool
 // The roots of pair p that are tried: none where it is beyond doubt, or where its differences are of one sign.
 fn roots_tried(m: &[[f32; 3]; 4], p: usize, doubt: u8) -> Roots
     requires { p < 3 }
-    ensures { Inner.Tried doubt m.now p result.count result.first result.second }
+    ensures { Inner.Tried doubt m.now p (listed result) }
 {
-    let none = Roots {
-        count: 0,
-        first: 0.0,
-        second: 0.0,
-    };
     if !in_doubt(doubt, p) {
-        return none;
+        return Roots::None;
     }
     let da = difference_in(m, 0, p);
     let dbc = middle_difference(m, p);
     let dd = difference_in(m, 3, p);
     if rises(da, dbc, dd) | falls(da, dbc, dd) {
-        return none;
+        return Roots::None;
     }
     pair_roots(da, dbc, dd)
 }
 
 // The pairs in order, and of each the roots in order; the search stops at the first artifact.
-fn some_pair(k: Classifier, am: f32, dm: f32, m: &[[f32; 3]; 4], doubt: u8) -> usize
+fn some_pair(k: Classifier, am: f32, dm: f32, m: &[[f32; 3]; 4], doubt: u8) -> Verdict
     ensures { result ≡ verdict (any 3 (Orders.doubted_pair doubt k.span k.protected am dm m.now)) (spent 3 (Orders.doubted_pair doubt k.span k.protected am dm m.now) (Orders.doubted_tests doubt k.span k.protected am dm m.now)) }
 {
-    let mut p = 0usize;
-    let mut tests = 0usize;
-    let found = 'pairs: loop {
-        if p >= 3 {
-            break 'pairs tests;
-        }
-        let r = roots_tried(m, p, doubt);
-        let n = r.count;
-        let mut i = 0usize;
-        while i < n {
-            tests += diagonal_at(k, am, dm, m, p, root_at(r, i));
-            if tests >= verdict::ARTIFACT {
-                break 'pairs tests;
+    let mut all = Verdict::NONE;
+    for p in 0..3 {
+        for t in roots_tried(m, p, doubt) {
+            all = all.then(diagonal_at(k, am, dm, m, p, t));
+            if all.is_artifact() {
+                return all;
             }
-            i += 1;
         }
-        p += 1;
-    };
-    found
+    }
+    all
 }
 
 // The verdict of texel m[0], whose median is am, against the one across, m[3], whose median is dm, in the pairs that `doubt` names: for a caller that has asked the guard.
@@ -293,7 +273,7 @@ pub fn has_guarded_artifact(
     dm: f32,
     m: [[f32; 3]; 4],
     doubt: u8,
-) -> usize
+) -> Verdict
     ensures { result ≡ verdict (any 3 (Orders.doubted_pair doubt (Config.diagonal_span s) protected am dm m)) (spent 3 (Orders.doubted_pair doubt (Config.diagonal_span s) protected am dm m) (Orders.doubted_tests doubt (Config.diagonal_span s) protected am dm m)) }
 {
     let k = Classifier {
@@ -304,7 +284,7 @@ pub fn has_guarded_artifact(
 }
 
 // The verdict of texel m[0], whose median is am, against the one across, m[3].
-pub fn has_diagonal_artifact(s: Settings, protected: bool, am: f32, m: [[f32; 3]; 4]) -> usize
+pub fn has_diagonal_artifact(s: Settings, protected: bool, am: f32, m: [[f32; 3]; 4]) -> Verdict
     ensures { result ≡ verdict (Diagonal.has_diagonal_artifact (Config.diagonal_span s) protected am m) (Diagonal.diagonal_tests (Config.diagonal_span s) protected am m) }
 {
     let far = texel::median(m[3]);
@@ -312,5 +292,5 @@ pub fn has_diagonal_artifact(s: Settings, protected: bool, am: f32, m: [[f32; 3]
     if texel::guard(am, dm) {
         return has_guarded_artifact(s, protected, am, dm, m, 7);
     }
-    0
+    Verdict::NONE
 }

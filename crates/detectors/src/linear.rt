@@ -8,7 +8,8 @@ ghost use Rattle.detectors.specs.Inner.{or_else};
 ghost use Rattle.detectors.specs.Pairs.{inside};
 
 use crate::pairs::difference;
-use crate::{pairs, texel, verdict};
+use crate::verdict::Verdict;
+use crate::{pairs, texel};
 use ranges::classifier::Classifier;
 use ranges::config::Settings;
 use ranges::{classifier, config};
@@ -29,7 +30,7 @@ fn crosses(da: f32, db: f32) -> bool
 
 // The pair whose difference is da at a and db at b, tried unless there is an artifact before.
 fn has_linear_artifact_inner(
-    before: usize,
+    before: Verdict,
     k: Classifier,
     am: f32,
     bm: f32,
@@ -37,10 +38,10 @@ fn has_linear_artifact_inner(
     b: [f32; 3],
     da: f32,
     db: f32,
-) -> usize
+) -> Verdict
     ensures { result ≡ or_else before (verdict (Linear.linear_at k.span k.protected am bm a b (Linear.crossing da db)) (Linear.linear_tests_at (Linear.crossing da db))) }
 {
-    if before >= verdict::ARTIFACT {
+    if before.is_artifact() {
         return before;
     }
     if !crosses(da, db) {
@@ -50,18 +51,27 @@ fn has_linear_artifact_inner(
     if pairs::inside(t) {
         let xm = pairs::interpolated_median_linear(a, b, t);
         if classifier::range_test(k, 0.0, 1.0, t, am, bm, xm) {
-            return before + (verdict::ARTIFACT + 1);
+            return before.then(Verdict::artifact(1));
         }
-        return before + 1;
+        return before.then(Verdict::clear(1));
     }
     before
 }
 
 // The pairs in order; the search stops at the first artifact.
-fn some_pair(k: Classifier, am: f32, bm: f32, a: [f32; 3], b: [f32; 3]) -> usize
+fn some_pair(k: Classifier, am: f32, bm: f32, a: [f32; 3], b: [f32; 3]) -> Verdict
     ensures { result ≡ verdict (any 3 (Linear.linear_pair k.span k.protected am bm a b)) (spent 3 (Linear.linear_pair k.span k.protected am bm a b) (Linear.linear_pair_tests a b)) }
 {
-    let u = has_linear_artifact_inner(0, k, am, bm, a, b, difference(a, 0), difference(b, 0));
+    let u = has_linear_artifact_inner(
+        Verdict::NONE,
+        k,
+        am,
+        bm,
+        a,
+        b,
+        difference(a, 0),
+        difference(b, 0),
+    );
     let v = has_linear_artifact_inner(u, k, am, bm, a, b, difference(a, 1), difference(b, 1));
     has_linear_artifact_inner(v, k, am, bm, a, b, difference(a, 2), difference(b, 2))
 }
@@ -74,7 +84,7 @@ pub fn has_linear_artifact(
     am: f32,
     a: [f32; 3],
     b: [f32; 3],
-) -> usize
+) -> Verdict
     ensures { result ≡ verdict (Linear.has_linear_artifact (Config.side_span s upright) protected am a b) (Linear.linear_tests (Config.side_span s upright) protected am a b) }
 {
     let m = texel::median(b);
@@ -86,5 +96,5 @@ pub fn has_linear_artifact(
         };
         return some_pair(k, am, bm, a, b);
     }
-    0
+    Verdict::NONE
 }

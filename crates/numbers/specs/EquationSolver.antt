@@ -5,6 +5,8 @@ use Rattle.std.specs.Float.Ieee.{add, sub, mul, div, neg, lt, eq}
 use Rattle.numbers.specs.Constants.{zero_of, dominance, two, four}
 use Rattle.numbers.specs.Scalar.{abs_of}
 use Rattle.numbers.specs.SquareRoot.{sqrt_of, normal_root}
+use Rattle.numbers.specs.declared.equation_solver.Roots.{Roots}
+use Rattle.numbers.specs.declared.equation_solver.Roots.TheVariants.{None, One, Two}
 
 -- a = 0 or |b| > 1e12·|a|
 unfoldable pub is_linear : Float → Float → Bool
@@ -45,6 +47,12 @@ unfoldable pub normal_roots_of : Float → Float → Float → List Float
 normal_roots_of a b c =
     let d = discriminant a b c in
     cond (is_linear a b) (linear_roots b c) (square_roots_by (normal_root (to_bits binary64 d)) a b d)
+
+-- the roots that a solver's answer has
+abbrev pub listed : Roots → List Float
+listed None = []
+listed (One x) = x ∷ []
+listed (Two x y) = x ∷ y ∷ []
 
 -- a list of at most two values as a count and two values, the unused ones 0
 pub record Listed (xs : List Float) (count : ℕ) (first second : Float) : Type 0 where

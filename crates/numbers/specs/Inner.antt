@@ -1,7 +1,7 @@
 -- What the inner functions promise each other. No public function's promise rests on this page. Definitions only.
-use Rattle.std.specs.Prelude.{◌≡◌, ℕ, ◌+◌, ◌*◌, ◌/◌, ◌^◌, ◌≤◌, Bool, false, cond, Float}
+use Rattle.std.specs.Prelude.{◌≡◌, ℕ, ◌+◌, ◌*◌, ◌/◌, ◌^◌, ◌≤◌, cond, Float}
 use Prim.Native.Nat.{compare}
-use Rattle.std.specs.Float.{nan, inf, fin, binary64}
+use Rattle.std.specs.Float.{binary64}
 use Rattle.std.specs.Float.Ieee.{lt, mul, sub, nearest}
 use Rattle.numbers.specs.SquareRoot.{root}
 
@@ -20,12 +20,6 @@ newton_step y h c = sub binary64 (mul binary64 c y) (mul binary64 (mul binary64 
 -- the whole part of m * 2 ^ e / 2 ^ 1075, the size of the number with m for its digits and e for its exponent's field
 unfoldable pub scaled : ℕ → ℕ → ℕ
 scaled m e = m * 2 ^ e / 2 ^ 1075
-
--- the sign is minus, a zero's too
-unfoldable pub negative : Float → Bool
-negative nan = false
-negative (inf s) = s
-negative (fin s m e) = s
 
 -- the smaller and the larger of two by value alone, the first of two that are equal
 unfoldable pub lesser_of : Float → Float → Float

@@ -7,7 +7,7 @@ ghost use Rattle.numbers.specs.Inner.{scaled};
 pub fn narrow(x: f64) -> f32
     ensures { result ≡ narrow_of x }
 {
-    if x != x {
+    if x.is_nan() {
         return 0.0f32 / 0.0f32;
     }
     let bits: u64 = f64::to_bits(x);
@@ -45,7 +45,7 @@ fn scale(m: u64, e: u64) -> u64
 pub fn floor_to_i64(x: f64) -> i64
     ensures { result ≡ floor_of x }
 {
-    if x != x {
+    if x.is_nan() {
         return 0;
     }
     let bits = f64::to_bits(x);

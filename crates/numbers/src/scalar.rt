@@ -2,7 +2,7 @@
 ghost use Rattle.std.specs.Prelude.{◌≡◌, true, false, not, ◌||◌, T, pos, if◌then◌else◌, is_nan};
 ghost use Rattle.std.specs.Float.{fin};
 ghost use Rattle.std.specs.Float.Ieee.{eq};
-ghost use Rattle.numbers.specs.Inner.{negative, lesser_of, greater_of};
+ghost use Rattle.numbers.specs.Inner.{lesser_of, greater_of};
 ghost use Rattle.numbers.specs.Scalar.{min_of, max_of, median_of, lowest_equal, middle_of, abs_of, mix_of};
 
 use crate::rounding;
@@ -14,44 +14,30 @@ pub struct Middle {
     pub channel: usize,
 }
 
-// Whether a number's sign is minus, a zero's too.
-fn is_negative(x: f32) -> bool
-    requires { T (not (is_nan x)) }
-    ensures { result ≡ negative x }
-{
-    f32::to_bits(x) >= 0x8000_0000
-}
-
 // The smaller of two: y where x is a NaN or y lies below it.
 pub fn min(x: f32, y: f32) -> f32
     ensures { result ≡ min_of x y }
 {
-    if x != x {
-        return y;
-    }
-    if y < x {
+    if x.is_nan() || y < x {
         return y;
     }
     if y != x {
         return x;
     }
-    if is_negative(y) { y } else { x }
+    if y.is_sign_negative() { y } else { x }
 }
 
 // The larger of two: y where x is a NaN or lies below it.
 pub fn max(x: f32, y: f32) -> f32
     ensures { result ≡ max_of x y }
 {
-    if x != x {
-        return y;
-    }
-    if x < y {
+    if x.is_nan() || x < y {
         return y;
     }
     if y != x {
         return x;
     }
-    if is_negative(y) { x } else { y }
+    if y.is_sign_negative() { x } else { y }
 }
 
 // The smaller of two by value alone, the first of two that are equal.
@@ -77,36 +63,36 @@ fn zero(minus: bool) -> f32
 
 // The median of three numbers where it is a zero: it has the sign that two of them have.
 fn zero_median(a: f32, b: f32, c: f32) -> f32
-    requires t { T (not (is_nan a)) × T (not (is_nan b)) × T (not (is_nan c)) }
-    requires t_2 { T (eq (median_of a b c) (fin false 0 (pos 0))) }
+    requires numbers { T (not (is_nan a)) × T (not (is_nan b)) × T (not (is_nan c)) }
+    requires zero { T (eq (median_of a b c) (fin false 0 (pos 0))) }
     ensures { result ≡ median_of a b c }
 {
-    let s = is_negative(a);
-    if s == is_negative(b) {
-        return zero(s);
+    let minus = a.is_sign_negative();
+    if minus == b.is_sign_negative() {
+        return zero(minus);
     }
-    zero(is_negative(c))
+    zero(c.is_sign_negative())
 }
 
 // Whether one of three is a NaN.
 fn some_nan(a: f32, b: f32, c: f32) -> bool
-    ensures { result ≡ (is_nan a || (is_nan b || is_nan c)) }
+    ensures { result ≡ (is_nan a || is_nan b || is_nan c) }
 {
-    a != a || (b != b || c != c)
+    a.is_nan() || b.is_nan() || c.is_nan()
 }
 
 // The median of three of which one is a NaN.
 fn nan_median(a: f32, b: f32, c: f32) -> f32
-    requires { is_nan a || (is_nan b || is_nan c) ≡ true }
+    requires { is_nan a || is_nan b || is_nan c ≡ true }
     ensures { result ≡ median_of a b c }
 {
-    if a != a {
-        if b != b {
+    if a.is_nan() {
+        if b.is_nan() {
             return c;
         }
         return b;
     }
-    if b != b {
+    if b.is_nan() {
         return a;
     }
     max(a, b)
@@ -141,11 +127,10 @@ fn lowest_equal(m: f32, a: f32, b: f32, c: f32) -> usize
 pub fn median(a: f32, b: f32, c: f32) -> Middle
     ensures { result ≡ middle_of a b c }
 {
-    let m = median_value(a, b, c);
-    let i = lowest_equal(m, a, b, c);
+    let value = median_value(a, b, c);
     Middle {
-        value: m,
-        channel: i,
+        value,
+        channel: lowest_equal(value, a, b, c),
     }
 }
 
@@ -153,7 +138,7 @@ pub fn median(a: f32, b: f32, c: f32) -> Middle
 pub fn abs32(x: f32) -> f32
     ensures { result ≡ abs_of x }
 {
-    if x != x {
+    if x.is_nan() {
         return x;
     }
     f32::from_bits(f32::to_bits(x) % 0x8000_0000)
@@ -163,7 +148,7 @@ pub fn abs32(x: f32) -> f32
 pub fn abs64(x: f64) -> f64
     ensures { result ≡ abs_of x }
 {
-    if x != x {
+    if x.is_nan() {
         return x;
     }
     f64::from_bits(f64::to_bits(x) % 0x8000_0000_0000_0000)

@@ -34,9 +34,7 @@ fn by_digits(n: u64) -> Root
     ensures { IsRoot n result.s result.r }
 {
     let mut h = Root { s: 0, r: 0 };
-    let mut k = 27u64;
-    while k > 0 {
-        k -= 1;
+    for k in (0..27u64).rev() {
         h = one_digit(h, (n >> (2 * k)) % 4);
     }
     h

@@ -37,8 +37,7 @@ pub extern "C" fn rungtwine_median(a: f32, b: f32, c: f32) -> f32
 pub extern "C" fn rungtwine_median_channel(a: f32, b: f32, c: f32) -> usize
     ensures { result ≡ (middle_of a b c).channel }
 {
-    let m = scalar::median(a, b, c);
-    m.channel
+    scalar::median(a, b, c).channel
 }
 
 #[unsafe(no_mangle)]
@@ -96,24 +95,21 @@ pub extern "C" fn rungtwine_floor(x: f64) -> i64
 pub extern "C" fn rungtwine_root_count(a: f64, b: f64, c: f64) -> usize
     ensures { result ≡ length (roots_of a b c) }
 {
-    let r = equation_solver::solve_quadratic(a, b, c);
-    r.count
+    equation_solver::solve_quadratic(a, b, c).count()
 }
 
 #[unsafe(no_mangle)]
 pub extern "C" fn rungtwine_first_root(a: f64, b: f64, c: f64) -> f64
     ensures { result ≡ get_or (roots_of a b c) 0 (zero_of binary64) }
 {
-    let r = equation_solver::solve_quadratic(a, b, c);
-    r.first
+    equation_solver::solve_quadratic(a, b, c).or_zero()[0]
 }
 
 #[unsafe(no_mangle)]
 pub extern "C" fn rungtwine_second_root(a: f64, b: f64, c: f64) -> f64
     ensures { result ≡ get_or (roots_of a b c) 1 (zero_of binary64) }
 {
-    let r = equation_solver::solve_quadratic(a, b, c);
-    r.second
+    equation_solver::solve_quadratic(a, b, c).or_zero()[1]
 }
 
 // The same by the solver that takes a positive discriminant for a normal number.
@@ -121,22 +117,19 @@ pub extern "C" fn rungtwine_second_root(a: f64, b: f64, c: f64) -> f64
 pub extern "C" fn rungtwine_normal_root_count(a: f64, b: f64, c: f64) -> usize
     ensures { result ≡ length (normal_roots_of a b c) }
 {
-    let r = equation_solver::solve_normal_quadratic(a, b, c);
-    r.count
+    equation_solver::solve_normal_quadratic(a, b, c).count()
 }
 
 #[unsafe(no_mangle)]
 pub extern "C" fn rungtwine_normal_first_root(a: f64, b: f64, c: f64) -> f64
     ensures { result ≡ get_or (normal_roots_of a b c) 0 (zero_of binary64) }
 {
-    let r = equation_solver::solve_normal_quadratic(a, b, c);
-    r.first
+    equation_solver::solve_normal_quadratic(a, b, c).or_zero()[0]
 }
 
 #[unsafe(no_mangle)]
 pub extern "C" fn rungtwine_normal_second_root(a: f64, b: f64, c: f64) -> f64
     ensures { result ≡ get_or (normal_roots_of a b c) 1 (zero_of binary64) }
 {
-    let r = equation_solver::solve_normal_quadratic(a, b, c);
-    r.second
+    equation_solver::solve_normal_quadratic(a, b, c).or_zero()[1]
 }

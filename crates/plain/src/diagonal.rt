@@ -106,11 +106,11 @@ fn pair_artifact(k: Classifier, am: f32, dm: f32, m: &[[f32; 3]; 4], j: usize, i
     let a = std::num::f32_to_f64_with_nan(dd - dbc + da);
     let b = std::num::f32_to_f64_with_nan(dbc - da - da);
     let c = std::num::f32_to_f64_with_nan(da);
-    let roots = equation_solver::solve_quadratic(a, b, c);
+    let [t, u] = equation_solver::solve_quadratic(a, b, c).or_zero();
     let e = turning_point(m, i);
     let f = turning_point(m, j);
-    let first = root_artifact(k, am, dm, m, roots.first, e, f);
-    let second = root_artifact(k, am, dm, m, roots.second, e, f);
+    let first = root_artifact(k, am, dm, m, t, e, f);
+    let second = root_artifact(k, am, dm, m, u, e, f);
     first | second
 }
 

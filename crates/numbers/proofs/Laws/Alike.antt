@@ -1,13 +1,13 @@
 -- Each public function's promise determines its answer: any two answers that it permits for the same arguments are the same. Assumes nothing.
 -- `Post` is a function's promise as the checker makes it of the `ensures` in the source. No argument is lent, so the answer is all that a call leaves behind.
---     roots_alike  two records of one list of roots are the same
+--     roots_alike  two answers with one list of roots are the same
 --     NAME-alike   so it is with the promise of the function NAME
-use Rattle.std.proofs.Common.{◌≡◌, List}
+use Rattle.std.proofs.Common.{◌≡◌, List, sym, ◌∙◌}
 use lib.Ieee.{Float}
 use Rattle.ground.proofs.Laws.Alike.{Alike, alike}
-use Rattle.numbers.specs.EquationSolver.{roots_of, normal_roots_of, Listed}
+use Rattle.numbers.specs.EquationSolver.{roots_of, normal_roots_of, listed}
 use Rattle.numbers.specs.declared.equation_solver.Roots.{Roots}
-use Rattle.numbers.proofs.Laws.EquationSolver.{listed_same}
+use Rattle.numbers.proofs.Laws.EquationSolver.{listed_only}
 use Rattle.numbers.proofs.scalar.min.Kinds as min_kinds
 use Rattle.numbers.proofs.scalar.min.Reads as min
 use Rattle.numbers.proofs.scalar.max.Kinds as max_kinds
@@ -35,10 +35,8 @@ use Rattle.numbers.proofs.equation_solver.solve_quadratic.Reads as solve_quadrat
 use Rattle.numbers.proofs.equation_solver.solve_normal_quadratic.Kinds as solve_normal_quadratic_kinds
 use Rattle.numbers.proofs.equation_solver.solve_normal_quadratic.Reads as solve_normal_quadratic
 
-pub roots_alike : (xs : List Float) (r s : Roots) → Listed xs r.count r.first r.second → Listed xs s.count s.first s.second → r ≡ s
-roots_alike xs r s p q =
-    let same = listed_same xs r.count s.count r.first r.second s.first s.second p q in
-    λ i. record { count = same.0 i; first = same.1 i; second = same.2 i }
+pub roots_alike : (xs : List Float) (r s : Roots) → listed r ≡ xs → listed s ≡ xs → r ≡ s
+roots_alike xs r s p q = listed_only r s (p ∙ sym q)
 
 -- ---- each function
 pub min_alike : Alike 0 min_kinds.ps min_kinds.r min.Post

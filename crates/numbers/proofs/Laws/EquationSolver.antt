@@ -12,6 +12,8 @@
 --     none_one_two                              a list of at most two values has none, one or two
 --     listed_is, listed_count, listed_same      what a count and two values say of such a list
 --     listed_none, listed_one, listed_two       how none, one and two values are listed
+--     listed_own                                a solver's answer says its list as a count and two values
+--     listed_only                               and there is no other answer with that list
 use Rattle.std.proofs.Common.{◌≡◌, ℕ, ◌≤◌, Bool, true, false, cond, ◌||◌, T, ◌⊎◌, List, [], ◌∷◌, length, get_or, take, sym, refl, ap, ◌∙◌, subst, inl, inr, le_trans, le_of_eq as nat-le-of-eq, le_of_suc-le-suc, not-suc-le-zero, lit≤}
 use lib.Dec.{not_T}
 use lib.Ieee.{Float, nan, binary64, lt, eq, mul, div, neg, of_bits, to_bits}
@@ -19,7 +21,9 @@ use lib.Ieee.Bits.{is_false}
 use Rattle.numbers.specs.Constants.{zero_of, dominance, two}
 use Rattle.numbers.specs.Scalar.{abs_of}
 use Rattle.numbers.specs.SquareRoot.{sqrt_of, normal_root}
-use Rattle.numbers.specs.EquationSolver.{is_linear, linear_roots, discriminant, upper_root, lower_root, square_roots_by, square_roots, roots_of, normal_roots_of, Listed}
+use Rattle.numbers.specs.EquationSolver.{is_linear, linear_roots, discriminant, upper_root, lower_root, square_roots_by, square_roots, roots_of, normal_roots_of, listed, Listed}
+use Rattle.numbers.specs.declared.equation_solver.Roots.{Roots}
+use Rattle.numbers.specs.declared.equation_solver.Roots.TheVariants.{None, One, Two}
 use Rattle.numbers.proofs.Laws.Order.{lt_not_le, le_of_eq}
 
 -- ---- which of the two rules
@@ -160,3 +164,21 @@ listed_one x = record { counted = refl; one = refl; two = refl }
 
 pub listed_two : (x y : Float) → Listed (x ∷ y ∷ []) 2 x y
 listed_two x y = record { counted = refl; one = refl; two = refl }
+
+pub listed_own : (r : Roots) (xs : List Float) → listed r ≡ xs → Listed xs (length (listed r)) (get_or (listed r) 0 (zero_of binary64)) (get_or (listed r) 1 (zero_of binary64))
+listed_own r xs e = record { counted = λ i. length (e i); one = λ i. get_or (e i) 0 (zero_of binary64); two = λ i. get_or (e i) 1 (zero_of binary64) }
+
+-- the answer with a list
+of_list : List Float → Roots
+of_list [] = None
+of_list (x ∷ []) = One x
+of_list (x ∷ y ∷ xs) = Two x y
+
+own_list : (r : Roots) → of_list (listed r) ≡ r
+unfolding of_list
+own_list None = refl
+own_list (One x) = refl
+own_list (Two x y) = refl
+
+pub listed_only : (r s : Roots) → listed r ≡ listed s → r ≡ s
+listed_only r s e = sym (own_list r) ∙ ap of_list e ∙ own_list s

@@ -10,7 +10,7 @@
 --     counts_alike                          how many roots there are does not depend on the root: of any three values both rules give as many
 --     normal_solver_true                    so of three finite values of binary32 the second solver gives the true number too
 --     apart_subnormal, apart_infinite       evaluated: of values of binary64 whose discriminant is subnormal, or overflows, the two do differ
-use Rattle.std.proofs.Common.{◌≡◌, ℕ, ◌+◌, ◌-◌, ◌*◌, ◌/◌, ◌^◌, ◌<◌, ◌≤◌, Bool, true, false, cond, not, T, List, [], ◌∷◌, length, pos, negsuc, sym, refl, ap, ◌∙◌, subst, le_trans, le_of_eq, le_refl, le_of_lt, mul-le-mul_right, mul_assoc, mul_comm, mul-pos, one-mul, le-div_iff_mul-le, le_of_mul-le-mul_right, arith, lit≤, pow_pos, pow-add}
+use Rattle.std.proofs.Common.{◌≡◌, ℕ, ◌+◌, ◌-◌, ◌*◌, ◌/◌, ◌^◌, ◌<◌, ◌≤◌, Bool, true, false, cond, not, T, [], ◌∷◌, length, pos, negsuc, sym, refl, ap, ◌∙◌, subst, le_trans, le_of_eq, le_refl, le_of_lt, mul-le-mul_right, mul_assoc, mul_comm, mul-pos, one-mul, le-div_iff_mul-le, le_of_mul-le-mul_right, arith, lit≤, pow_pos, pow-add}
 use mathlib.Core.Bool.{beq}
 use lib.Ieee.{Float, inf, fin, binary32, binary64, up, down, size, unlike, below, round, add, sub, mul, div, neg, lt, le, eq, fits, to_bits, of_bits, hid, ones}
 use lib.Ieee.Digits.{size-le, size_reaches}
@@ -22,7 +22,7 @@ use Rattle.numbers.specs.Constants.{zero_of, four}
 use Rattle.numbers.specs.Nearest.{sum_size, sum_sign}
 use Rattle.numbers.specs.Scalar.{abs_of}
 use Rattle.numbers.specs.SquareRoot.{sqrt_of, normal_root, PositiveNormal, root_of, root, root_by}
-use Rattle.numbers.specs.EquationSolver.{is_linear, linear_roots, discriminant, upper_root, lower_root, square_roots_by, square_roots, roots_of, normal_roots_of, Listed}
+use Rattle.numbers.specs.EquationSolver.{is_linear, linear_roots, discriminant, upper_root, lower_root, square_roots_by, square_roots, roots_of, normal_roots_of, listed, Listed}
 use Rattle.numbers.specs.Whole.{Finite, steps, whole_of}
 use Rattle.numbers.specs.RootCount.{true_count}
 use Rattle.numbers.specs.declared.equation_solver.Roots.{Roots}
@@ -155,8 +155,8 @@ pub solvers_agree : (a b c : Float) → Finite binary32 a → Finite binary32 b 
 solvers_agree a b c p q r = normal_agree a b c (discriminant_normal a b c p q r)
 
 pub answers_agree : (a b c : Float) (r s : Roots) → Finite binary32 a → Finite binary32 b → Finite binary32 c
-    → Listed (normal_roots_of a b c) r.count r.first r.second → Listed (roots_of a b c) s.count s.first s.second → r ≡ s
-answers_agree a b c r s p q t h k = roots_alike (roots_of a b c) r s (subst (λ (xs : List Float). Listed xs r.count r.first r.second) (solvers_agree a b c p q t) h) k
+    → listed r ≡ normal_roots_of a b c → listed s ≡ roots_of a b c → r ≡ s
+answers_agree a b c r s p q t h k = roots_alike (roots_of a b c) r s (h ∙ solvers_agree a b c p q t) k
 
 -- ---- how many they give
 pub counts_alike : (a b c : Float) → length (normal_roots_of a b c) ≡ length (roots_of a b c)

@@ -7,7 +7,7 @@ use Rattle.inputs.specs.Window.{cell_in}
 use Rattle.correction.proofs.bitmap.Centres.{texel_read, texel_held}
 use Rattle.correction.proofs.errors.Beside.{in_bounds_law, before_row, past_row, known_alike, side_on, side_off, side_alike}
 use Rattle.correction.proofs.errors.column_artifact.Goals as goal
-use Rattle.correction.proofs.errors.column_artifact.Goals.{After-place-at, Then-ny-b, else-ny-gt0-via-then-ny-gt0+else-ny-b, else-ny-gt0-via-else-ny-gt0}
+use Rattle.correction.proofs.errors.column_artifact.Goals.{After-place-at, Then-ny-b, then-ny-gt0+then-ny-b+else-not-alike, else-ny-gt0, else-ny-gt0-via-then-ny-gt0+else-ny-b, else-ny-gt0-via-else-ny-gt0}
 
 first : (c : Then-ny-b) → 0 < c.args.ny
 first c = c.if-ny-gt0.true
@@ -40,22 +40,25 @@ returns-then-not-alike c =
     (rw (texel_read _ _ _ p.x_lt_width.0 (inside (goal.at.returns-then-not-alike c).Then-ny-b) _ p.sampled (placed (goal.at.returns-then-not-alike c).After-place-at)) at c.side_artifact.ensures)
     ∙ side_on _ _ _ _ _ _ _ _ _ _ _ (in_bounds_law _ _ _ _ (omega arith) (omega (arith, p.x_lt_width.0)) (first (goal.at.returns-then-not-alike c).Then-ny-b) (last (goal.at.returns-then-not-alike c).Then-ny-b)) (omega arith) refl
 
-pub returns-else-not-alike : goal.returns-else-not-alike
-returns-else-not-alike c =
-    let p = c.requires in
-    let a = c.args in
-    let k = known_alike a.b a.xs.now a.stencil.now _ _ _ _ p.stencilled.1 p.x_lt_width.1 p.x_lt_width.0 (inside (goal.at.returns-else-not-alike c).Then-ny-b) (sym c.alike.ensures ∙ not-false _ c.if-not-alike.false-raw) in
-    side_alike _ _ _ _ _ _ _ _ _ _ _ (in_bounds_law _ _ _ _ (omega arith) (omega (arith, c.requires.x_lt_width.0)) (first (goal.at.returns-else-not-alike c).Then-ny-b) (last (goal.at.returns-else-not-alike c).Then-ny-b)) (omega arith) refl k.0 k.1
-
-pub returns-else-ny-gt0 : goal.returns-else-ny-gt0
-returns-else-ny-gt0 c =
-    elim c.else-ny-gt0.branch [
-      | else-ny-gt0-via-then-ny-gt0+else-ny-b w ↦ side_off _ _ _ _ _ _ _ _ _ (past_row _ _ _ _ w.if-ny-gt0.true (leb-false _ _ w.if-ny-b.false-raw))
-      | else-ny-gt0-via-else-ny-gt0 w ↦ side_off _ _ _ _ _ _ _ _ _ (before_row _ _ _ _ w.if-ny-gt0.false)
-    ]
-
 pub overflow_sub-ny : goal.overflow_sub-ny
 overflow_sub-ny c = first c
 
 pub overflow_sub-ny-then-not-alike : goal.overflow_sub-ny-then-not-alike
 overflow_sub-ny-then-not-alike c = first (goal.at.overflow_sub-ny-then-not-alike c).Then-ny-b
+
+pub returns : goal.returns
+returns c =
+    let p = c.requires in
+    let a = c.args in
+    elim c.if-ny-gt0.branch [
+      | then-ny-gt0+then-ny-b+else-not-alike w ↦
+          let high : a.ny ≤ a.b.height = leb-true _ _ w.if-ny-b.true-raw in
+          let l : a.ny - 1 < a.b.height = omega (arith, w.if-ny-gt0.true, high) in
+          let k = known_alike a.b a.xs.now a.stencil.now _ _ _ _ p.stencilled.1 p.x_lt_width.1 p.x_lt_width.0 l (sym w.alike.ensures ∙ not-false _ w.if-not-alike.false-raw) in
+          side_alike _ _ _ _ _ _ _ _ _ _ _ (in_bounds_law _ _ _ _ (omega arith) (omega (arith, p.x_lt_width.0)) w.if-ny-gt0.true high) (omega arith) refl k.0 k.1
+      | else-ny-gt0 v ↦
+          elim v.else-ny-gt0.branch [
+            | else-ny-gt0-via-then-ny-gt0+else-ny-b w ↦ side_off _ _ _ _ _ _ _ _ _ (past_row _ _ _ _ w.if-ny-gt0.true (leb-false _ _ w.if-ny-b.false-raw))
+            | else-ny-gt0-via-else-ny-gt0 w ↦ side_off _ _ _ _ _ _ _ _ _ (before_row _ _ _ _ w.if-ny-gt0.false)
+          ]
+    ]

@@ -75,7 +75,7 @@ module _ (c : After-marked_byte) where
   stored = still_stencilled c.args.b c.requires.stencilled.0 st (upto_long _ _ _ found.cells)
 
 pub step-requires : goal.step-requires
-step-requires c = record { stencilled = stored c; x_lt_width = (c.loop-at-test.true, c.requires.y_lt_height) }
+step-requires c = record { stencilled = stored (goal.at.step-requires c).After-marked_byte; x_lt_width = (c.loop-at-test.true, c.requires.y_lt_height) }
 
 pub settle-at-requires-in-loop-at : goal.settle-at-requires-in-loop-at
 settle-at-requires-in-loop-at c = record { stencilled = stored (goal.at.settle-at-requires-in-loop-at c).After-marked_byte; y_lt_height = (c.requires.y_lt_height, scan_next c.args.b (st (goal.at.settle-at-requires-in-loop-at c).After-marked_byte) c.args.y c.loop-at.at _ (scanned (goal.at.settle-at-requires-in-loop-at c).After-marked_byte) c.loop-at-test.true c.step.ensures) }
@@ -91,7 +91,7 @@ loop-at-preserved c =
     let e : c.step.result.x ≡ c.loop-at.at.x + 1 = c.step.ensures.0 in
     let i : Found c.args.b c.args.xs.now c.args.s c.args.stencil.now c.args.y c.step.result.x (st (goal.at.loop-at-preserved c).After-marked_byte) (c.loop-at.tests + c.verdict_at-v.result % 128) =
     subst (λ (x : ℕ). Found c.args.b c.args.xs.now c.args.s c.args.stencil.now c.args.y x (st (goal.at.loop-at-preserved c).After-marked_byte) (c.loop-at.tests + c.verdict_at-v.result % 128)) (sym e) (found (goal.at.loop-at-preserved c).After-marked_byte) in
-    (found_run _ _ _ _ _ p.stencilled.0 p.stencilled.1 p.y_lt_height i _ q.1 q.0.few q.2, found_kept _ _ _ _ _ p.stencilled.0 p.stencilled.1 p.y_lt_height (found (goal.at.loop-at-preserved c).After-marked_byte) q.0)
+    (rw c.tests-tests.ensures (found_run _ _ _ _ _ p.stencilled.0 p.stencilled.1 p.y_lt_height i _ q.1 q.0.few q.2), found_kept _ _ _ _ _ p.stencilled.0 p.stencilled.1 p.y_lt_height (found (goal.at.loop-at-preserved c).After-marked_byte) q.0)
 
 pub shape_of-stencil : goal.shape_of-stencil
 shape_of-stencil c = upto_long _ _ _ c.loop-at.invariant.0.cells

@@ -13,7 +13,7 @@ use Rattle.correction.specs.Inner.{four_at, four_of}
 use Rattle.correction.proofs.bitmap.Centres.{texel_held}
 use Rattle.correction.proofs.errors.Beside.{in_bounds_law, before_row, outside_column, known_doubt, four_read, across_on, across_off, across_clear}
 use Rattle.correction.proofs.errors.lower_artifact.Goals as goal
-use Rattle.correction.proofs.errors.lower_artifact.Goals.{After-doubt_towards-q, After-place-across, Joined-nx-gt0, Then-nx-b, then-nx-gt0, else-nx-gt0, else-t-gt0-via-then-t-gt0+else-nx-b, else-t-gt0-via-else-t-gt0}
+use Rattle.correction.proofs.errors.lower_artifact.Goals.{After-doubt_towards-q, After-place-across, Joined-nx-gt0, Then-nx-b, then-nx-gt0, else-nx-gt0, then-t-gt0+then-nx-b+else-q-gt0, else-t-gt0, else-t-gt0-via-then-t-gt0+else-nx-b, else-t-gt0-via-else-t-gt0}
 
 -- the test of the column
 flag : (c : Joined-nx-gt0) → let a = c.args in c.if-nx-gt0.t-15 ≡ (ltb 0 a.nx && leb a.nx a.b.width)
@@ -74,20 +74,6 @@ returns-then-q-gt0 c =
     (rw (read (goal.at.returns-then-q-gt0 c).After-place-across) at c.diagonal_artifact.ensures)
     ∙ across_on _ _ _ _ _ _ _ _ _ _ _ _ _ (in_bounds_law _ _ _ _ (first (goal.at.returns-then-q-gt0 c).Then-nx-b) (last (goal.at.returns-then-q-gt0 c).Then-nx-b) (low (goal.at.returns-then-q-gt0 c).Then-nx-b) (omega (arith, c.requires.x_lt_width.1))) refl refl
 
-pub returns-else-q-gt0 : goal.returns-else-q-gt0
-returns-else-q-gt0 c =
-    let z : c.doubt_towards-q.result ≡ 0 = omega (arith, c.if-q-gt0.false) in
-    across_clear _ _ _ _ _ _ _ _ _ _ _ _ _ (in_bounds_law _ _ _ _ (first (goal.at.returns-else-q-gt0 c).Then-nx-b) (last (goal.at.returns-else-q-gt0 c).Then-nx-b) (low (goal.at.returns-else-q-gt0 c).Then-nx-b) (omega (arith, c.requires.x_lt_width.1))) refl refl (sym (known (goal.at.returns-else-q-gt0 c).After-doubt_towards-q).0 ∙ z)
-
-pub returns-else-t-gt0 : goal.returns-else-t-gt0
-returns-else-t-gt0 c =
-    elim c.else-t-gt0.branch [
-      | else-t-gt0-via-then-t-gt0+else-nx-b w ↦
-          let test : w.if-nx-gt0.t-15 ≡ (ltb 0 c.args.nx && leb c.args.nx c.args.b.width) = elim w.if-nx-gt0.branch [ then-nx-gt0 v ↦ and_taken refl (lt-ltb _ _ v.if-nx-gt0.true) v.t-15-is | else-nx-gt0 v ↦ v.t-15-is ∙ and_left _ refl (le-ltb _ _ v.if-nx-gt0.false) ] in
-          across_off _ _ _ _ _ _ _ _ _ _ _ (outside_column _ _ _ _ (sym test ∙ w.if-nx-b.false-raw))
-      | else-t-gt0-via-else-t-gt0 w ↦ across_off _ _ _ _ _ _ _ _ _ _ _ (before_row _ _ _ _ w.if-t-gt0.false)
-    ]
-
 pub overflow_sub-nx : goal.overflow_sub-nx
 overflow_sub-nx c = first c
 
@@ -105,3 +91,25 @@ overflow_sub-nx-then-q-gt0-2 c = first (goal.at.overflow_sub-nx-then-q-gt0-2 c).
 
 pub overflow_sub-t-then-q-gt0-2 : goal.overflow_sub-t-then-q-gt0-2
 overflow_sub-t-then-q-gt0-2 c = low (goal.at.overflow_sub-t-then-q-gt0-2 c).Then-nx-b
+
+pub returns : goal.returns
+returns c =
+    let p = c.requires in
+    let a = c.args in
+    elim c.if-t-gt0.branch [
+      | then-t-gt0+then-nx-b+else-q-gt0 w ↦
+          let test : w.if-nx-gt0.t-15 ≡ (ltb 0 a.nx && leb a.nx a.b.width) = elim w.if-nx-gt0.branch [ then-nx-gt0 v ↦ and_taken refl (lt-ltb _ _ v.if-nx-gt0.true) v.t-15-is | else-nx-gt0 v ↦ v.t-15-is ∙ and_left _ refl (le-ltb _ _ v.if-nx-gt0.false) ] in
+          let both = both_hold (ltb 0 a.nx) _ (sym test ∙ w.if-nx-b.true-raw) in
+          let from_left : 0 < a.nx = ltb-true _ _ both.0 in
+          let from_right : a.nx ≤ a.b.width = leb-true _ _ both.1 in
+          let k = known_doubt a.b a.xs.now a.stencil.now p.stencilled.1 a.t.texel a.o a.t.x a.t.y (a.nx - 1) (a.t.y - 1) p.x_lt_width.2 p.x_lt_width.0 p.x_lt_width.1 (omega (arith, from_left, from_right)) (omega (arith, p.x_lt_width.1)) w.doubt_towards-q.ensures in
+          let z : w.doubt_towards-q.result ≡ 0 = omega (arith, w.if-q-gt0.false) in
+          across_clear _ _ _ _ _ _ _ _ _ _ _ _ _ (in_bounds_law _ _ _ _ from_left from_right w.if-t-gt0.true (omega (arith, p.x_lt_width.1))) refl refl (sym k.0 ∙ z)
+      | else-t-gt0 u ↦
+          elim u.else-t-gt0.branch [
+            | else-t-gt0-via-then-t-gt0+else-nx-b w ↦
+                let test : w.if-nx-gt0.t-15 ≡ (ltb 0 a.nx && leb a.nx a.b.width) = elim w.if-nx-gt0.branch [ then-nx-gt0 v ↦ and_taken refl (lt-ltb _ _ v.if-nx-gt0.true) v.t-15-is | else-nx-gt0 v ↦ v.t-15-is ∙ and_left _ refl (le-ltb _ _ v.if-nx-gt0.false) ] in
+                across_off _ _ _ _ _ _ _ _ _ _ _ (outside_column _ _ _ _ (sym test ∙ w.if-nx-b.false-raw))
+            | else-t-gt0-via-else-t-gt0 w ↦ across_off _ _ _ _ _ _ _ _ _ _ _ (before_row _ _ _ _ w.if-t-gt0.false)
+          ]
+    ]

@@ -7,7 +7,7 @@ use Rattle.inputs.specs.Window.{cell_in}
 use Rattle.correction.proofs.bitmap.Centres.{texel_read, texel_held}
 use Rattle.correction.proofs.errors.Beside.{in_bounds_law, before_column, past_column, known_alike, side_on, side_off, side_alike}
 use Rattle.correction.proofs.errors.row_artifact.Goals as goal
-use Rattle.correction.proofs.errors.row_artifact.Goals.{After-place-at, Then-nx-b, else-nx-gt0-via-then-nx-gt0+else-nx-b, else-nx-gt0-via-else-nx-gt0}
+use Rattle.correction.proofs.errors.row_artifact.Goals.{After-place-at, Then-nx-b, then-nx-gt0+then-nx-b+else-not-alike, else-nx-gt0, else-nx-gt0-via-then-nx-gt0+else-nx-b, else-nx-gt0-via-else-nx-gt0}
 
 first : (c : Then-nx-b) → 0 < c.args.nx
 first c = c.if-nx-gt0.true
@@ -40,22 +40,25 @@ returns-then-not-alike c =
     (rw (texel_read _ _ _ (inside (goal.at.returns-then-not-alike c).Then-nx-b) p.y_lt_height.0 _ p.sampled (placed (goal.at.returns-then-not-alike c).After-place-at)) at c.side_artifact.ensures)
     ∙ side_on _ _ _ _ _ _ _ _ _ _ _ (in_bounds_law _ _ _ _ (first (goal.at.returns-then-not-alike c).Then-nx-b) (last (goal.at.returns-then-not-alike c).Then-nx-b) (omega arith) (omega (arith, p.y_lt_height.0))) refl (omega arith)
 
-pub returns-else-not-alike : goal.returns-else-not-alike
-returns-else-not-alike c =
-    let p = c.requires in
-    let a = c.args in
-    let k = known_alike a.b a.xs.now a.stencil.now _ _ _ _ p.stencilled.1 p.y_lt_height.1 (inside (goal.at.returns-else-not-alike c).Then-nx-b) p.y_lt_height.0 (sym c.alike.ensures ∙ not-false _ c.if-not-alike.false-raw) in
-    side_alike _ _ _ _ _ _ _ _ _ _ _ (in_bounds_law _ _ _ _ (first (goal.at.returns-else-not-alike c).Then-nx-b) (last (goal.at.returns-else-not-alike c).Then-nx-b) (omega arith) (omega (arith, c.requires.y_lt_height.0))) refl (omega arith) k.0 k.1
-
-pub returns-else-nx-gt0 : goal.returns-else-nx-gt0
-returns-else-nx-gt0 c =
-    elim c.else-nx-gt0.branch [
-      | else-nx-gt0-via-then-nx-gt0+else-nx-b w ↦ side_off _ _ _ _ _ _ _ _ _ (past_column _ _ _ _ w.if-nx-gt0.true (leb-false _ _ w.if-nx-b.false-raw))
-      | else-nx-gt0-via-else-nx-gt0 w ↦ side_off _ _ _ _ _ _ _ _ _ (before_column _ _ _ _ w.if-nx-gt0.false)
-    ]
-
 pub overflow_sub-nx : goal.overflow_sub-nx
 overflow_sub-nx c = first c
 
 pub overflow_sub-nx-then-not-alike : goal.overflow_sub-nx-then-not-alike
 overflow_sub-nx-then-not-alike c = first (goal.at.overflow_sub-nx-then-not-alike c).Then-nx-b
+
+pub returns : goal.returns
+returns c =
+    let p = c.requires in
+    let a = c.args in
+    elim c.if-nx-gt0.branch [
+      | then-nx-gt0+then-nx-b+else-not-alike w ↦
+          let high : a.nx ≤ a.b.width = leb-true _ _ w.if-nx-b.true-raw in
+          let l : a.nx - 1 < a.b.width = omega (arith, w.if-nx-gt0.true, high) in
+          let k = known_alike a.b a.xs.now a.stencil.now _ _ _ _ p.stencilled.1 p.y_lt_height.1 l p.y_lt_height.0 (sym w.alike.ensures ∙ not-false _ w.if-not-alike.false-raw) in
+          side_alike _ _ _ _ _ _ _ _ _ _ _ (in_bounds_law _ _ _ _ w.if-nx-gt0.true high (omega arith) (omega (arith, p.y_lt_height.0))) refl (omega arith) k.0 k.1
+      | else-nx-gt0 v ↦
+          elim v.else-nx-gt0.branch [
+            | else-nx-gt0-via-then-nx-gt0+else-nx-b w ↦ side_off _ _ _ _ _ _ _ _ _ (past_column _ _ _ _ w.if-nx-gt0.true (leb-false _ _ w.if-nx-b.false-raw))
+            | else-nx-gt0-via-else-nx-gt0 w ↦ side_off _ _ _ _ _ _ _ _ _ (before_column _ _ _ _ w.if-nx-gt0.false)
+          ]
+    ]

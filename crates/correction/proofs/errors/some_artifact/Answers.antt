@@ -1,9 +1,10 @@
 -- `correction::errors::some_artifact` meets its contract: after each neighbour the verdict is that of all up to it. Assumes nothing.
-use mathlib.Core.Path.{◌≡◌, ◌∙◌}
+use mathlib.Core.Path.{◌≡◌, sym, ◌∙◌}
 use mathlib.Core.Bool.{Bool, true, false}
 use mathlib.Core.List.{List}
 use Prim.Native.Nat.{ℕ, zero, suc, ◌+◌, ◌≤◌}
 use native.Mathlib.Omega.{arith}
+use borrow.Author.Tests.{leb-true, leb-false}
 use lib.Ieee.{Float}
 use Rattle.ranges.specs.declared.config.Settings.{Settings}
 use Rattle.ranges.specs.Config.{side_span, diagonal_span}
@@ -14,7 +15,7 @@ use Rattle.correction.specs.Errors.{side_artifact, some_side, diagonal_artifact,
 use Rattle.correction.proofs.Laws.Tests.{side_tests_le, side_few, across_tests_le, across_few, linear_made_le}
 use Rattle.correction.proofs.errors.Tried.{up_to, up_to_first, up_to_next, up_to_ended, eight}
 use Rattle.correction.proofs.errors.some_artifact.Goals as goal
-use Rattle.correction.proofs.errors.some_artifact.Goals.{After-column_artifact, After-column_artifact-2, After-lower_artifact, After-lower_artifact-2, After-row_artifact, After-row_artifact-v1, After-upper_artifact, After-upper_artifact-2, Start}
+use Rattle.correction.proofs.errors.some_artifact.Goals.{After-row_artifact-v1, After-then-v2, After-then-v3, After-then-v4, After-then-v5, After-then-v6, After-then-v7, After-then, Start}
 
 module _ (tex : ℕ → ℕ → List Float) (w h : ℕ) (s : Settings) (protected : Bool) (m : Float) (a : List Float) (x y : ℕ) where
   -- neighbour k: whether there is an artifact, and the tests that it takes
@@ -66,68 +67,68 @@ of c = let a = c.args in towards (texel (cut_samples a.b a.xs.now) a.b.width a.b
 after1 : (c : After-row_artifact-v1) → c.row_artifact-v1.result ≡ up_to 1 (of (goal.at.After-row_artifact-v1 c).Start)
 after1 c = up_to_first (of (goal.at.After-row_artifact-v1 c).Start) c.row_artifact-v1.ensures
 
-after2 : (c : After-column_artifact) → c.row_artifact-v1.result + c.column_artifact.result ≡ up_to 2 (of (goal.at.After-column_artifact c).Start)
-after2 c = up_to_next 1 (of (goal.at.After-column_artifact c).Start) (after1 (goal.at.After-column_artifact c).After-row_artifact-v1) c.if-v1-ge-ARTIFACT.false c.column_artifact.ensures
+after2 : (c : After-then-v2) → c.then-v2.result ≡ up_to 2 (of (goal.at.After-then-v2 c).Start)
+after2 c = c.then-v2.ensures ∙ up_to_next 1 (of (goal.at.After-then-v2 c).Start) (after1 (goal.at.After-then-v2 c).After-row_artifact-v1) (leb-false _ _ (sym c.is_artifact.ensures ∙ c.if-is_artifact.false)) c.column_artifact.ensures
 
-after3 : (c : After-row_artifact) → c.row_artifact-v1.result + c.column_artifact.result + c.row_artifact.result ≡ up_to 3 (of (goal.at.After-row_artifact c).Start)
-after3 c = up_to_next 2 (of (goal.at.After-row_artifact c).Start) (after2 (goal.at.After-row_artifact c).After-column_artifact) c.if-v2-ge-ARTIFACT.false c.row_artifact.ensures
+after3 : (c : After-then-v3) → c.then-v3.result ≡ up_to 3 (of (goal.at.After-then-v3 c).Start)
+after3 c = c.then-v3.ensures ∙ up_to_next 2 (of (goal.at.After-then-v3 c).Start) (after2 (goal.at.After-then-v3 c).After-then-v2) (leb-false _ _ (sym c.is_artifact-2.ensures ∙ c.if-is_artifact-2.false)) c.row_artifact.ensures
 
-after4 : (c : After-column_artifact-2) → c.row_artifact-v1.result + c.column_artifact.result + c.row_artifact.result + c.column_artifact-2.result ≡ up_to 4 (of (goal.at.After-column_artifact-2 c).Start)
-after4 c = up_to_next 3 (of (goal.at.After-column_artifact-2 c).Start) (after3 (goal.at.After-column_artifact-2 c).After-row_artifact) c.if-v3-ge-ARTIFACT.false c.column_artifact-2.ensures
+after4 : (c : After-then-v4) → c.then-v4.result ≡ up_to 4 (of (goal.at.After-then-v4 c).Start)
+after4 c = c.then-v4.ensures ∙ up_to_next 3 (of (goal.at.After-then-v4 c).Start) (after3 (goal.at.After-then-v4 c).After-then-v3) (leb-false _ _ (sym c.is_artifact-3.ensures ∙ c.if-is_artifact-3.false)) c.column_artifact-2.ensures
 
-after5 : (c : After-lower_artifact) → c.row_artifact-v1.result + c.column_artifact.result + c.row_artifact.result + c.column_artifact-2.result + c.lower_artifact.result ≡ up_to 5 (of (goal.at.After-lower_artifact c).Start)
-after5 c = up_to_next 4 (of (goal.at.After-lower_artifact c).Start) (after4 (goal.at.After-lower_artifact c).After-column_artifact-2) c.if-v4-ge-ARTIFACT.false c.lower_artifact.ensures
+after5 : (c : After-then-v5) → c.then-v5.result ≡ up_to 5 (of (goal.at.After-then-v5 c).Start)
+after5 c = c.then-v5.ensures ∙ up_to_next 4 (of (goal.at.After-then-v5 c).Start) (after4 (goal.at.After-then-v5 c).After-then-v4) (leb-false _ _ (sym c.is_artifact-4.ensures ∙ c.if-is_artifact-4.false)) c.lower_artifact.ensures
 
-after6 : (c : After-lower_artifact-2) → c.row_artifact-v1.result + c.column_artifact.result + c.row_artifact.result + c.column_artifact-2.result + c.lower_artifact.result + c.lower_artifact-2.result ≡ up_to 6 (of (goal.at.After-lower_artifact-2 c).Start)
-after6 c = up_to_next 5 (of (goal.at.After-lower_artifact-2 c).Start) (after5 (goal.at.After-lower_artifact-2 c).After-lower_artifact) c.if-v5-ge-ARTIFACT.false c.lower_artifact-2.ensures
+after6 : (c : After-then-v6) → c.then-v6.result ≡ up_to 6 (of (goal.at.After-then-v6 c).Start)
+after6 c = c.then-v6.ensures ∙ up_to_next 5 (of (goal.at.After-then-v6 c).Start) (after5 (goal.at.After-then-v6 c).After-then-v5) (leb-false _ _ (sym c.is_artifact-5.ensures ∙ c.if-is_artifact-5.false)) c.lower_artifact-2.ensures
 
-after7 : (c : After-upper_artifact) → c.row_artifact-v1.result + c.column_artifact.result + c.row_artifact.result + c.column_artifact-2.result + c.lower_artifact.result + c.lower_artifact-2.result + c.upper_artifact.result ≡ up_to 7 (of (goal.at.After-upper_artifact c).Start)
-after7 c = up_to_next 6 (of (goal.at.After-upper_artifact c).Start) (after6 (goal.at.After-upper_artifact c).After-lower_artifact-2) c.if-v6-ge-ARTIFACT.false c.upper_artifact.ensures
+after7 : (c : After-then-v7) → c.then-v7.result ≡ up_to 7 (of (goal.at.After-then-v7 c).Start)
+after7 c = c.then-v7.ensures ∙ up_to_next 6 (of (goal.at.After-then-v7 c).Start) (after6 (goal.at.After-then-v7 c).After-then-v6) (leb-false _ _ (sym c.is_artifact-6.ensures ∙ c.if-is_artifact-6.false)) c.upper_artifact.ensures
 
-after8 : (c : After-upper_artifact-2) → c.row_artifact-v1.result + c.column_artifact.result + c.row_artifact.result + c.column_artifact-2.result + c.lower_artifact.result + c.lower_artifact-2.result + c.upper_artifact.result + c.upper_artifact-2.result ≡ up_to 8 (of (goal.at.After-upper_artifact-2 c).Start)
-after8 c = up_to_next 7 (of (goal.at.After-upper_artifact-2 c).Start) (after7 (goal.at.After-upper_artifact-2 c).After-upper_artifact) c.if-v7-ge-ARTIFACT.false c.upper_artifact-2.ensures
+after8 : (c : After-then) → c.then.result ≡ up_to 8 (of (goal.at.After-then c).Start)
+after8 c = c.then.ensures ∙ up_to_next 7 (of (goal.at.After-then c).Start) (after7 (goal.at.After-then c).After-then-v7) (leb-false _ _ (sym c.is_artifact-7.ensures ∙ c.if-is_artifact-7.false)) c.upper_artifact-2.ensures
 
-pub returns-then-v1-ge-ARTIFACT : goal.returns-then-v1-ge-ARTIFACT
-returns-then-v1-ge-ARTIFACT c = up_to_ended 1 7 (of (goal.at.returns-then-v1-ge-ARTIFACT c).Start) (after1 (goal.at.returns-then-v1-ge-ARTIFACT c).After-row_artifact-v1) c.if-v1-ge-ARTIFACT.true ∙ whole _ _ _ _ _ _ _ _ _
+pub returns-then-is_artifact : goal.returns-then-is_artifact
+returns-then-is_artifact c = let s = goal.at.returns-then-is_artifact c in up_to_ended 1 7 (of s.Start) (after1 s.After-row_artifact-v1) (leb-true _ _ (sym c.is_artifact.ensures ∙ c.if-is_artifact.true)) ∙ whole _ _ _ _ _ _ _ _ _
 
-pub returns-then-v2-ge-ARTIFACT : goal.returns-then-v2-ge-ARTIFACT
-returns-then-v2-ge-ARTIFACT c = up_to_ended 2 6 (of (goal.at.returns-then-v2-ge-ARTIFACT c).Start) (after2 (goal.at.returns-then-v2-ge-ARTIFACT c).After-column_artifact) c.if-v2-ge-ARTIFACT.true ∙ whole _ _ _ _ _ _ _ _ _
+pub returns-then-is_artifact-2 : goal.returns-then-is_artifact-2
+returns-then-is_artifact-2 c = let s = goal.at.returns-then-is_artifact-2 c in up_to_ended 2 6 (of s.Start) (after2 s.After-then-v2) (leb-true _ _ (sym c.is_artifact-2.ensures ∙ c.if-is_artifact-2.true)) ∙ whole _ _ _ _ _ _ _ _ _
 
-pub returns-then-v3-ge-ARTIFACT : goal.returns-then-v3-ge-ARTIFACT
-returns-then-v3-ge-ARTIFACT c = up_to_ended 3 5 (of (goal.at.returns-then-v3-ge-ARTIFACT c).Start) (after3 (goal.at.returns-then-v3-ge-ARTIFACT c).After-row_artifact) c.if-v3-ge-ARTIFACT.true ∙ whole _ _ _ _ _ _ _ _ _
+pub returns-then-is_artifact-3 : goal.returns-then-is_artifact-3
+returns-then-is_artifact-3 c = let s = goal.at.returns-then-is_artifact-3 c in up_to_ended 3 5 (of s.Start) (after3 s.After-then-v3) (leb-true _ _ (sym c.is_artifact-3.ensures ∙ c.if-is_artifact-3.true)) ∙ whole _ _ _ _ _ _ _ _ _
 
-pub returns-then-v4-ge-ARTIFACT : goal.returns-then-v4-ge-ARTIFACT
-returns-then-v4-ge-ARTIFACT c = up_to_ended 4 4 (of (goal.at.returns-then-v4-ge-ARTIFACT c).Start) (after4 (goal.at.returns-then-v4-ge-ARTIFACT c).After-column_artifact-2) c.if-v4-ge-ARTIFACT.true ∙ whole _ _ _ _ _ _ _ _ _
+pub returns-then-is_artifact-4 : goal.returns-then-is_artifact-4
+returns-then-is_artifact-4 c = let s = goal.at.returns-then-is_artifact-4 c in up_to_ended 4 4 (of s.Start) (after4 s.After-then-v4) (leb-true _ _ (sym c.is_artifact-4.ensures ∙ c.if-is_artifact-4.true)) ∙ whole _ _ _ _ _ _ _ _ _
 
-pub returns-then-v5-ge-ARTIFACT : goal.returns-then-v5-ge-ARTIFACT
-returns-then-v5-ge-ARTIFACT c = up_to_ended 5 3 (of (goal.at.returns-then-v5-ge-ARTIFACT c).Start) (after5 (goal.at.returns-then-v5-ge-ARTIFACT c).After-lower_artifact) c.if-v5-ge-ARTIFACT.true ∙ whole _ _ _ _ _ _ _ _ _
+pub returns-then-is_artifact-5 : goal.returns-then-is_artifact-5
+returns-then-is_artifact-5 c = let s = goal.at.returns-then-is_artifact-5 c in up_to_ended 5 3 (of s.Start) (after5 s.After-then-v5) (leb-true _ _ (sym c.is_artifact-5.ensures ∙ c.if-is_artifact-5.true)) ∙ whole _ _ _ _ _ _ _ _ _
 
-pub returns-then-v6-ge-ARTIFACT : goal.returns-then-v6-ge-ARTIFACT
-returns-then-v6-ge-ARTIFACT c = up_to_ended 6 2 (of (goal.at.returns-then-v6-ge-ARTIFACT c).Start) (after6 (goal.at.returns-then-v6-ge-ARTIFACT c).After-lower_artifact-2) c.if-v6-ge-ARTIFACT.true ∙ whole _ _ _ _ _ _ _ _ _
+pub returns-then-is_artifact-6 : goal.returns-then-is_artifact-6
+returns-then-is_artifact-6 c = let s = goal.at.returns-then-is_artifact-6 c in up_to_ended 6 2 (of s.Start) (after6 s.After-then-v6) (leb-true _ _ (sym c.is_artifact-6.ensures ∙ c.if-is_artifact-6.true)) ∙ whole _ _ _ _ _ _ _ _ _
 
-pub returns-then-v7-ge-ARTIFACT : goal.returns-then-v7-ge-ARTIFACT
-returns-then-v7-ge-ARTIFACT c = up_to_ended 7 1 (of (goal.at.returns-then-v7-ge-ARTIFACT c).Start) (after7 (goal.at.returns-then-v7-ge-ARTIFACT c).After-upper_artifact) c.if-v7-ge-ARTIFACT.true ∙ whole _ _ _ _ _ _ _ _ _
+pub returns-then-is_artifact-7 : goal.returns-then-is_artifact-7
+returns-then-is_artifact-7 c = let s = goal.at.returns-then-is_artifact-7 c in up_to_ended 7 1 (of s.Start) (after7 s.After-then-v7) (leb-true _ _ (sym c.is_artifact-7.ensures ∙ c.if-is_artifact-7.true)) ∙ whole _ _ _ _ _ _ _ _ _
 
 pub returns : goal.returns
 returns c = after8 c ∙ whole _ _ _ _ _ _ _ _ _
 
-pub overflow_add-v2 : goal.overflow_add-v2
-overflow_add-v2 c = omega (arith, side_few _ _ _ _ _ _ _ _ _ c.column_artifact.ensures)
+pub then-v2-requires : goal.then-v2-requires
+then-v2-requires c = (leb-false _ _ (sym c.is_artifact.ensures ∙ c.if-is_artifact.false), omega (arith, side_few _ _ _ _ _ _ _ _ _ c.column_artifact.ensures))
 
-pub overflow_add-v3 : goal.overflow_add-v3
-overflow_add-v3 c = omega (arith, side_few _ _ _ _ _ _ _ _ _ c.row_artifact.ensures)
+pub then-v3-requires : goal.then-v3-requires
+then-v3-requires c = (leb-false _ _ (sym c.is_artifact-2.ensures ∙ c.if-is_artifact-2.false), omega (arith, side_few _ _ _ _ _ _ _ _ _ c.row_artifact.ensures))
 
-pub overflow_add-v4 : goal.overflow_add-v4
-overflow_add-v4 c = omega (arith, side_few _ _ _ _ _ _ _ _ _ c.column_artifact-2.ensures)
+pub then-v4-requires : goal.then-v4-requires
+then-v4-requires c = (leb-false _ _ (sym c.is_artifact-3.ensures ∙ c.if-is_artifact-3.false), omega (arith, side_few _ _ _ _ _ _ _ _ _ c.column_artifact-2.ensures))
 
-pub overflow_add-v5 : goal.overflow_add-v5
-overflow_add-v5 c = omega (arith, across_few _ _ _ _ _ _ _ _ _ _ _ c.lower_artifact.ensures)
+pub then-v5-requires : goal.then-v5-requires
+then-v5-requires c = (leb-false _ _ (sym c.is_artifact-4.ensures ∙ c.if-is_artifact-4.false), omega (arith, across_few _ _ _ _ _ _ _ _ _ _ _ c.lower_artifact.ensures))
 
-pub overflow_add-v6 : goal.overflow_add-v6
-overflow_add-v6 c = omega (arith, across_few _ _ _ _ _ _ _ _ _ _ _ c.lower_artifact-2.ensures)
+pub then-v6-requires : goal.then-v6-requires
+then-v6-requires c = (leb-false _ _ (sym c.is_artifact-5.ensures ∙ c.if-is_artifact-5.false), omega (arith, across_few _ _ _ _ _ _ _ _ _ _ _ c.lower_artifact-2.ensures))
 
-pub overflow_add-v7 : goal.overflow_add-v7
-overflow_add-v7 c = omega (arith, across_few _ _ _ _ _ _ _ _ _ _ _ c.upper_artifact.ensures)
+pub then-v7-requires : goal.then-v7-requires
+then-v7-requires c = (leb-false _ _ (sym c.is_artifact-6.ensures ∙ c.if-is_artifact-6.false), omega (arith, across_few _ _ _ _ _ _ _ _ _ _ _ c.upper_artifact.ensures))
 
-pub overflow_add-result : goal.overflow_add-result
-overflow_add-result c = omega (arith, across_few _ _ _ _ _ _ _ _ _ _ _ c.upper_artifact-2.ensures)
+pub then-requires : goal.then-requires
+then-requires c = (leb-false _ _ (sym c.is_artifact-7.ensures ∙ c.if-is_artifact-7.false), omega (arith, across_few _ _ _ _ _ _ _ _ _ _ _ c.upper_artifact-2.ensures))

@@ -13,9 +13,7 @@ all m = record { first = λ e. absurd (omega (arith, e)); second = λ e. absurd 
 
 pub returns-then-guard : goal.returns-then-guard
 returns-then-guard c =
-    let t = c.before in
-    let g = t.before in
-    c.has_guarded_artifact.ensures ∙ doubted_all 7 _ (all _) _ _ _ _ ∙ tested _ _ _ _ _ (ap (λ (m : Middle). m.value) g.before.median-far.ensures) (sym g.guard.ensures ∙ t.if-guard.true)
+    c.has_guarded_artifact.ensures ∙ doubted_all 7 _ (all _) _ _ _ _ ∙ tested _ _ _ _ _ (ap (λ (m : Middle). m.value) c.median-far.ensures) (sym c.guard.ensures ∙ c.if-guard.true)
 
 pub returns : goal.returns
-returns c = untested _ _ _ _ _ (ap (λ (m : Middle). m.value) c.before.before.median-far.ensures) (sym c.before.guard.ensures ∙ c.if-guard.false)
+returns c = untested _ _ _ _ _ (ap (λ (m : Middle). m.value) c.median-far.ensures) (sym c.guard.ensures ∙ c.if-guard.false)

@@ -1,41 +1,49 @@
 -- `detectors::linear::has_linear_artifact_inner` meets its contract. Assumes nothing.
-use Rattle.std.proofs.Common.{sym, ◌∙◌}
-use borrow.Author.Tests.{not-true}
-use Rattle.detectors.specs.Linear.{linear_at, linear_tests_at}
-use Rattle.detectors.proofs.Laws.Verdict.{as_found, as_clear, or_ended, or_off, or_on}
+use Rattle.std.proofs.Common.{◌≡◌, ℕ, ◌+◌, ◌<◌, Bool, sym, ap, ◌∙◌, arith}
+use borrow.Author.Tests.{leb-true, leb-false, not-true}
+use Rattle.detectors.specs.Verdict.{verdict}
+use Rattle.detectors.specs.Linear.{crossing, linear_at, linear_tests_at}
+use Rattle.detectors.specs.Inner.{or_else}
+use Rattle.detectors.proofs.Laws.Verdict.{or_ended, or_off, or_on}
 use Rattle.detectors.proofs.linear.has_linear_artifact_inner.Goals as goal
+use Rattle.detectors.proofs.linear.has_linear_artifact_inner.Goals.{Else-is_artifact, After-range_test}
 
-pub returns-then-before-ge-ARTIFACT : goal.returns-then-before-ge-ARTIFACT
-returns-then-before-ge-ARTIFACT c = or_ended _ _ c.if-before-ge-ARTIFACT.true
+-- nothing found before
+none : (c : Else-is_artifact) → c.args.before < 128
+none c = leb-false _ _ (sym c.is_artifact.ensures ∙ c.if-is_artifact.false)
+
+pub returns-then-is_artifact : goal.returns-then-is_artifact
+returns-then-is_artifact c = or_ended _ _ (leb-true _ _ (sym c.is_artifact.ensures ∙ c.if-is_artifact.true))
 
 pub returns-then-not-crosses : goal.returns-then-not-crosses
 unfolding linear_at linear_tests_at
 returns-then-not-crosses c =
-    let x = c.before in
-    or_off _ _ _ _ x.before.if-before-ge-ARTIFACT.false (x.crosses.ensures (not-true _ c.if-not-crosses.true-raw))
+    or_off _ _ _ _ (none (goal.at.returns-then-not-crosses c).Else-is_artifact) (c.crosses.ensures (not-true _ c.if-not-crosses.true-raw))
+
+pub then-requires : goal.then-requires
+unfolding verdict
+then-requires c = (none (goal.at.then-requires c).Else-is_artifact, omega (arith, c.artifact.ensures))
+
+pub then-requires-then-inside : goal.then-requires-then-inside
+unfolding verdict
+then-requires-then-inside c = (none (goal.at.then-requires-then-inside c).Else-is_artifact, omega (arith, c.clear.ensures))
+
+-- what one test of a root that is inside says, added to what was before
+tested : (c : After-range_test) (k : ℕ) → k ≡ verdict c.range_test.result 1 → let a = c.args in
+    a.before + k ≡ or_else a.before (verdict (linear_at a.k.span a.k.protected a.am a.bm a.a a.b (crossing a.da a.db)) (linear_tests_at (crossing a.da a.db)))
+unfolding linear_at linear_tests_at
+tested c k e =
+    or_on _ _ _ _ _ (none (goal.at.After-range_test c).Else-is_artifact) (sym (rw c.crossing-t.ensures at c.inside.ensures) ∙ c.if-inside.true)
+    (e ∙ ap (λ (b : Bool). verdict b 1) (rw (c.interpolated_median_linear-xm.ensures, c.crossing-t.ensures) at c.range_test.ensures))
 
 pub returns-then-range_test : goal.returns-then-range_test
-unfolding linear_at linear_tests_at
 returns-then-range_test c =
-    let v = c.before in
-    let x = v.before in
-    let i = x.before in
-    let t = i.before.before in
-    or_on _ _ _ _ _ t.before.before.before.if-before-ge-ARTIFACT.false (sym (rw t.crossing-t.ensures at i.before.inside.ensures) ∙ i.if-inside.true)
-    (as_found 1 (sym (rw (x.interpolated_median_linear-xm.ensures, t.crossing-t.ensures) at v.range_test.ensures) ∙ c.if-range_test.true))
+    c.then.ensures ∙ tested (goal.at.returns-then-range_test c).After-range_test _ (c.artifact.ensures ∙ ap (λ (b : Bool). verdict b 1) (sym c.if-range_test.true))
 
 pub returns-then-inside : goal.returns-then-inside
-unfolding linear_at linear_tests_at
 returns-then-inside c =
-    let v = c.before in
-    let x = v.before in
-    let i = x.before in
-    let t = i.before.before in
-    or_on _ _ _ _ _ t.before.before.before.if-before-ge-ARTIFACT.false (sym (rw t.crossing-t.ensures at i.before.inside.ensures) ∙ i.if-inside.true)
-    (as_clear 1 (sym (rw (x.interpolated_median_linear-xm.ensures, t.crossing-t.ensures) at v.range_test.ensures) ∙ c.if-range_test.false))
+    c.then-then-inside.ensures ∙ tested (goal.at.returns-then-inside c).After-range_test _ (c.clear.ensures ∙ ap (λ (b : Bool). verdict b 1) (sym c.if-range_test.false))
 
 pub returns : goal.returns
 unfolding linear_at linear_tests_at
-returns c =
-    let t = c.before.before in
-    or_off _ _ _ _ t.before.before.before.if-before-ge-ARTIFACT.false (sym (rw t.crossing-t.ensures at c.before.inside.ensures) ∙ c.if-inside.false)
+returns c = or_off _ _ _ _ (none (goal.at.returns c).Else-is_artifact) (sym (rw c.crossing-t.ensures at c.inside.ensures) ∙ c.if-inside.false)

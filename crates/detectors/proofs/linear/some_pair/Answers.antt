@@ -20,10 +20,5 @@ module _ (span : Float) (protected : Bool) (am bm : Float) (a b : List Float) wh
 
 pub returns : goal.returns
 returns c =
-    let w = c.before in
-    let v = w.before.before in
-    let x = v.before in
-    let u = x.before.before in
-    let y = u.before in
-    rw (c.has_linear_artifact_inner.ensures, w.difference-6.ensures, w.before.difference-5.ensures, v.has_linear_artifact_inner-v.ensures, x.difference-4.ensures, x.before.difference-3.ensures, u.has_linear_artifact_inner-u.ensures, y.difference-2.ensures, y.before.difference.ensures)
+    rw (c.has_linear_artifact_inner.ensures, c.difference-6.ensures, c.difference-5.ensures, c.has_linear_artifact_inner-v.ensures, c.difference-4.ensures, c.difference-3.ensures, c.has_linear_artifact_inner-u.ensures, c.difference-2.ensures, c.difference.ensures)
     (pairs _ _ _ _ _ _)

@@ -1,19 +1,17 @@
 -- `numbers::scalar::abs64` meets its contract (`floats/Signs.antt`). Assumes nothing.
+use Rattle.std.proofs.Common.{sym, ◌∙◌}
 use lib.Ieee.{binary64}
 use Rattle.numbers.specs.Scalar.{abs_of}
-use Rattle.ground.proofs.Laws.Nan.{no_nan, is_nan_law}
+use Rattle.ground.proofs.Laws.Nan.{ne_self, is_nan_law}
 use Rattle.numbers.proofs.floats.Signs.{read_abs}
 use Rattle.numbers.proofs.scalar.abs64.Goals as goal
 
-pub returns-then-x : goal.returns-then-x
+pub returns-then-is_nan : goal.returns-then-is_nan
 unfolding abs_of
-returns-then-x c = rw (is_nan_law c.before.args.x c.if-x.true)
+returns-then-is_nan c = rw (is_nan_law c.args.x (ne_self c.args.x ∙ sym c.is_nan.ensures.value ∙ c.if-is_nan.true))
 
 pub float_from_bits-result : goal.float_from_bits-result
-float_from_bits-result c = (read_abs binary64 c.before.args.x c.before.well_formed.0.1 (no_nan c.before.args.x c.if-x.false)).1
+float_from_bits-result c = (read_abs binary64 c.args.x c.well_formed.0.1 c.if-is_nan.ensures.not_nan).1
 
 pub returns : goal.returns
-returns c = (read_abs binary64 c.before.args.x c.before.well_formed.0.1 (no_nan c.before.args.x c.if-x.false)).0
-
-pub float_to_bits-result : goal.float_to_bits-result
-float_to_bits-result c = no_nan c.before.args.x c.if-x.false
+returns c = (read_abs binary64 c.args.x c.well_formed.0.1 c.if-is_nan.ensures.not_nan).0

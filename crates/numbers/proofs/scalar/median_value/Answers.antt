@@ -11,7 +11,7 @@ use Rattle.numbers.proofs.scalar.median_value.Goals.{After-greater-m, Start}
 abbrev start : After-greater-m → Start
 start c = c.before.before.before.before.before.before
 
-none : (a b c : Bool) → a || (b || c) ≡ false → T (not a) × T (not b) × T (not c)
+none : (a b c : Bool) → a || b || c ≡ false → T (not a) × T (not b) × T (not c)
 none true b c e = absurd (subst T e tt)
 none false true c e = absurd (subst T e tt)
 none false false true e = absurd (subst T e tt)
@@ -31,7 +31,7 @@ pub zero_median-requires : goal.zero_median-requires
 unfolding of_bits of_fields odd
 zero_median-requires c =
     let a = (start c.before).args in
-    let n = numbers c.before in record { t = (n.0.1, n.1.1, n.2.1); t_2 = median_zero binary32 a.a a.b a.c n.0 n.1 n.2 (subst (λ (v : Float). eq v nought ≡ true) (value c.before) c.if-m.true) }
+    let n = numbers c.before in record { numbers = (n.0.1, n.1.1, n.2.1); zero = median_zero binary32 a.a a.b a.c n.0 n.1 n.2 (subst (λ (v : Float). eq v nought ≡ true) (value c.before) c.if-m.true) }
 
 pub returns-else-m : goal.returns-else-m
 unfolding of_bits of_fields odd

@@ -1,33 +1,29 @@
 -- `numbers::scalar::min` meets its contract (`Zeros.antt` where neither is less). Assumes nothing.
 use Rattle.std.proofs.Common.{sym, ◌∙◌}
 use Rattle.numbers.specs.Scalar.{min_of}
-use Rattle.ground.proofs.Laws.Nan.{ne_self}
 use Rattle.numbers.proofs.scalar.Zeros.{apart_min, second_number, min_minus, min_plus}
 use Rattle.numbers.proofs.scalar.min.Goals as goal
+use Rattle.numbers.proofs.scalar.min.Goals.{then-is_nan-via-then-is_nan, then-is_nan-via-else-is_nan+then-y-x}
 
-pub returns-then-x : goal.returns-then-x
+pub returns-then-is_nan : goal.returns-then-is_nan
 unfolding min_of
-returns-then-x c = rw (← ne_self, c.if-x.true)
-
-pub returns-then-y-x : goal.returns-then-y-x
-unfolding min_of
-returns-then-y-x c = rw (← ne_self, c.before.if-x.false, c.if-y-x.true)
+returns-then-is_nan c =
+    elim c.then-is_nan.branch [
+      | then-is_nan-via-then-is_nan w ↦ rw (sym c.is_nan.ensures.value ∙ w.if-is_nan.true)
+      | then-is_nan-via-else-is_nan+then-y-x w ↦ rw (sym c.is_nan.ensures.value ∙ w.if-is_nan.false, w.if-y-x.true)
+    ]
 
 pub returns-then-y-x-2 : goal.returns-then-y-x-2
 unfolding min_of
-returns-then-y-x-2 c =
-    let s = c.before.before.before in
-    rw (← ne_self, c.before.before.if-x.false, apart_min s.args.x s.args.y c.before.if-y-x.false c.if-y-x-2.true)
+returns-then-y-x-2 c = rw (sym c.is_nan.ensures.value ∙ c.if-is_nan.false, apart_min c.args.x c.args.y c.if-y-x.false c.if-y-x-2.true)
 
-pub is_negative-requires : goal.is_negative-requires
-is_negative-requires c = let s = c.before.before.before in second_number s.args.x s.args.y s.well_formed.0.1 s.well_formed.1.0.1 c.if-y-x-2.false
+pub is_sign_negative-requires : goal.is_sign_negative-requires
+is_sign_negative-requires c = second_number c.args.x c.args.y c.well_formed.0.1 c.well_formed.1.0.1 c.if-y-x-2.false
 
-pub returns-then-is_negative : goal.returns-then-is_negative
-returns-then-is_negative c =
-    let s = c.before.before.before.before.before in
-    min_minus s.args.x s.args.y s.well_formed.0.1 s.well_formed.1.0.1 c.before.before.if-y-x-2.false (sym c.before.is_negative.ensures ∙ c.if-is_negative.true)
+pub returns-then-is_sign_negative : goal.returns-then-is_sign_negative
+returns-then-is_sign_negative c =
+    min_minus c.args.x c.args.y c.well_formed.0.1 c.well_formed.1.0.1 c.if-y-x-2.false (sym c.is_sign_negative.ensures ∙ c.if-is_sign_negative.true)
 
-pub returns-else-is_negative : goal.returns-else-is_negative
-returns-else-is_negative c =
-    let s = c.before.before.before.before.before in
-    min_plus s.args.x s.args.y s.well_formed.0.1 s.well_formed.1.0.1 c.before.before.if-y-x-2.false (sym c.before.is_negative.ensures ∙ c.if-is_negative.false)
+pub returns-else-is_sign_negative : goal.returns-else-is_sign_negative
+returns-else-is_sign_negative c =
+    min_plus c.args.x c.args.y c.well_formed.0.1 c.well_formed.1.0.1 c.if-y-x-2.false (sym c.is_sign_negative.ensures ∙ c.if-is_sign_negative.false)

@@ -1,0 +1,8 @@
+-- `detectors::verdict::Verdict::clear` meets its contract. Assumes nothing.
+use Rattle.std.proofs.Common.{refl}
+use Rattle.detectors.specs.Verdict.{verdict}
+use Rattle.detectors.proofs.verdict.Verdict.clear.Goals as goal
+
+pub returns : goal.returns
+unfolding verdict
+returns c = refl
