@@ -1,28 +1,23 @@
 // The checks, each as docs/RULES.md has it. A search goes from the end to the front, through everything, and keeps what it found last.
-ghost use Rattle.std.specs.Prelude.{◌≡◌, ◌*◌, ◌<◌, ◌≤◌, length, if◌then◌else◌, nat_le};
+ghost use Rattle.std.specs.Prelude.{◌≡◌, ◌*◌, ◌<◌, ◌≤◌, length, if◌then◌else◌, nat_le, Err};
 ghost use Rattle.std.specs.Float.{binary32, binary64};
 ghost use Rattle.inputs.specs.Checks as Checks;
 ghost use Rattle.inputs.specs.Checks.{input};
+ghost use Rattle.inputs.specs.Refusal.{number_in, place_in};
 
+use inputs::refusal::{ContentRefusal, Refusal};
 use inputs::sizes::Bitmap;
 use ranges::config::Settings;
 use ranges::constants;
 
-// The first check that fails and its place; 0 and 0 where all pass.
-#[derive(Clone, Copy)]
-pub struct Refusal {
-    pub number: u8,
-    pub place: usize,
-}
-
-// The number of a check where it fails, else that of the rest.
-fn number_of(bad: bool, here: u8, rest: u8) -> u8
-    ensures { result ≡ (if bad then here else rest) }
+// What a check refuses with where it fails, else what the rest say.
+fn refused(bad: bool, here: Refusal, rest: Result<(), Refusal>) -> Result<(), Refusal>
+    ensures { result ≡ (if bad then Err here else rest) }
 {
-    if bad { here } else { rest }
+    if bad { Err(here) } else { rest }
 }
 
-// The same of its place.
+// A place where a test holds, else another.
 fn place_of(bad: bool, here: usize, rest: usize) -> usize
     ensures { result ≡ (if bad then here else rest) }
 {
@@ -50,16 +45,17 @@ fn at_most(n: usize, most: usize) -> usize
     if n <= most { n } else { most }
 }
 
-// The first of checks 1 to 4 that fails, of n samples and m cells; 0 where all pass. Where at_most changes a size check 1 or 2 fails, so the products say nothing.
-fn size_refusal(b: Bitmap, n: usize, m: usize) -> u8
-    ensures { result ≡ Checks.size_refusal b.width b.height b.channels n m }
+// Checks 1 to 4, of n samples and m cells. Where at_most changes a size check 1 or 2 fails, so the products say nothing.
+fn check_size(b: Bitmap, n: usize, m: usize) -> Result<(), Refusal>
+    ensures numbers { number_in result ≡ Checks.size_refusal b.width b.height b.channels n m }
+    ensures places { place_in result ≡ 0 }
 {
     let area = at_most(b.width, 4096) * at_most(b.height, 4096);
     let volume = area * at_most(b.channels, 4);
-    let cells = number_of(m != area, 4, 0);
-    let samples = number_of(n != volume, 3, cells);
-    let sides = number_of(bad_size(b), 2, samples);
-    number_of(bad_channels(b.channels), 1, sides)
+    let cells = refused(m != area, Refusal::CellCount, Ok(()));
+    let samples = refused(n != volume, Refusal::SampleCount, cells);
+    let sides = refused(bad_size(b), Refusal::Size, samples);
+    refused(bad_channels(b.channels), Refusal::Channels, sides)
 }
 
 // Check 60, of a room of n: it has not two rows of w.
@@ -183,26 +179,23 @@ fn segments_place(colours: &[u8], coords: &[f64]) -> usize
     place
 }
 
-// The first of checks 7 to 9 that fails, with its place.
-fn outline_refusal(colours: &[u8], coords: &[f64], ends: &[usize]) -> Refusal
-    ensures { (result.number ≡ Checks.outline_refusal colours.now coords.now ends.now) × (result.place ≡ Checks.outline_place colours.now coords.now ends.now result.number) }
+// Checks 7 to 9.
+fn check_outline(colours: &[u8], coords: &[f64], ends: &[usize]) -> Result<(), Refusal>
+    ensures numbers { number_in result ≡ Checks.outline_refusal colours.now coords.now ends.now }
+    ensures places { place_in result ≡ Checks.outline_place colours.now coords.now ends.now (number_in result) }
 {
     if bad_outlines(colours.len(), coords.len()) {
-        return Refusal {
-            number: 7,
-            place: 0,
-        };
+        return Err(Refusal::Content(ContentRefusal::OutlineLengths));
     }
     let n = colours.len();
     let e = ends_place(ends, n);
     let p = segments_place(colours, coords);
-    let bad = bad_ends(ends, n, e);
-    let number = number_of(p < n, 9, 0);
-    let place = place_of(p < n, p, 0);
-    Refusal {
-        number: number_of(bad, 8, number),
-        place: place_of(bad, e, place),
-    }
+    let segments = refused(p < n, Refusal::Content(ContentRefusal::Segment(p)), Ok(()));
+    refused(
+        bad_ends(ends, n, e),
+        Refusal::Content(ContentRefusal::End(e)),
+        segments,
+    )
 }
 
 // All checks, 60 between 4 and 5; the first failure answers.
@@ -216,19 +209,19 @@ pub fn check(
     colours: &[u8],
     coords: &[f64],
     ends: &[usize],
-) -> Refusal
-    ensures numbers { result.number ≡ Checks.refusal_number (input b.width b.height b.channels xs.now stencil.now room.now mode s colours.now coords.now ends.now) }
-    ensures places { result.place ≡ Checks.refusal_place (input b.width b.height b.channels xs.now stencil.now room.now mode s colours.now coords.now ends.now) }
+) -> Result<(), Refusal>
+    ensures numbers { number_in result ≡ Checks.refusal_number (input b.width b.height b.channels xs.now stencil.now room.now mode s colours.now coords.now ends.now) }
+    ensures places { place_in result ≡ Checks.refusal_place (input b.width b.height b.channels xs.now stencil.now room.now mode s colours.now coords.now ends.now) }
 {
-    let n = size_refusal(b, xs.len(), stencil.len());
-    let short = bad_room(b.width, room.len());
     let p = settings_place(mode, s);
     let q = samples_place(xs);
-    let o = outline_refusal(colours, coords, ends);
-    let number = number_of(p < 5, 5, number_of(q < xs.len(), 6, o.number));
-    let place = place_of(p < 5, p, place_of(q < xs.len(), q, o.place));
-    Refusal {
-        number: number_of(n != 0, n, number_of(short, 60, number)),
-        place: place_of(n != 0, 0, place_of(short, 0, place)),
-    }
+    let outline = check_outline(colours, coords, ends);
+    let samples = refused(
+        q < xs.len(),
+        Refusal::Content(ContentRefusal::Sample(q)),
+        outline,
+    );
+    let settings = refused(p < 5, Refusal::Content(ContentRefusal::Setting(p)), samples);
+    let lent = refused(bad_room(b.width, room.len()), Refusal::Room, settings);
+    check_size(b, xs.len(), stencil.len()).and(lent)
 }

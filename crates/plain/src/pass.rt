@@ -14,18 +14,12 @@ ghost use Rattle.plain.specs.Answer.{plain_answer};
 ghost use Rattle.plain.specs.Inner as Inner;
 
 use crate::{checks, collapse, corners, edges, errors};
+use inputs::refusal::Refusal;
 use inputs::sizes::Bitmap;
 use inputs::stencil::Counts;
 use inputs::{room, stencil};
 use ranges::config;
 use ranges::config::Settings;
-
-// What the plain pass answers: the counts, or the number of the first check that fails and its place.
-#[derive(Clone, Copy)]
-pub enum Answer {
-    Accepted(Counts),
-    Refused(u8, usize),
-}
 
 // A bit of a byte, where it is set.
 fn bit(set: bool, v: u8) -> u8
@@ -135,7 +129,7 @@ pub fn plain_error_correction(
     colours: &[u8],
     coords: &[f64],
     ends: &[usize],
-) -> Answer
+) -> Result<Counts, Refusal>
     ensures answers { result ≡ plain_answer (input width height channels samples.old stencil.old room.old mode settings colours.now coords.now ends.now) }
     ensures leaves { stencil.new ≡ Pass.stencil_after (input width height channels samples.old stencil.old room.old mode settings colours.now coords.now ends.now) }
     ensures writes { samples.new ≡ Pass.samples_after (input width height channels samples.old stencil.old room.old mode settings colours.now coords.now ends.now) }
@@ -146,14 +140,11 @@ pub fn plain_error_correction(
         height,
         channels,
     };
-    let f = checks::check(
+    checks::check(
         b, samples, stencil, room, mode, settings, colours, coords, ends,
-    );
-    if f.number != 0 {
-        return Answer::Refused(f.number, f.place);
-    }
+    )?;
     correct(
         stencil, samples, room, b, mode, settings, colours, coords, ends,
     );
-    Answer::Accepted(count(stencil))
+    Ok(count(stencil))
 }

@@ -1,10 +1,9 @@
 -- The plain engine's answer has the case, the number, the place and the counts of its input, as the first engine's has. Assumes nothing.
 use Rattle.std.proofs.Common.{◌≡◌, refl, ◌∙◌}
-use Rattle.correction.specs.declared.pass.Answer.{Answer}
-use Rattle.correction.specs.declared.pass.Answer.TheVariants.{Accepted, Refused}
+use Rattle.std.specs.Prelude.{Ok, Err}
 use Rattle.inputs.specs.Checks.{Input, accepted, refusal_number, refusal_place}
 use Rattle.correction.specs.Pass as Pass
-use Rattle.correction.specs.Pass.{answer, protected_cells, error_cells, corner_cells}
+use Rattle.correction.specs.Pass.{Answer, answer, protected_cells, error_cells, corner_cells}
 use Rattle.correction.proofs.Laws.Answer.{answer_answers}
 use Rattle.plain.specs.Answer.{untested, plain_answer, is_accepted, number_of, place_in, protected_in, errors_in, corners_in}
 
@@ -12,33 +11,33 @@ use Rattle.plain.specs.Answer.{untested, plain_answer, is_accepted, number_of, p
 
 keeps_case : (r : Answer) → is_accepted (untested r) ≡ Pass.is_accepted r
 unfolding untested is_accepted Pass.is_accepted
-keeps_case (Accepted c t) = refl
-keeps_case (Refused n p) = refl
+keeps_case (Ok c) = refl
+keeps_case (Err r) = refl
 
 keeps_number : (r : Answer) → number_of (untested r) ≡ Pass.number_of r
 unfolding untested number_of Pass.number_of
-keeps_number (Accepted c t) = refl
-keeps_number (Refused n p) = refl
+keeps_number (Ok c) = refl
+keeps_number (Err r) = refl
 
 keeps_place : (r : Answer) → place_in (untested r) ≡ Pass.place_in r
 unfolding untested place_in Pass.place_in
-keeps_place (Accepted c t) = refl
-keeps_place (Refused n p) = refl
+keeps_place (Ok c) = refl
+keeps_place (Err r) = refl
 
 keeps_protected : (r : Answer) → protected_in (untested r) ≡ Pass.protected_in r
 unfolding untested protected_in Pass.protected_in
-keeps_protected (Accepted c t) = refl
-keeps_protected (Refused n p) = refl
+keeps_protected (Ok c) = refl
+keeps_protected (Err r) = refl
 
 keeps_errors : (r : Answer) → errors_in (untested r) ≡ Pass.errors_in r
 unfolding untested errors_in Pass.errors_in
-keeps_errors (Accepted c t) = refl
-keeps_errors (Refused n p) = refl
+keeps_errors (Ok c) = refl
+keeps_errors (Err r) = refl
 
 keeps_corners : (r : Answer) → corners_in (untested r) ≡ Pass.corners_in r
 unfolding untested corners_in Pass.corners_in
-keeps_corners (Accepted c t) = refl
-keeps_corners (Refused n p) = refl
+keeps_corners (Ok c) = refl
+keeps_corners (Err r) = refl
 
 -- ---- what the plain engine answers
 

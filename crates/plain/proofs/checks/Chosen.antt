@@ -3,9 +3,17 @@
 --     sizes_chosen      of checks 1 to 4
 --     outlines_chosen   of checks 7 to 9, where check 7 passes
 --     all_chosen        of all
+--     sizes_told, outlines_told, rest_told, both_told   what a result says that was put together so
 use Rattle.std.proofs.Common.{◌≡◌, ℕ, ◌*◌, ◌≤◌, Bool, true, false, cond, not, eqb, ltb, leb, List, length, sym, refl, ◌∙◌, mul-le-mul, ltb-false, ltb-true, eqb-true, le-leb}
 use lib.Ieee.{Float}
-use borrow.Author.Tests.{eqb-false}
+use Rattle.std.specs.Prelude.{Result, Ok, Err}
+use Rattle.std.specs.Result.{result_and}
+use Rattle.inputs.specs.declared.refusal.ContentRefusal.TheVariants.{Setting, Sample, End, Segment}
+use Rattle.inputs.specs.declared.refusal.Refusal.{Refusal}
+use Rattle.inputs.specs.declared.refusal.Refusal.TheVariants.{Channels, Size, SampleCount, CellCount, Room, Content}
+use Rattle.inputs.specs.Refusal.{number, number_in, place_in}
+use Rattle.inputs.proofs.Laws.Refusal.{number_not_0}
+use borrow.Author.Tests.{eqb-false, ne_eqb}
 use Rattle.ground.specs.Refuse.{first_failing}
 use Rattle.inputs.specs.Checks.{Input, bad_channels, bad_size, bad_sample_count, bad_cell_count, bad_room, settings_place, samples_place, bad_outlines, ends_place, bad_ends, segments_place, bad_segments, size_refusal, outline_refusal, outline_place, refusal_number, refusal_place}
 use Rattle.inputs.proofs.Laws.Checks.{channel_bound, size_bound, by_sizes_law, by_room, by_settings, by_samples, by_outlines}
@@ -55,3 +63,31 @@ module _ (i : Input) {n p q r o : ℕ} {m : Bool} (e : n ≡ size_refusal i.widt
       go true false true c x w y z = by_settings i e (eqb-true n 0 x) (sym d ∙ w) f (ltb-true p 5 y)
       go true false false true x w y z = by_samples i e (eqb-true n 0 x) (sym d ∙ w) f (ltb-false p 5 y) g (ltb-true q _ z)
       go true false false false x w y z = by_outlines i e (eqb-true n 0 x) (sym d ∙ w) f (ltb-false p 5 y) g (ltb-false q _ z) h k
+
+-- ---- a check's refusal, or what the rest say
+
+pub sizes_told : (a b x y : Bool) {r t u v : Result Unit Refusal} → r ≡ cond a (Err Channels) t → t ≡ cond b (Err Size) u → u ≡ cond x (Err SampleCount) v → v ≡ cond y (Err CellCount) (Ok tt)
+    → (number_in r ≡ cond a 1 (cond b 2 (cond x 3 (cond y 4 0)))) × (place_in r ≡ 0)
+sizes_told true b x y d e f g = rw d (refl, refl)
+sizes_told false true x y d e f g = rw (d, e) (refl, refl)
+sizes_told false false true y d e f g = rw (d, e, f) (refl, refl)
+sizes_told false false false true d e f g = rw (d, e, f, g) (refl, refl)
+sizes_told false false false false d e f g = rw (d, e, f, g) (refl, refl)
+
+pub outlines_told : (b c : Bool) (e p : ℕ) {r s : Result Unit Refusal} → r ≡ cond b (Err (Content (End e))) s → s ≡ cond c (Err (Content (Segment p))) (Ok tt)
+    → (number_in r ≡ cond b 8 (cond c 9 0)) × (place_in r ≡ cond b e (cond c p 0))
+outlines_told true c e p f g = rw f (refl, refl)
+outlines_told false true e p f g = rw (f, g) (refl, refl)
+outlines_told false false e p f g = rw (f, g) (refl, refl)
+
+pub rest_told : (m b c : Bool) (p q : ℕ) (o : Result Unit Refusal) {l t u : Result Unit Refusal} → l ≡ cond m (Err Room) t → t ≡ cond b (Err (Content (Setting p))) u → u ≡ cond c (Err (Content (Sample q))) o
+    → (number_in l ≡ cond m 60 (cond b 5 (cond c 6 (number_in o)))) × (place_in l ≡ cond m 0 (cond b p (cond c q (place_in o))))
+rest_told true b c p q o d e f = rw d (refl, refl)
+rest_told false true c p q o d e f = rw (d, e) (refl, refl)
+rest_told false false true p q o d e f = rw (d, e, f) (refl, refl)
+rest_told false false false p q o d e f = rw (d, e, f) (refl, refl)
+
+-- the first of two results that is a refusal
+pub both_told : (s l : Result Unit Refusal) → place_in s ≡ 0 → (number_in (result_and s l) ≡ cond (not (eqb (number_in s) 0)) (number_in s) (number_in l)) × (place_in (result_and s l) ≡ cond (not (eqb (number_in s) 0)) 0 (place_in l))
+both_told (Ok a) l z = (refl, refl)
+both_told (Err r) l z = let e = ne_eqb (number r) 0 (number_not_0 r) in (simp e, simp e z)

@@ -21,9 +21,12 @@ use Rattle.correction.specs.Bitmap.{texel}
 use Rattle.correction.specs.Collapse.{collapsed}
 use Rattle.correction.specs.Pass.{texels, cornered, edge_priority_protects, protects, flags, byte_at, pass_stencil, pass_samples, answer, stencil_after, samples_after, room_after}
 use Rattle.correction.proofs.Laws.Collapse.{collapsed_same}
-use Rattle.plain.specs.declared.pass.Answer.TheVariants.{Accepted, Refused}
+use Rattle.std.specs.Prelude.{Ok, Err}
+use Rattle.inputs.specs.declared.refusal.Refusal.{Refusal}
+use Rattle.inputs.specs.Refusal.{number, place, refusal_with}
+use Rattle.inputs.proofs.Laws.Refusal.{told, number_not_0}
 use Rattle.plain.specs.Inner.{corner, protected_by, byte_by, Collapsible}
-use Rattle.plain.specs.Answer.{untested, plain_answer}
+use Rattle.plain.specs.Answer.{Plain, untested, plain_answer}
 
 -- ---- the marks
 
@@ -103,15 +106,16 @@ module _ (i : Input) where
 
   -- ---- the answer
 
-  pub refused : (n p : ℕ) → n ≡ refusal_number i → p ≡ refusal_place i → (n ≡ 0 → ⊥) → (Refused n p ≡ plain_answer i) × ((i.stencil ≡ stencil_after i) × ((i.samples ≡ samples_after i) × (i.room ≡ room_after i)))
+  pub refused : (z : Plain) (r : Refusal) → z ≡ Err r → number r ≡ refusal_number i → place r ≡ refusal_place i → (z ≡ plain_answer i) × ((i.stencil ≡ stencil_after i) × ((i.samples ≡ samples_after i) × (i.room ≡ room_after i)))
   unfolding plain_answer untested answer stencil_after samples_after room_after accepted
-  refused n p e f h =
-      let t : eqb (refusal_number i) 0 ≡ false = ne_eqb _ 0 (λ q. h (e ∙ q)) in
-      (simp (e, f, t), (simp t, (simp t, simp t)))
+  refused z r q e f =
+      let t : eqb (refusal_number i) 0 ≡ false = ne_eqb _ 0 (λ q. number_not_0 r (e ∙ q)) in
+      let s : r ≡ refusal_with (refusal_number i) (refusal_place i) = sym (told r) ∙ ap (λ (k : ℕ). refusal_with k (place r)) e ∙ ap (refusal_with (refusal_number i)) f in
+      (q ∙ simp t (ap Err s), (simp t, (simp t, simp t)))
 
-  pub answered : (st : List ℕ) (xs room : List Float) (c : Counts) → refusal_number i ≡ 0 → st ≡ pass_stencil i → xs ≡ pass_samples i → room ≡ tab (length i.room) (λ k. zero_of binary32) → c ≡ counts_of st → (Accepted c ≡ plain_answer i) × ((st ≡ stencil_after i) × ((xs ≡ samples_after i) × (room ≡ room_after i)))
+  pub answered : (st : List ℕ) (xs room : List Float) (c : Counts) → refusal_number i ≡ 0 → st ≡ pass_stencil i → xs ≡ pass_samples i → room ≡ tab (length i.room) (λ k. zero_of binary32) → c ≡ counts_of st → (Ok c ≡ plain_answer i) × ((st ≡ stencil_after i) × ((xs ≡ samples_after i) × (room ≡ room_after i)))
   unfolding plain_answer untested answer stencil_after samples_after room_after accepted
   answered st xs room c z p q m r =
       let a : eqb (refusal_number i) 0 ≡ true = eq-eqb _ 0 z in
       let e : c ≡ counts_of (pass_stencil i) = r ∙ ap counts_of p in
-      (simp a (λ j. Accepted (e j)), (simp a p, (simp a q, simp a m)))
+      (simp a (ap Ok e), (simp a p, (simp a q, simp a m)))

@@ -1,11 +1,17 @@
 -- `plain::checks::check` meets its contract: all checks are made, and the first that fails answers. Assumes nothing.
-use Rattle.plain.proofs.checks.Chosen.{all_chosen}
+use Rattle.std.proofs.Common.{ap, ◌∙◌}
+use Rattle.inputs.specs.Refusal.{number_in, place_in}
+use Rattle.plain.proofs.checks.Chosen.{all_chosen, rest_told, both_told}
 use Rattle.plain.proofs.checks.check.Goals as goal
 
 pub returns : goal.returns
 returns c =
-    let chosen = all_chosen _ c.size_refusal-n.ensures c.bad_room-short.ensures c.settings_place-p.ensures c.samples_place-q.ensures c.outline_refusal-o.ensures.0 c.outline_refusal-o.ensures.1 in
+    let s = c.check_size.ensures in
+    let o = c.check_outline-outline.ensures in
+    let chosen = all_chosen _ s.numbers c.bad_room.ensures c.settings_place-p.ensures c.samples_place-q.ensures o.numbers o.places in
+    let rest = rest_told _ _ _ _ _ _ c.refused-lent.ensures c.refused-settings.ensures c.refused-samples.ensures in
+    let both = both_told _ c.refused-lent.result s.places in
     record {
-      numbers = rw (c.number_of-3.ensures, c.number_of-2.ensures, c.number_of-number.ensures, c.number_of.ensures) chosen.0;
-      places = rw (c.place_of-3.ensures, c.place_of-2.ensures, c.place_of-place.ensures, c.place_of.ensures) chosen.1;
+      numbers = ap number_in c.and.ensures ∙ both.0 ∙ rw rest.0 chosen.0;
+      places = ap place_in c.and.ensures ∙ both.1 ∙ rw rest.1 chosen.1;
     }
