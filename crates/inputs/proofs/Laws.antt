@@ -5,4 +5,5 @@ pub mod Places
 pub mod Windows
 pub mod Checks
 pub mod Filled
+pub mod Refusal
 pub mod Alike
