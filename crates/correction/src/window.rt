@@ -1,5 +1,5 @@
 // What is done to a window row by row: a row's cells and samples lie side by side.
-ghost use Rattle.std.specs.Prelude.{◌≡◌, [], ◌*◌, ◌/◌, ◌<◌, eqb, IfSome, IsNone};
+ghost use Rattle.std.specs.Prelude.{◌≡◌, [], ◌*◌, ◌/◌, ◌<◌, eqb};
 ghost use Rattle.ground.specs.Lists.{painted, tab};
 ghost use Rattle.inputs.specs.Checks as Checks;
 ghost use Rattle.inputs.specs.Checks.{input};
@@ -63,8 +63,7 @@ pub fn count_cells(stencil: &[u8], b: Window) -> Counts
 // Check 6 of a window: the first bad sample, as the window counts its samples.
 fn first_bad_sample(xs: &[f32], b: Window) -> Option<usize>
     requires { Sampled b xs.now }
-    ensures some { IfSome result (λ p. (p ≡ Checks.samples_place (cut_samples b xs.now)) × (p < b.height * b.width * b.channels)) }
-    ensures none { IsNone result → Checks.samples_place (cut_samples b xs.now) ≡ b.height * b.width * b.channels }
+    ensures { Checks.Found (b.height * b.width * b.channels) (Checks.samples_place (cut_samples b xs.now)) result }
 {
     let n = b.width * b.channels;
     for y in 0..b.height {

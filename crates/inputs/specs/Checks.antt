@@ -1,5 +1,5 @@
 -- The checks, each with its number, its test and its place, and the first that fails. Definitions only.
-use Rattle.std.specs.Prelude.{ℕ, ◌+◌, ◌-◌, ◌*◌, Bool, cond, not, ◌&&◌, ◌||◌, List, [], ◌∷◌, ◌++◌, get_or, length, eqb, ltb, leb, Float}
+use Rattle.std.specs.Prelude.{◌≡◌, ℕ, ◌+◌, ◌-◌, ◌*◌, ◌<◌, Option, MatchOption, Bool, cond, not, ◌&&◌, ◌||◌, List, [], ◌∷◌, ◌++◌, get_or, length, eqb, ltb, leb, Float}
 use Rattle.std.specs.Float.{Format, binary32, binary64, nan}
 use Rattle.std.specs.Float.Ieee.{le, neg}
 use Rattle.numbers.specs.Constants.{zero_of}
@@ -82,6 +82,10 @@ samples_place xs = first (length xs) (λ j. oversize binary32 (get_or xs j nan))
 
 unfoldable pub bad_samples : List Float → Bool
 bad_samples xs = ltb (samples_place xs) (length xs)
+
+-- what a search through the first n numbers answers, of which the first hit is at a place, or n where none is
+abbrev pub Found : ℕ → ℕ → Option ℕ → Type 0
+Found n place found = MatchOption found (place ≡ n) (λ p. (p ≡ place) × (p < n))
 
 -- ---- check 7: coordinates not twice the colours, or over 65,536 segments
 

@@ -2,6 +2,6 @@
 pub mod Stencil
 pub mod Bounds
 pub mod Window
-pub mod Checks
 pub mod Refusal
+pub mod Checks
 pub mod Inner

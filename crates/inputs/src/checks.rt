@@ -1,20 +1,13 @@
-// The checks, each as docs/RULES.md has it, with its place.
-ghost use Rattle.std.specs.Prelude.{◌≡◌, ◌*◌, ◌≤◌, ◌<◌, true, cond, ◌||◌, ltb, length, IfSome, IsNone};
+// The checks, each as docs/RULES.md has it: a test that tells whether one fails, and what refuses where it does, with its place.
+ghost use Rattle.std.specs.Prelude.{◌≡◌, ◌*◌, ◌≤◌, true, cond, ◌||◌, ltb, length};
 ghost use Rattle.std.specs.Float.{binary32, binary64};
 ghost use Rattle.inputs.specs.Checks as Checks;
 ghost use Rattle.inputs.specs.Refusal.{number_in, place_in, content_number_in, content_place_in};
 
-use crate::refusal::{ContentRefusal, Refusal as Reason};
+use crate::refusal::{ContentRefusal, Refusal};
 use crate::sizes::Bitmap;
 use ranges::config::Settings;
 use ranges::constants;
-
-// The first check that fails and its place; 0 and 0 where all pass.
-#[derive(Clone, Copy)]
-pub struct Refusal {
-    pub number: u8,
-    pub place: usize,
-}
 
 // Check 1: channels not 3 or 4.
 pub fn bad_channels(ch: usize) -> bool
@@ -53,23 +46,24 @@ fn bad_cell_count(b: Bitmap, m: usize) -> bool
     m != b.width * b.height
 }
 
-// The first of checks 1 to 4 that fails, of a bitmap with n samples and m cells; 0 where all pass.
-pub fn size_refusal(b: Bitmap, n: usize, m: usize) -> u8
-    ensures { result ≡ Checks.size_refusal b.width b.height b.channels n m }
+// The first of checks 1 to 4 that fails, of a bitmap with n samples and m cells.
+pub fn check_size(b: Bitmap, n: usize, m: usize) -> Result<(), Refusal>
+    ensures numbers { number_in result ≡ Checks.size_refusal b.width b.height b.channels n m }
+    ensures places { place_in result ≡ 0 }
 {
     if bad_channels(b.channels) {
-        return 1;
+        return Err(Refusal::Channels);
     }
     if bad_size(b) {
-        return 2;
+        return Err(Refusal::Size);
     }
     if bad_sample_count(b, n) {
-        return 3;
+        return Err(Refusal::SampleCount);
     }
     if bad_cell_count(b, m) {
-        return 4;
+        return Err(Refusal::CellCount);
     }
-    0
+    Ok(())
 }
 
 // Check 60, of n elements for two rows of w.
@@ -79,6 +73,17 @@ pub fn bad_room(w: usize, n: usize) -> bool
     n / 2 < w
 }
 
+// The same, refused where it fails.
+pub fn check_room(w: usize, n: usize) -> Result<(), Refusal>
+    ensures numbers { number_in result ≡ cond (Checks.bad_room w n) 60 0 }
+    ensures places { place_in result ≡ 0 }
+{
+    if bad_room(w, n) {
+        return Err(Refusal::Room);
+    }
+    Ok(())
+}
+
 // A ratio or a length that is NaN, below 0 or above the limit.
 fn bad_length(v: f64) -> bool
     ensures { result ≡ Checks.bad_length v }
@@ -86,26 +91,27 @@ fn bad_length(v: f64) -> bool
     !(v >= 0.0 && v <= constants::LIMIT_WIDE)
 }
 
-// The place of check 5: the first that is bad, or 5.
-pub fn settings_place(mode: u8, s: Settings) -> usize
-    ensures { result ≡ Checks.settings_place mode s }
+// Check 5, at the first that is bad.
+pub fn check_settings(mode: u8, s: Settings) -> Result<(), ContentRefusal>
+    ensures numbers { content_number_in result ≡ cond (Checks.bad_settings mode s) 5 0 }
+    ensures places { content_place_in result ≡ cond (Checks.bad_settings mode s) (Checks.settings_place mode s) 0 }
 {
     if mode > 3 {
-        return 0;
+        return Err(ContentRefusal::Setting(0));
     }
     if bad_length(s.ratio) {
-        return 1;
+        return Err(ContentRefusal::Setting(1));
     }
     if bad_length(s.horizontal) {
-        return 2;
+        return Err(ContentRefusal::Setting(2));
     }
     if bad_length(s.vertical) {
-        return 3;
+        return Err(ContentRefusal::Setting(3));
     }
     if bad_length(s.diagonal) {
-        return 4;
+        return Err(ContentRefusal::Setting(4));
     }
-    5
+    Ok(())
 }
 
 // A sample that is NaN, infinite or of size above the limit.
@@ -126,19 +132,25 @@ fn all_good(xs: &[f32]) -> bool
     good
 }
 
-// The place of check 6: the first bad sample, or their number.
-pub fn samples_place(xs: &[f32]) -> usize
-    ensures { result ≡ Checks.samples_place xs.now }
+// The first bad sample.
+pub fn first_bad_sample(xs: &[f32]) -> Option<usize>
+    ensures { Checks.Found (length xs.now) (Checks.samples_place xs.now) result }
 {
     if all_good(xs) {
-        return xs.len();
+        return None;
     }
-    for (i, x) in xs.iter().enumerate() {
-        if bad_sample(*x) {
-            return i;
-        }
+    xs.iter().position(|x| bad_sample(*x))
+}
+
+// Check 6, at the first bad sample.
+pub fn check_samples(xs: &[f32]) -> Result<(), ContentRefusal>
+    ensures numbers { content_number_in result ≡ cond (Checks.bad_samples xs.now) 6 0 }
+    ensures places { content_place_in result ≡ cond (Checks.bad_samples xs.now) (Checks.samples_place xs.now) 0 }
+{
+    match first_bad_sample(xs) {
+        Some(p) => Err(ContentRefusal::Sample(p)),
+        None => Ok(()),
     }
-    xs.len()
 }
 
 // Check 7, of so many colours and coordinates.
@@ -155,34 +167,39 @@ fn bad_end(end: usize, last: usize, n: usize) -> bool
     end < last || end > n
 }
 
-// The place of check 8: the first bad end, or their number.
-fn ends_place(ends: &[usize], n: usize) -> usize
-    ensures { result ≡ Checks.ends_place ends.now n }
+// The first bad end.
+fn first_bad_end(ends: &[usize], n: usize) -> Option<usize>
+    ensures { Checks.Found (length ends.now) (Checks.ends_place ends.now n) result }
 {
     let mut last = 0;
     for (i, end) in ends.iter().enumerate() {
         if bad_end(*end, last, n) {
-            return i;
+            return Some(i);
         }
         last = *end;
     }
-    ends.len()
+    None
 }
 
-// The end before end i.
-fn end_before(ends: &[usize], i: usize) -> usize
-    requires { i ≤ length ends.now }
-    ensures { result ≡ Checks.end_before ends.now i }
+// The last end, 0 where there is none.
+fn last_end(ends: &[usize]) -> usize
+    ensures { result ≡ Checks.end_before ends.now (length ends.now) }
 {
-    if i == 0 { 0 } else { ends[i - 1] }
+    ends.last().copied().unwrap_or(0)
 }
 
-// Check 8, where `place` is the first bad end.
-fn bad_ends(ends: &[usize], n: usize, place: usize) -> bool
-    requires { place ≡ Checks.ends_place ends.now n }
-    ensures { result ≡ Checks.bad_ends ends.now n }
+// Check 8, at the first bad end, or behind the last where that is not the segment count n.
+fn check_ends(ends: &[usize], n: usize) -> Result<(), ContentRefusal>
+    ensures numbers { content_number_in result ≡ cond (Checks.bad_ends ends.now n) 8 0 }
+    ensures places { content_place_in result ≡ cond (Checks.bad_ends ends.now n) (Checks.ends_place ends.now n) 0 }
 {
-    place < ends.len() || end_before(ends, ends.len()) != n
+    if let Some(p) = first_bad_end(ends, n) {
+        return Err(ContentRefusal::End(p));
+    }
+    if last_end(ends) != n {
+        return Err(ContentRefusal::End(ends.len()));
+    }
+    Ok(())
 }
 
 // A coordinate that is NaN, infinite or of size above the limit.
@@ -199,102 +216,32 @@ fn bad_segment(colour: u8, x: f64, y: f64) -> bool
     colour > 7 || bad_coordinate(x) || bad_coordinate(y)
 }
 
-// The place of check 9: the first bad segment, or their number.
-fn segments_place(colours: &[u8], coords: &[f64]) -> usize
+// The first bad segment.
+fn first_bad_segment(colours: &[u8], coords: &[f64]) -> Option<usize>
     requires { length coords.now ≡ 2 * length colours.now }
-    ensures { result ≡ Checks.segments_place colours.now coords.now }
+    ensures { Checks.Found (length colours.now) (Checks.segments_place colours.now coords.now) result }
 {
     for (i, colour) in colours.iter().enumerate() {
         if bad_segment(*colour, coords[2 * i], coords[2 * i + 1]) {
-            return i;
+            return Some(i);
         }
     }
-    colours.len()
+    None
 }
 
-// The first of checks 7 to 9 that fails, with its place.
-pub fn outline_refusal(colours: &[u8], coords: &[f64], ends: &[usize]) -> Refusal
-    ensures { (result.number ≡ Checks.outline_refusal colours.now coords.now ends.now) × (result.place ≡ Checks.outline_place colours.now coords.now ends.now result.number) }
+// Check 9, at the first bad segment.
+fn check_segments(colours: &[u8], coords: &[f64]) -> Result<(), ContentRefusal>
+    requires { length coords.now ≡ 2 * length colours.now }
+    ensures numbers { content_number_in result ≡ cond (Checks.bad_segments colours.now coords.now) 9 0 }
+    ensures places { content_place_in result ≡ cond (Checks.bad_segments colours.now coords.now) (Checks.segments_place colours.now coords.now) 0 }
 {
-    if bad_outlines(colours.len(), coords.len()) {
-        return Refusal {
-            number: 7,
-            place: 0,
-        };
-    }
-    let e = ends_place(ends, colours.len());
-    if bad_ends(ends, colours.len(), e) {
-        return Refusal {
-            number: 8,
-            place: e,
-        };
-    }
-    let p = segments_place(colours, coords);
-    if p < colours.len() {
-        return Refusal {
-            number: 9,
-            place: p,
-        };
-    }
-    Refusal {
-        number: 0,
-        place: 0,
+    match first_bad_segment(colours, coords) {
+        Some(p) => Err(ContentRefusal::Segment(p)),
+        None => Ok(()),
     }
 }
 
-// Checks 1 to 4, of a bitmap with n samples and m cells.
-pub fn check_size(b: Bitmap, n: usize, m: usize) -> Result<(), Reason>
-    ensures numbers { number_in result ≡ Checks.size_refusal b.width b.height b.channels n m }
-    ensures places { place_in result ≡ 0 }
-{
-    if bad_channels(b.channels) {
-        return Err(Reason::Channels);
-    }
-    if bad_size(b) {
-        return Err(Reason::Size);
-    }
-    if bad_sample_count(b, n) {
-        return Err(Reason::SampleCount);
-    }
-    if bad_cell_count(b, m) {
-        return Err(Reason::CellCount);
-    }
-    Ok(())
-}
-
-// Check 60.
-pub fn check_room(w: usize, n: usize) -> Result<(), Reason>
-    ensures numbers { number_in result ≡ cond (Checks.bad_room w n) 60 0 }
-    ensures places { place_in result ≡ 0 }
-{
-    if bad_room(w, n) {
-        return Err(Reason::Room);
-    }
-    Ok(())
-}
-
-// Check 5.
-pub fn check_settings(mode: u8, s: Settings) -> Result<(), ContentRefusal>
-    ensures numbers { content_number_in result ≡ cond (Checks.bad_settings mode s) 5 0 }
-    ensures places { content_place_in result ≡ cond (Checks.bad_settings mode s) (Checks.settings_place mode s) 0 }
-{
-    let p = settings_place(mode, s);
-    if p < 5 {
-        return Err(ContentRefusal::Setting(p));
-    }
-    Ok(())
-}
-
-// The place of check 6: the first bad sample.
-pub fn first_bad_sample(xs: &[f32]) -> Option<usize>
-    ensures some { IfSome result (λ p. (p ≡ Checks.samples_place xs.now) × (p < length xs.now)) }
-    ensures none { IsNone result → Checks.samples_place xs.now ≡ length xs.now }
-{
-    let p = samples_place(xs);
-    if p < xs.len() { Some(p) } else { None }
-}
-
-// Checks 7 to 9.
+// The first of checks 7 to 9 that fails.
 pub fn check_outline(colours: &[u8], coords: &[f64], ends: &[usize]) -> Result<(), ContentRefusal>
     ensures numbers { content_number_in result ≡ Checks.outline_refusal colours.now coords.now ends.now }
     ensures places { content_place_in result ≡ Checks.outline_place colours.now coords.now ends.now (content_number_in result) }
@@ -302,13 +249,6 @@ pub fn check_outline(colours: &[u8], coords: &[f64], ends: &[usize]) -> Result<(
     if bad_outlines(colours.len(), coords.len()) {
         return Err(ContentRefusal::OutlineLengths);
     }
-    let e = ends_place(ends, colours.len());
-    if bad_ends(ends, colours.len(), e) {
-        return Err(ContentRefusal::End(e));
-    }
-    let p = segments_place(colours, coords);
-    if p < colours.len() {
-        return Err(ContentRefusal::Segment(p));
-    }
-    Ok(())
+    check_ends(ends, colours.len())?;
+    check_segments(colours, coords)
 }

@@ -2,6 +2,8 @@
 -- `Post` is a function's promise as the checker makes it of the `ensures` in the source. No public function has a `requires`.
 use mathlib.Core.Path.{◌≡◌, ◌∙◌}
 use Rattle.ground.proofs.Laws.Alike.{Alike, alike}
+use Rattle.inputs.proofs.Laws.Refusal.{results_alike, contents_alike}
+use Rattle.inputs.proofs.checks.Found.{found_alike}
 use Rattle.inputs.proofs.sizes.in_bounds.Kinds as in_bounds_kinds
 use Rattle.inputs.proofs.sizes.in_bounds.Reads as in_bounds
 use Rattle.inputs.proofs.stencil.is_error.Kinds as is_error_kinds
@@ -28,16 +30,28 @@ use Rattle.inputs.proofs.checks.bad_size.Kinds as bad_size_kinds
 use Rattle.inputs.proofs.checks.bad_size.Reads as bad_size
 use Rattle.inputs.proofs.checks.bad_sample.Kinds as bad_sample_kinds
 use Rattle.inputs.proofs.checks.bad_sample.Reads as bad_sample
-use Rattle.inputs.proofs.checks.size_refusal.Kinds as size_refusal_kinds
-use Rattle.inputs.proofs.checks.size_refusal.Reads as size_refusal
 use Rattle.inputs.proofs.checks.bad_room.Kinds as bad_room_kinds
 use Rattle.inputs.proofs.checks.bad_room.Reads as bad_room
-use Rattle.inputs.proofs.checks.settings_place.Kinds as settings_place_kinds
-use Rattle.inputs.proofs.checks.settings_place.Reads as settings_place
-use Rattle.inputs.proofs.checks.samples_place.Kinds as samples_place_kinds
-use Rattle.inputs.proofs.checks.samples_place.Reads as samples_place
-use Rattle.inputs.proofs.checks.outline_refusal.Kinds as outline_refusal_kinds
-use Rattle.inputs.proofs.checks.outline_refusal.Reads as outline_refusal
+use Rattle.inputs.proofs.checks.check_size.Kinds as check_size_kinds
+use Rattle.inputs.proofs.checks.check_size.Reads as check_size
+use Rattle.inputs.proofs.checks.check_room.Kinds as check_room_kinds
+use Rattle.inputs.proofs.checks.check_room.Reads as check_room
+use Rattle.inputs.proofs.checks.check_settings.Kinds as check_settings_kinds
+use Rattle.inputs.proofs.checks.check_settings.Reads as check_settings
+use Rattle.inputs.proofs.checks.first_bad_sample.Kinds as first_bad_sample_kinds
+use Rattle.inputs.proofs.checks.first_bad_sample.Reads as first_bad_sample
+use Rattle.inputs.proofs.checks.check_samples.Kinds as check_samples_kinds
+use Rattle.inputs.proofs.checks.check_samples.Reads as check_samples
+use Rattle.inputs.proofs.checks.check_outline.Kinds as check_outline_kinds
+use Rattle.inputs.proofs.checks.check_outline.Reads as check_outline
+use Rattle.inputs.proofs.refusal.ContentRefusal.number.Kinds as content_number_kinds
+use Rattle.inputs.proofs.refusal.ContentRefusal.number.Reads as content_number
+use Rattle.inputs.proofs.refusal.ContentRefusal.place.Kinds as content_place_kinds
+use Rattle.inputs.proofs.refusal.ContentRefusal.place.Reads as content_place
+use Rattle.inputs.proofs.refusal.Refusal.number.Kinds as number_kinds
+use Rattle.inputs.proofs.refusal.Refusal.number.Reads as number
+use Rattle.inputs.proofs.refusal.Refusal.place.Kinds as place_kinds
+use Rattle.inputs.proofs.refusal.Refusal.place.Reads as place
 
 -- Whether a column and a row are inside.
 pub in_bounds_alike : Alike 0 in_bounds_kinds.ps in_bounds_kinds.r in_bounds.Post
@@ -88,21 +102,40 @@ bad_size_alike κs a r s e f = alike
 pub bad_sample_alike : Alike 0 bad_sample_kinds.ps bad_sample_kinds.r bad_sample.Post
 bad_sample_alike κs a r s e f = alike
 
--- The first of checks 1 to 4 that fails.
-pub size_refusal_alike : Alike 0 size_refusal_kinds.ps size_refusal_kinds.r size_refusal.Post
-size_refusal_alike κs a r s e f = alike
-
 -- Whether check 60 fails.
 pub bad_room_alike : Alike 0 bad_room_kinds.ps bad_room_kinds.r bad_room.Post
 bad_room_alike κs a r s e f = alike
 
--- The places of checks 5 and 6.
-pub settings_place_alike : Alike 0 settings_place_kinds.ps settings_place_kinds.r settings_place.Post
-settings_place_alike κs a r s e f = alike
+-- A refusal's number and its place.
+pub content_number_alike : Alike 0 content_number_kinds.ps content_number_kinds.r content_number.Post
+content_number_alike κs a r s e f = alike
 
-pub samples_place_alike : Alike 1 samples_place_kinds.ps samples_place_kinds.r samples_place.Post
-samples_place_alike κs a r s e f = alike
+pub content_place_alike : Alike 0 content_place_kinds.ps content_place_kinds.r content_place.Post
+content_place_alike κs a r s e f = alike
+
+pub number_alike : Alike 0 number_kinds.ps number_kinds.r number.Post
+number_alike κs a r s e f = alike
+
+pub place_alike : Alike 0 place_kinds.ps place_kinds.r place.Post
+place_alike κs a r s e f = alike
+
+-- The first of checks 1 to 4 that fails, and checks 60, 5 and 6, with the place.
+pub check_size_alike : Alike 0 check_size_kinds.ps check_size_kinds.r check_size.Post
+check_size_alike κs a r s e f p q = results_alike r s (alike p.0 q.0) (alike p.1 q.1)
+
+pub check_room_alike : Alike 0 check_room_kinds.ps check_room_kinds.r check_room.Post
+check_room_alike κs a r s e f p q = results_alike r s (alike p.0 q.0) (alike p.1 q.1)
+
+pub check_settings_alike : Alike 0 check_settings_kinds.ps check_settings_kinds.r check_settings.Post
+check_settings_alike κs a r s e f p q = contents_alike r s (alike p.0 q.0) (alike p.1 q.1)
+
+pub check_samples_alike : Alike 1 check_samples_kinds.ps check_samples_kinds.r check_samples.Post
+check_samples_alike κs a r s e f p q = contents_alike r s (alike p.0 q.0) (alike p.1 q.1)
+
+-- The first bad sample.
+pub first_bad_sample_alike : Alike 1 first_bad_sample_kinds.ps first_bad_sample_kinds.r first_bad_sample.Post
+first_bad_sample_alike κs a r s e f = found_alike _ _ r s
 
 -- The first of checks 7 to 9 that fails, with its place.
-pub outline_refusal_alike : Alike 3 outline_refusal_kinds.ps outline_refusal_kinds.r outline_refusal.Post
-outline_refusal_alike κs a r s e f p q = let n : r.number ≡ s.number = alike p.0 q.0 in let o : r.place ≡ s.place = p.1 ∙ rw (n, q.1) in rw (n, o)
+pub check_outline_alike : Alike 3 check_outline_kinds.ps check_outline_kinds.r check_outline.Post
+check_outline_alike κs a r s e f p q = let n = alike p.0 q.0 in contents_alike r s n (p.1 ∙ rw (n, q.1))

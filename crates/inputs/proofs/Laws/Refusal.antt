@@ -2,11 +2,12 @@
 --     content_told, told                     the refusal with a refusal's number and place is that refusal
 --     content_alike, refusals_alike          so two with the same are the same
 --     contents_alike, results_alike          and so are two results without a value
+--     refused_by, passed_by                  whether a check fails, by what is answered
 --     err_numbered, ok_numbered              whether a result is a refusal, by its number
-use Rattle.std.specs.Prelude.{◌≡◌, true, false, refl, Result, Ok, Err}
+use Rattle.std.specs.Prelude.{◌≡◌, ℕ, true, false, refl, Result, Ok, Err}
 use Rattle.std.specs.Result.{is_err}
 use Rattle.std.proofs.Common.{sym, ◌∙◌, ap}
-use mathlib.Core.Bool.{true≢false}
+use mathlib.Core.Bool.{Bool, cond, true≢false}
 use Rattle.inputs.specs.declared.refusal.ContentRefusal.{ContentRefusal}
 use Rattle.inputs.specs.declared.refusal.ContentRefusal.TheVariants.{Setting, Sample, OutlineLengths, End, Segment}
 use Rattle.inputs.specs.declared.refusal.Refusal.{Refusal}
@@ -74,3 +75,12 @@ err_numbered (Err r) e n = number_not_0 r n
 pub ok_numbered : {A : Type 0} (r : Result A Refusal) → false ≡ is_err r → number_in r ≡ 0
 ok_numbered (Ok a) e = refl
 ok_numbered (Err r) e = absurd (true≢false (sym e))
+
+-- of a check of the contents with the number k, whether it fails, by what is answered
+pub refused_by : (b : Bool) (k : ℕ) (c : ContentRefusal) → content_number c ≡ cond b k 0 → b ≡ true
+refused_by true k c e = refl
+refused_by false k c e = absurd (content_not_0 c e)
+
+pub passed_by : (b : Bool) (k : ℕ) → (k ≡ 0 → ⊥) → 0 ≡ cond b k 0 → b ≡ false
+passed_by true k h e = absurd (h (sym e))
+passed_by false k h e = refl

@@ -37,13 +37,13 @@ returns-in_err-check_settings-clause-places c =
     rw (p.1, p.2) (settings_refuse (given (goal.at.returns-in_err-check_settings-clause-places c).Start) _ e.numbers e.places).1
 
 pub returns-in-Some-clause-numbers : goal.returns-in-Some-clause-numbers
-returns-in-Some-clause-numbers c = (samples_refuse (given (goal.at.returns-in-Some-clause-numbers c).Start) (settings_pass _ c.in_ok-check_settings.ensures.numbers) (few (goal.at.returns-in-Some-clause-numbers c).Start c.in-Some.ensures.some)).0
+returns-in-Some-clause-numbers c = (samples_refuse (given (goal.at.returns-in-Some-clause-numbers c).Start) (settings_pass _ c.in_ok-check_settings.ensures.numbers) (few (goal.at.returns-in-Some-clause-numbers c).Start c.in-Some.ensures)).0
 
 pub returns-in-Some-clause-places : goal.returns-in-Some-clause-places
-returns-in-Some-clause-places c = (samples_refuse (given (goal.at.returns-in-Some-clause-places c).Start) (settings_pass _ c.in_ok-check_settings.ensures.numbers) (few (goal.at.returns-in-Some-clause-places c).Start c.in-Some.ensures.some)).1
+returns-in-Some-clause-places c = (samples_refuse (given (goal.at.returns-in-Some-clause-places c).Start) (settings_pass _ c.in_ok-check_settings.ensures.numbers) (few (goal.at.returns-in-Some-clause-places c).Start c.in-Some.ensures)).1
 
 pub returns-clause-numbers : goal.returns-clause-numbers
-returns-clause-numbers c = (outline_refuses (given (goal.at.returns-clause-numbers c).Start) (settings_pass _ c.in_ok-check_settings.ensures.numbers) (full (goal.at.returns-clause-numbers c).Start (c.in_default.ensures.none refl)) c.check_outline.ensures.numbers c.check_outline.ensures.places).0
+returns-clause-numbers c = (outline_refuses (given (goal.at.returns-clause-numbers c).Start) (settings_pass _ c.in_ok-check_settings.ensures.numbers) (full (goal.at.returns-clause-numbers c).Start c.in_default.ensures) c.check_outline.ensures.numbers c.check_outline.ensures.places).0
 
 pub returns-clause-places : goal.returns-clause-places
-returns-clause-places c = (outline_refuses (given (goal.at.returns-clause-places c).Start) (settings_pass _ c.in_ok-check_settings.ensures.numbers) (full (goal.at.returns-clause-places c).Start (c.in_default.ensures.none refl)) c.check_outline.ensures.numbers c.check_outline.ensures.places).1
+returns-clause-places c = (outline_refuses (given (goal.at.returns-clause-places c).Start) (settings_pass _ c.in_ok-check_settings.ensures.numbers) (full (goal.at.returns-clause-places c).Start c.in_default.ensures) c.check_outline.ensures.numbers c.check_outline.ensures.places).1

@@ -1,38 +1,58 @@
 -- `inputs::checks::check_outline` meets its contract. Assumes nothing.
-use mathlib.Core.Path.{◌≡◌, refl, sym, ◌∙◌}
-use mathlib.Core.Bool.{false}
+use mathlib.Core.Path.{◌≡◌, refl, sym, ◌∙◌, ap}
+use mathlib.Core.Bool.{Bool, true, false, cond}
+use mathlib.Core.List.{List}
+use Prim.Native.Nat.{ℕ}
+use lib.Ieee.{Float}
 use lib.ListN.{length}
+use Rattle.std.proofs.lemmas.Result.{err_from_is_err_and}
 use Rattle.ground.specs.Refuse.{first_failing}
-use Rattle.inputs.specs.Checks.{bad_outlines, bad_ends, bad_segments, outline_refusal, outline_place}
+use Rattle.inputs.specs.declared.refusal.ContentRefusal.{ContentRefusal}
+use Rattle.inputs.specs.Checks.{bad_outlines, bad_ends, ends_place, segments_place, outline_refusal, outline_place}
+use Rattle.inputs.specs.Refusal.{content_number, content_place}
 use Rattle.inputs.proofs.checks.Passed.{good_outlines}
-use Rattle.inputs.proofs.checks.Refusals.{below, not_below}
+use Rattle.inputs.proofs.Laws.Refusal.{refused_by, passed_by}
 use Rattle.inputs.proofs.checks.check_outline.Goals as goal
-use Rattle.inputs.proofs.checks.check_outline.Goals.{Else-bad_ends}
 
--- checks 7 and 8, where they have passed
-ok : (c : Else-bad_ends) → let a = c.args in let n = length a.colours.now in (bad_outlines n (length a.coords.now) ≡ false) × (bad_ends a.ends.now n ≡ false)
-ok c =
-    (sym c.bad_outlines.ensures ∙ c.if-bad_outlines.false, sym c.bad_ends.ensures ∙ c.if-bad_ends.false)
+module _ (colours : List ℕ) (coords : List Float) (ends : List ℕ) where
+  -- where check 7 passes and check 8 refuses with r
+  by_ends : (r : ContentRefusal) → bad_outlines (length colours) (length coords) ≡ false → content_number r ≡ cond (bad_ends ends (length colours)) 8 0
+      → content_place r ≡ cond (bad_ends ends (length colours)) (ends_place ends (length colours)) 0
+      → (content_number r ≡ outline_refusal colours coords ends) × (content_place r ≡ outline_place colours coords ends (content_number r))
+  unfolding outline_refusal outline_place first_failing
+  by_ends r a n p =
+      let b = refused_by _ 8 r n in
+      let e : content_number r ≡ 8 = n ∙ rw b in
+      (simp (a, b) e, rw e (p ∙ rw b))
+
+  -- the place of check 9
+  by_segments : (b : Bool) → outline_place colours coords ends (cond b 9 0) ≡ cond b (segments_place colours coords) 0
+  unfolding outline_place
+  by_segments true = refl
+  by_segments false = refl
 
 pub returns-then-bad_outlines : goal.returns-then-bad_outlines
 unfolding outline_refusal outline_place first_failing
 returns-then-bad_outlines c = record { numbers = simp (sym c.bad_outlines.ensures ∙ c.if-bad_outlines.true); places = refl }
 
-pub returns-then-bad_ends : goal.returns-then-bad_ends
-unfolding outline_refusal outline_place first_failing
-returns-then-bad_ends c =
-    record { numbers = simp (sym c.bad_outlines.ensures ∙ c.if-bad_outlines.false, sym c.bad_ends.ensures ∙ c.if-bad_ends.true); places = c.ends_place-e.ensures }
+pub returns-in_err-check_ends : goal.returns-in_err-check_ends
+returns-in_err-check_ends c =
+    let a = c.args in
+    let h = c.in_err-check_ends.ensures in
+    let p = err_from_is_err_and c.from_residual.result c.from_residual.ensures.1 in
+    let all = by_ends a.colours.now a.coords.now a.ends.now _ (sym c.bad_outlines.ensures ∙ c.if-bad_outlines.false) h.numbers h.places in
+    record { numbers = rw (p.1, p.2) all.0; places = rw (p.1, p.2) all.1 }
 
-pub returns-then-p-colours : goal.returns-then-p-colours
-unfolding outline_refusal outline_place first_failing bad_segments
-returns-then-p-colours c =
-    let k = ok (goal.at.returns-then-p-colours c).Else-bad_ends in
-    let e = c.segments_place-p.ensures in
-    record { numbers = simp (k.0, k.1, below _ e c.if-p-colours.true); places = e }
+pub check_segments-requires : goal.check_segments-requires
+check_segments-requires c = (good_outlines _ _ (sym c.bad_outlines.ensures ∙ c.if-bad_outlines.false)).1
 
 pub returns : goal.returns
-unfolding outline_refusal outline_place first_failing bad_segments
-returns c = let k = ok (goal.at.returns c).Else-bad_ends in record { numbers = simp (k.0, k.1, not_below _ c.segments_place-p.ensures c.if-p-colours.false); places = refl }
-
-pub segments_place-p-requires : goal.segments_place-p-requires
-segments_place-p-requires c = (good_outlines _ _ (ok c).0).1
+unfolding outline_refusal first_failing
+returns c =
+    let a = c.args in
+    let h = c.check_segments.ensures in
+    let b = passed_by _ 8 (λ z. cc) c.in_ok-check_ends.ensures.numbers in
+    record {
+      numbers = simp (sym c.bad_outlines.ensures ∙ c.if-bad_outlines.false, b) h.numbers;
+      places = h.places ∙ sym (by_segments a.colours.now a.coords.now a.ends.now _) ∙ ap (outline_place a.colours.now a.coords.now a.ends.now) (sym h.numbers);
+    }

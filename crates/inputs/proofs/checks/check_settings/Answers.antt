@@ -1,20 +1,37 @@
--- `inputs::checks::check_settings` meets its contract. Assumes nothing.
-use Rattle.inputs.proofs.checks.Refusals.{below, not_below}
-use Rattle.inputs.specs.Checks.{bad_settings}
+-- `inputs::checks::check_settings` meets its contract: the place of the first that is bad, which is below 5. Assumes nothing.
+use mathlib.Core.Path.{sym, ◌∙◌}
+use native.Mathlib.Omega.{arith}
+use borrow.Author.Tests.{lt-ltb, le-ltb}
+use Rattle.inputs.specs.Checks.{bad_settings, settings_place}
+use Rattle.inputs.proofs.checks.Found.{hit_refuses, none_passes}
 use Rattle.inputs.proofs.checks.check_settings.Goals as goal
 
-pub returns-then-p-lt5-clause-numbers : goal.returns-then-p-lt5-clause-numbers
-unfolding bad_settings
-returns-then-p-lt5-clause-numbers c = simp (below _ c.settings_place-p.ensures c.if-p-lt5.true)
+pub returns-then-mode-gt3 : goal.returns-then-mode-gt3
+unfolding bad_settings settings_place
+returns-then-mode-gt3 c =
+    let all = hit_refuses 5 (simp (lt-ltb _ _ c.if-mode-gt3.true)) (omega arith) in record { numbers = all.0; places = all.1 }
 
-pub returns-then-p-lt5-clause-places : goal.returns-then-p-lt5-clause-places
-unfolding bad_settings
-returns-then-p-lt5-clause-places c = simp (below _ c.settings_place-p.ensures c.if-p-lt5.true, c.settings_place-p.ensures)
+pub returns-then-bad_length : goal.returns-then-bad_length
+unfolding bad_settings settings_place
+returns-then-bad_length c =
+    let all = hit_refuses 5 (simp (le-ltb _ _ c.if-mode-gt3.false, sym c.bad_length.ensures ∙ c.if-bad_length.true)) (omega arith) in record { numbers = all.0; places = all.1 }
 
-pub returns-clause-numbers : goal.returns-clause-numbers
-unfolding bad_settings
-returns-clause-numbers c = simp (not_below _ c.settings_place-p.ensures c.if-p-lt5.false)
+pub returns-then-bad_length-2 : goal.returns-then-bad_length-2
+unfolding bad_settings settings_place
+returns-then-bad_length-2 c =
+    let all = hit_refuses 5 (simp (le-ltb _ _ c.if-mode-gt3.false, sym c.bad_length.ensures ∙ c.if-bad_length.false, sym c.bad_length-2.ensures ∙ c.if-bad_length-2.true)) (omega arith) in record { numbers = all.0; places = all.1 }
 
-pub returns-clause-places : goal.returns-clause-places
-unfolding bad_settings
-returns-clause-places c = simp (not_below _ c.settings_place-p.ensures c.if-p-lt5.false)
+pub returns-then-bad_length-3 : goal.returns-then-bad_length-3
+unfolding bad_settings settings_place
+returns-then-bad_length-3 c =
+    let all = hit_refuses 5 (simp (le-ltb _ _ c.if-mode-gt3.false, sym c.bad_length.ensures ∙ c.if-bad_length.false, sym c.bad_length-2.ensures ∙ c.if-bad_length-2.false, sym c.bad_length-3.ensures ∙ c.if-bad_length-3.true)) (omega arith) in record { numbers = all.0; places = all.1 }
+
+pub returns-then-bad_length-4 : goal.returns-then-bad_length-4
+unfolding bad_settings settings_place
+returns-then-bad_length-4 c =
+    let all = hit_refuses 5 (simp (le-ltb _ _ c.if-mode-gt3.false, sym c.bad_length.ensures ∙ c.if-bad_length.false, sym c.bad_length-2.ensures ∙ c.if-bad_length-2.false, sym c.bad_length-3.ensures ∙ c.if-bad_length-3.false, sym c.bad_length-4.ensures ∙ c.if-bad_length-4.true)) (omega arith) in record { numbers = all.0; places = all.1 }
+
+pub returns : goal.returns
+unfolding bad_settings settings_place
+returns c =
+    let all = none_passes 5 (simp (le-ltb _ _ c.if-mode-gt3.false, sym c.bad_length.ensures ∙ c.if-bad_length.false, sym c.bad_length-2.ensures ∙ c.if-bad_length-2.false, sym c.bad_length-3.ensures ∙ c.if-bad_length-3.false, sym c.bad_length-4.ensures ∙ c.if-bad_length-4.false)) in record { numbers = all.0; places = all.1 }
