@@ -1,11 +1,12 @@
 // What is done to a window row by row: a row's cells and samples lie side by side.
-ghost use Rattle.std.specs.Prelude.{◌≡◌, [], ◌*◌, ◌/◌, ◌<◌, eqb};
-ghost use Rattle.ground.specs.Lists.{painted, tab};
+ghost use Rattle.std.specs.Prelude.{◌≡◌, ℕ, [], ◌*◌, ◌<◌, get_or};
+ghost use Rattle.ground.specs.Lists.{tab};
 ghost use Rattle.inputs.specs.Checks as Checks;
 ghost use Rattle.inputs.specs.Checks.{input};
 ghost use Rattle.inputs.specs.Inner.{Sampled, Stencilled};
 ghost use Rattle.inputs.specs.Stencil.{counts_of};
-ghost use Rattle.inputs.specs.Window.{cut_cells, cut_samples, CellsPasted};
+ghost use Rattle.inputs.specs.Window.{cell_in, cut_cells, cut_samples, CellsPasted};
+ghost use Rattle.correction.specs.Inner.{RowPainted};
 
 use crate::bitmap;
 use inputs::checks::Refusal;
@@ -14,15 +15,16 @@ use inputs::stencil::Counts;
 use inputs::{checks, stencil};
 use ranges::config::Settings;
 
-// The protected bit and no other in each cell of row y.
-fn protect_row(stencil: &mut [u8], b: Window, y: usize)
+// Each cell of row y holds what `paint` makes of its number and its byte.
+pub fn paint_row<F: Fn(usize, u8) -> u8>(stencil: &mut [u8], b: Window, y: usize, paint: F)
     requires stencilled { Stencilled b stencil.old }
     requires y_lt_height { y < b.height }
-    ensures { CellsPasted b stencil.old stencil.new (painted (λ v. 2) (λ k. eqb (k / b.width) y) (cut_cells b stencil.old)) }
+    requires callable { (x : ℕ) → x < b.width → F.pre paint (cell_in b x y) (get_or stencil.old (cell_in b x y) 0) }
+    ensures { RowPainted (F.post paint) b y b.width stencil.old stencil.new }
 {
     for x in 0..b.width {
         let k = bitmap::cell(b, x, y);
-        stencil[k] = stencil::PROTECTED;
+        stencil[k] = paint(k, stencil[k]);
     }
 }
 
@@ -32,7 +34,7 @@ pub fn protect_all(stencil: &mut [u8], b: Window)
     ensures { CellsPasted b stencil.old stencil.new (tab (b.height * b.width) (λ k. 2)) }
 {
     for y in 0..b.height {
-        protect_row(stencil, b, y);
+        paint_row(stencil, b, y, |_, _| stencil::PROTECTED);
     }
 }
 
