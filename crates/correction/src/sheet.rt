@@ -1,5 +1,5 @@
 // Whole sheets: the pass on each cell of a sheet, in place, as if the cell were a bitmap alone.
-ghost use Rattle.std.specs.Prelude.{◌≡◌, [], ◌*◌, ◌≤◌, ◌<◌, length};
+ghost use Rattle.std.specs.Prelude.{◌≡◌, [], ◌+◌, ◌*◌, ◌^◌, ◌≤◌, ◌<◌, length};
 ghost use Rattle.ground.specs.Lists.{tab};
 ghost use Rattle.inputs.specs.Checks.{content_refusal, place_of};
 ghost use Rattle.inputs.specs.Window.{CellsPasted, SamplesPasted};
@@ -7,7 +7,7 @@ ghost use Rattle.correction.specs.Pass.{pass_stencil, pass_samples};
 ghost use Rattle.correction.specs.Sheet as Sheet;
 ghost use Rattle.correction.specs.Sheet.{sheet};
 ghost use Rattle.correction.specs.Inner.{Cleared};
-ghost use Rattle.correction.specs.Cells.{CellOutlined, Laid, Ready, tally_of, tallies};
+ghost use Rattle.correction.specs.Cells.{CellOutlined, Laid, Ready, plus, tally_of, tallies};
 
 use crate::cells::Lengths;
 use crate::{cells, engine, window};
@@ -34,10 +34,22 @@ pub struct Failure {
 // What is summed over the cells: those with each bit, and the range tests.
 #[derive(Clone, Copy)]
 struct Tally {
-    protected: usize,
-    error: usize,
-    corner: usize,
+    counts: Counts,
     tests: usize,
+}
+
+impl Tally {
+    // With what is summed over other cells.
+    fn plus(self, n: Tally) -> Tally
+        requires counts { (self.counts.protected + n.counts.protected < 2 ^ 64) × (self.counts.error + n.counts.error < 2 ^ 64) × (self.counts.corner + n.counts.corner < 2 ^ 64) }
+        requires tests { self.tests + n.tests < 2 ^ 64 }
+        ensures { result ≡ plus self n }
+    {
+        Tally {
+            counts: window::together(self.counts, n.counts),
+            tests: self.tests + n.tests,
+        }
+    }
 }
 
 // Checks 5 to 9 of cell c.
@@ -205,11 +217,8 @@ fn correct_cell(
         &coords[q..qe],
         &ends[r..re],
     );
-    let n = window::count_cells(stencil, g);
     Tally {
-        protected: n.protected,
-        error: n.error,
-        corner: n.corner,
+        counts: window::count_cells(stencil, g),
         tests,
     }
 }
@@ -234,25 +243,17 @@ fn correct_cells(
     ensures leaves { stencil.new ≡ Sheet.sheet_stencil (sheet b.width b.height b.channels xs.old stencil.old [] cells.now modes.now settings.now colours.now coords.now ends.now) }
     ensures writes { xs.new ≡ Sheet.sheet_samples (sheet b.width b.height b.channels xs.old stencil.old [] cells.now modes.now settings.now colours.now coords.now ends.now) }
 {
-    let mut p = 0usize;
-    let mut e = 0usize;
-    let mut r = 0usize;
-    let mut t = 0usize;
+    let mut sum = Tally {
+        counts: window::NONE,
+        tests: 0,
+    };
     for c in 0..modes.len() {
         let n = correct_cell(
             stencil, xs, room, b, cells, modes, settings, colours, coords, ends, c,
         );
-        p += n.protected;
-        e += n.error;
-        r += n.corner;
-        t += n.tests;
+        sum = sum.plus(n);
     }
-    Tally {
-        protected: p,
-        error: e,
-        corner: r,
-        tests: t,
-    }
+    sum
 }
 
 // The error correction of a sheet's cells, in place.
@@ -291,10 +292,5 @@ pub fn msdf_sheet_error_correction(
         stencil, samples, room, b, cells, modes, settings, colours, coords, ends,
     );
     room::clear(room);
-    let counts = Counts {
-        protected: n.protected,
-        error: n.error,
-        corner: n.corner,
-    };
-    Answer::Accepted(counts, n.tests)
+    Answer::Accepted(n.counts, n.tests)
 }

@@ -1,12 +1,12 @@
 // What is done to a window row by row: a row's cells and samples lie side by side.
-ghost use Rattle.std.specs.Prelude.{◌≡◌, ℕ, [], ◌*◌, ◌<◌, get_or};
+ghost use Rattle.std.specs.Prelude.{◌≡◌, ℕ, [], ◌+◌, ◌*◌, ◌^◌, ◌<◌, get_or};
 ghost use Rattle.ground.specs.Lists.{tab};
 ghost use Rattle.inputs.specs.Checks as Checks;
 ghost use Rattle.inputs.specs.Checks.{input};
 ghost use Rattle.inputs.specs.Inner.{Sampled, Stencilled};
 ghost use Rattle.inputs.specs.Stencil.{counts_of};
 ghost use Rattle.inputs.specs.Window.{cell_in, cut_cells, cut_samples, CellsPasted};
-ghost use Rattle.correction.specs.Inner.{RowPainted};
+ghost use Rattle.correction.specs.Inner.{RowPainted, together};
 
 use crate::bitmap;
 use inputs::checks::Refusal;
@@ -38,27 +38,37 @@ pub fn protect_all(stencil: &mut [u8], b: Window)
     }
 }
 
+// No cell counted.
+pub const NONE: Counts = Counts {
+    protected: 0,
+    error: 0,
+    corner: 0,
+};
+
+// How many cells of two parts have each bit.
+pub fn together(a: Counts, b: Counts) -> Counts
+    requires { (a.protected + b.protected < 2 ^ 64) × (a.error + b.error < 2 ^ 64) × (a.corner + b.corner < 2 ^ 64) }
+    ensures { result ≡ together a b }
+{
+    Counts {
+        protected: a.protected + b.protected,
+        error: a.error + b.error,
+        corner: a.corner + b.corner,
+    }
+}
+
 // How many cells have each bit.
 pub fn count_cells(stencil: &[u8], b: Window) -> Counts
     requires { Stencilled b stencil.now }
     ensures { result ≡ counts_of (cut_cells b stencil.now) }
 {
-    let mut p = 0usize;
-    let mut e = 0usize;
-    let mut c = 0usize;
+    let mut sum = NONE;
     for y in 0..b.height {
         let from = bitmap::cell(b, 0, y);
         let end = from + b.width;
-        let n = stencil::count_cells(&stencil[from..end]);
-        p += n.protected;
-        e += n.error;
-        c += n.corner;
+        sum = together(sum, stencil::count_cells(&stencil[from..end]));
     }
-    Counts {
-        protected: p,
-        error: e,
-        corner: c,
-    }
+    sum
 }
 
 // The place of check 6, as the window counts its samples: the first bad one, or their number.

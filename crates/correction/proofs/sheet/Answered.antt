@@ -22,7 +22,7 @@ refused s f e h =
     (simp (e, t), (simp t, (simp t, simp t)))
 
 pub answered : (s : Sheet) (f : Failure) (n : Tally) (st : List ℕ) (xs room : List Float) → f ≡ failure s → f.number ≡ 0 → n ≡ tallies s → st ≡ sheet_stencil s → xs ≡ sheet_samples s → room ≡ tab (length s.room) (λ k. zero_of binary32) →
-    (Accepted (record { protected = n.protected; error = n.error; corner = n.corner }) n.tests ≡ sheet_answer s) × ((st ≡ sheet_stencil_after s) × ((xs ≡ sheet_samples_after s) × (room ≡ sheet_room_after s)))
+    (Accepted n.counts n.tests ≡ sheet_answer s) × ((st ≡ sheet_stencil_after s) × ((xs ≡ sheet_samples_after s) × (room ≡ sheet_room_after s)))
 unfolding sheet_answer sheet_stencil_after sheet_samples_after sheet_room_after sheet_accepted
 answered s f n st xs room e h a b c d =
     let t : eqb (failure s).number 0 ≡ true = eq-eqb _ 0 (sym (ap (λ (f : Failure). f.number) e) ∙ h) in

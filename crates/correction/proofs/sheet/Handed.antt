@@ -38,7 +38,7 @@ slice_taken r xs = rw add-sub_cancel_left
 
 -- what is counted of a cell
 abbrev pub tally : Counts → ℕ → Tally
-tally n t = record { protected = n.protected; error = n.error; corner = n.corner; tests = t }
+tally n t = record { counts = n; tests = t }
 
 pub cell_there : (s : Sheet) (c : ℕ) → Laid s → c < cells_of s → ((10 * c + 10 ≤ length s.cells) × (4 * c + 4 ≤ length s.settings)) × (AreaInside s.width s.height (area_at s.cells c) × (s.width ≤ 4096) × (s.height ≤ 4096))
 cell_there s c t l = ((omega (arith, t.numbers), omega (arith, t.fours)), (t.inside c l, t.wide, t.high))

@@ -26,9 +26,9 @@ correct-tests-requires c =
     let r = c.cell_at-k.result in
     let e = c.cell_at-k.ensures in record { sampled = (sampled_as g n r e (sampled g n c.requires.laid.0 c.requires.laid.1), room_enough g n r e c.requires.laid.0 c.requires.laid.1 c.requires.width_in_bounds); stencilled = (stencilled_as g n r e (stencilled g n c.requires.laid.0 c.requires.stencil_len c.requires.laid.1), cleared_as g n r e c.requires.cleared); outlined = outlined_as g n r e c.requires.laid.2 }
 
-pub count_cells-n-requires : goal.count_cells-n-requires
-count_cells-n-requires c =
-    still_stencilled _ (stencilled_as (given (goal.at.count_cells-n-requires c).Start) c.args.c c.cell_at-k.result c.cell_at-k.ensures (stencilled (given (goal.at.count_cells-n-requires c).Start) c.args.c c.requires.laid.0 c.requires.stencil_len c.requires.laid.1)) _ c.correct-tests.ensures.leaves.long
+pub count_cells-requires : goal.count_cells-requires
+count_cells-requires c =
+    still_stencilled _ (stencilled_as (given (goal.at.count_cells-requires c).Start) c.args.c c.cell_at-k.result c.cell_at-k.ensures (stencilled (given (goal.at.count_cells-requires c).Start) c.args.c c.requires.laid.0 c.requires.stencil_len c.requires.laid.1)) _ c.correct-tests.ensures.leaves.long
 
 pub returns : goal.returns
 returns c =
@@ -36,7 +36,7 @@ returns c =
     let n = c.args.c in
     let r = c.cell_at-k.result in
     let e = c.cell_at-k.ensures in
-    let p = c.correct-tests.ensures in record { counts = tallied g n r e p.leaves _ _ c.count_cells-n.ensures p.makes; leaves = leaves g n r e p.leaves; writes = writes g n r e p.writes }
+    let p = c.correct-tests.ensures in record { counts = tallied g n r e p.leaves _ _ c.count_cells.ensures p.makes; leaves = leaves g n r e p.leaves; writes = writes g n r e p.writes }
 
 pub cell_at-k-requires : goal.cell_at-k-requires
 cell_at-k-requires c = let all = cell_there (given (goal.at.cell_at-k-requires c).Start) c.args.c c.requires.laid.0 c.requires.laid.1 in record { c_in_bounds = all.0; area_inside = all.1 }
