@@ -88,7 +88,7 @@ fn settle(stencil: &[u8], b: Window, y: usize, from: Scan) -> Scan
     let mut at = from;
     while at.x < b.width {
         let next = step(stencil, b, y, at);
-        if !((at.here > 0) & ((at.left == at.here) & (next.here == at.here))) {
+        if !((at.here > 0) & (at.left == at.here) & (next.here == at.here)) {
             return at;
         }
         at = next;
