@@ -25,6 +25,16 @@ pub struct Run {
     pub count: usize,
 }
 
+impl Run {
+    // What it takes of its list.
+    pub fn of<T>(self, xs: &[T]) -> &[T]
+        requires { self.from + self.count ≤ length xs.now }
+        ensures { result.now ≡ Sheet.taken self xs.now }
+    {
+        &xs[self.from..self.from + self.count]
+    }
+}
+
 // A cell: its window, its settings and its runs of the three lists.
 #[derive(Clone, Copy)]
 pub struct Cell {

@@ -69,22 +69,14 @@ fn check_cell(
     ensures places { result.place ≡ place_of (Sheet.alone (sheet b.width b.height b.channels xs.now [] [] cells.now modes.now settings.now colours.now coords.now ends.now) c) result.number }
 {
     let k = cells::cell_at(b, cells, settings, c);
-    let g = k.window;
-    let s = k.settings;
-    let p = k.colours.from;
-    let pe = p + k.colours.count;
-    let q = k.coords.from;
-    let qe = q + k.coords.count;
-    let r = k.ends.from;
-    let re = r + k.ends.count;
     window::check(
         xs,
-        g,
+        k.window,
         modes[c],
-        s,
-        &colours[p..pe],
-        &coords[q..qe],
-        &ends[r..re],
+        k.settings,
+        k.colours.of(colours),
+        k.coords.of(coords),
+        k.ends.of(ends),
     )
 }
 
@@ -198,27 +190,19 @@ fn correct_cell(
     ensures writes { SamplesPasted (Sheet.window_at (sheet b.width b.height b.channels xs.old stencil.old [] cells.now modes.now settings.now colours.now coords.now ends.now) c) xs.old xs.new (pass_samples (Sheet.alone (sheet b.width b.height b.channels xs.old stencil.old [] cells.now modes.now settings.now colours.now coords.now ends.now) c)) }
 {
     let k = cells::cell_at(b, cells, settings, c);
-    let g = k.window;
-    let s = k.settings;
-    let p = k.colours.from;
-    let pe = p + k.colours.count;
-    let q = k.coords.from;
-    let qe = q + k.coords.count;
-    let r = k.ends.from;
-    let re = r + k.ends.count;
     let tests = engine::correct(
         stencil,
         xs,
         room,
-        g,
+        k.window,
         modes[c],
-        s,
-        &colours[p..pe],
-        &coords[q..qe],
-        &ends[r..re],
+        k.settings,
+        k.colours.of(colours),
+        k.coords.of(coords),
+        k.ends.of(ends),
     );
     Tally {
-        counts: window::count_cells(stencil, g),
+        counts: window::count_cells(stencil, k.window),
         tests,
     }
 }
