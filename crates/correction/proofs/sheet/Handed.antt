@@ -7,10 +7,9 @@
 --     leaves, writes, tallied   what the engine leaves of it is what the pass leaves of the cell alone
 use mathlib.Core.Path.{◌≡◌, sym, ◌∙◌, ap, subst}
 use mathlib.Core.List.{List, []}
-use Prim.Native.Nat.{ℕ, ◌+◌, ◌-◌, ◌*◌, ◌<◌, ◌≤◌}
-use native.Mathlib.Nat.{add-sub_cancel_left}
+use Prim.Native.Nat.{ℕ, ◌+◌, ◌*◌, ◌<◌, ◌≤◌}
 use native.Mathlib.Omega.{arith}
-use lib.ListN.{get_or, length, take, drop}
+use lib.ListN.{get_or, length}
 use lib.Ieee.{Float, nan}
 use Rattle.ground.proofs.Laws.Picked.{pasted_as}
 use Rattle.inputs.specs.declared.sizes.Window.{Window}
@@ -20,7 +19,6 @@ use Rattle.inputs.specs.Inner.{Sampled, Stencilled, Outlined}
 use Rattle.inputs.specs.Window.{cell_shown, sample_shown, cut_cells, cut_samples, CellsPasted, SamplesPasted}
 use Rattle.inputs.specs.Checks.{Input, input, content_refusal, place_of}
 use Rattle.correction.specs.declared.cells.Cell.{Cell}
-use Rattle.correction.specs.declared.cells.Run.{Run}
 use Rattle.correction.specs.declared.sheet.Tally.{Tally}
 use Rattle.correction.specs.Inner.{Cleared, cut_out}
 use Rattle.correction.specs.Pass.{pass_stencil, pass_samples, pass_tests}

@@ -1,6 +1,5 @@
 -- `correction::sheet::check_cell` meets its contract: what is handed to the checks is the cell alone. Assumes nothing.
 use mathlib.Core.List.{[]}
-use native.Mathlib.Omega.{arith}
 use lib.ListN.{length}
 use Rattle.correction.specs.Sheet.{Sheet, sheet}
 use Rattle.correction.proofs.sheet.Laid.{sampled}

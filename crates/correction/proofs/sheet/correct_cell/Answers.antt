@@ -1,6 +1,5 @@
 -- `correction::sheet::correct_cell` meets its contract: what is handed to the engine is the cell alone. Assumes nothing.
 use mathlib.Core.List.{[]}
-use native.Mathlib.Omega.{arith}
 use lib.ListN.{length}
 use Rattle.inputs.proofs.Laws.Windows.{still_stencilled}
 use Rattle.correction.specs.Sheet.{Sheet, sheet}

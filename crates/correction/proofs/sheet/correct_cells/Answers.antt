@@ -1,7 +1,7 @@
 -- `correction::sheet::correct_cells` meets its contract: the cells before the loop's are corrected, and counted. Assumes nothing.
 use mathlib.Core.Path.{refl, ◌∙◌}
 use mathlib.Core.List.{[]}
-use Prim.Native.Nat.{◌*◌, ◌<◌, ◌≤◌}
+use Prim.Native.Nat.{◌<◌}
 use native.Mathlib.Nat.{mul_comm}
 use native.Mathlib.Omega.{arith}
 use Rattle.correction.specs.Sheet.{Sheet, sheet}

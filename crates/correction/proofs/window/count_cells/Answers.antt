@@ -1,5 +1,5 @@
 -- `correction::window::count_cells` meets its contract: the cells of the rows before the loop's are counted. Assumes nothing.
-use Prim.Native.Nat.{◌+◌, ◌≤◌}
+use Prim.Native.Nat.{◌+◌}
 use native.Mathlib.Omega.{arith}
 use Rattle.correction.specs.Inner.{together}
 use Rattle.correction.proofs.window.Rows.{Counted, counted_none, counted_more, counted_small, counted_all, cell_row}
