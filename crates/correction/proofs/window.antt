@@ -1,2 +1,3 @@
--- The rows of a window.
+-- What a window's rows are.
+pub mod Painting
 pub mod Rows

@@ -1,12 +1,13 @@
 -- What the functions behind a sheet's checks ask of each other and leave for each other. No public function's promise rests on this page. Definitions only.
 use Rattle.std.specs.Prelude.{◌≡◌, ℕ, ◌+◌, ◌*◌, ◌≤◌, ◌<◌, false, List, length, Float, Option, MatchOption}
 use Rattle.inputs.specs.Inner.{Outlined}
-use Rattle.inputs.specs.Stencil.{protected_count, error_count, corner_count}
+use Rattle.inputs.specs.Stencil.{counts_of}
 use Rattle.inputs.specs.Checks.{Input}
 use Rattle.correction.specs.declared.cells.Area.{Area}
 use Rattle.correction.specs.declared.cells.Run.{Run}
 use Rattle.correction.specs.declared.cells.Cell.{Cell}
-use Rattle.correction.specs.declared.sheet.Tally.{Tally}
+use Rattle.correction.specs.declared.pass.Corrected.{Corrected}
+use Rattle.correction.specs.Inner.{together}
 use Rattle.correction.specs.Pass.{pass_stencil, pass_tests}
 use Rattle.correction.specs.Sheet.{Sheet, cells_of, area_at, colours_run, coords_run, ends_run, taken, settings_at, window_of, overlap, sheet_counts, sheet_tests}
 
@@ -61,8 +62,12 @@ pub record Ready (s : Sheet) : Type 0 where
   pub outlined : (c : ℕ) → c < cells_of s → CellOutlined s c
 
 -- the counts and the range tests of one cell alone, and of all
-abbrev pub tally_of : Input → Tally
-tally_of i = record { protected = protected_count (pass_stencil i); error = error_count (pass_stencil i); corner = corner_count (pass_stencil i); tests = pass_tests i }
+abbrev pub tally_of : Input → Corrected
+tally_of i = record { counts = counts_of (pass_stencil i); tests = pass_tests i }
 
-abbrev pub tallies : Sheet → Tally
-tallies s = record { protected = (sheet_counts s).protected; error = (sheet_counts s).error; corner = (sheet_counts s).corner; tests = sheet_tests s }
+abbrev pub tallies : Sheet → Corrected
+tallies s = record { counts = sheet_counts s; tests = sheet_tests s }
+
+-- those of two parts
+abbrev pub plus : Corrected → Corrected → Corrected
+plus a b = record { counts = together a.counts b.counts; tests = a.tests + b.tests }

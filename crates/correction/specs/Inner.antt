@@ -6,6 +6,7 @@ use Rattle.detectors.specs.Texel.{texel_median}
 use Rattle.detectors.specs.Orders.{order_code}
 use Rattle.detectors.specs.Edge.{protects_lower, protects_upper}
 use Rattle.inputs.specs.declared.sizes.Window.{Window}
+use Rattle.inputs.specs.declared.stencil.Counts.{Counts}
 use Rattle.inputs.specs.Window.{cell_in, cut_cells, cut_samples}
 use Rattle.inputs.specs.Checks.{Input, input}
 use Rattle.correction.specs.declared.bitmap.Centre.{Centre}
@@ -153,6 +154,18 @@ row_found xs w h ch s y st = tab (length st) (λ k. cond (eqb (k / w) y) (marked
 
 unfoldable pub row_made : List Float → ℕ → ℕ → ℕ → Settings → ℕ → List ℕ → ℕ
 row_made xs w h ch s y st = total w (λ x. made_for xs w h ch s (get_or st (cell w x y) 0) x y)
+
+-- the counts of two parts
+abbrev pub together : Counts → Counts → Counts
+together a b = record { protected = a.protected + b.protected; error = a.error + b.error; corner = a.corner + b.corner }
+
+-- ---- a row of cells that are painted one after another
+
+-- the first n cells of row y of a window are painted: what stands in each is what `made` allows for its number and its byte, and all else is as it was
+pub record RowPainted (made : ℕ → ℕ → ℕ → Type 0) (g : Window) (y n : ℕ) (st st' : List ℕ) : Type 0 where
+  pub long : length st' ≡ length st
+  pub done : (x : ℕ) → x < n → made (cell_in g x y) (get_or st (cell_in g x y) 0) (get_or st' (cell_in g x y) 0)
+  pub rest : (k : ℕ) → ((x : ℕ) → x < n → k ≡ cell_in g x y → ⊥) → get_or st' k 0 ≡ get_or st k 0
 
 -- ---- medians, while edges are protected
 

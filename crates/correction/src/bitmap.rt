@@ -86,7 +86,7 @@ pub fn centre_at(xs: &[f32], b: Window, x: usize, y: usize) -> Centre
 pub fn in_bounds(b: Window, nx: usize, ny: usize) -> bool
     ensures { result ≡ in_bounds b.width b.height nx ny }
 {
-    0 < nx && (nx <= b.width && (0 < ny && ny <= b.height))
+    0 < nx && nx <= b.width && 0 < ny && ny <= b.height
 }
 
 // The texel at column nx and row ny, counted from 1.

@@ -27,6 +27,16 @@ pub struct Run {
     pub count: usize,
 }
 
+impl Run {
+    // What it takes of its list.
+    pub fn of<T>(self, xs: &[T]) -> &[T]
+        requires { self.from + self.count ≤ length xs.now }
+        ensures { result.now ≡ Sheet.taken self xs.now }
+    {
+        &xs[self.from..self.from + self.count]
+    }
+}
+
 // A cell: its window, its settings and its runs of the three lists.
 #[derive(Clone, Copy)]
 pub struct Cell {
@@ -162,7 +172,9 @@ fn bad_area(b: Bitmap, a: Area) -> bool
     ensures { result ≡ Sheet.bad_area b.width b.height a }
 {
     a.width == 0
-        || (a.height == 0 || (beyond(a.x, a.width, b.width) || beyond(a.y, a.height, b.height)))
+        || a.height == 0
+        || beyond(a.x, a.width, b.width)
+        || beyond(a.y, a.height, b.height)
 }
 
 // Its first cell.
@@ -178,7 +190,7 @@ fn overlap(a: Area, b: Area) -> bool
     requires { AreaInside 4096 4096 a × AreaInside 4096 4096 b }
     ensures { result ≡ Sheet.overlap a b }
 {
-    a.x < b.x + b.width && (b.x < a.x + a.width && (a.y < b.y + b.height && b.y < a.y + a.height))
+    a.x < b.x + b.width && b.x < a.x + a.width && a.y < b.y + b.height && b.y < a.y + a.height
 }
 
 // Cell c shares one with an earlier cell.
@@ -214,7 +226,8 @@ fn bad_runs(cells: &[usize], c: usize, colours: usize, coords: usize, ends: usiz
 {
     let at = 10 * c;
     bad_run(run_at(cells, at + 4), colours)
-        || (bad_run(run_at(cells, at + 6), coords) || bad_run(run_at(cells, at + 8), ends))
+        || bad_run(run_at(cells, at + 6), coords)
+        || bad_run(run_at(cells, at + 8), ends)
 }
 
 // Its first cell.

@@ -8,7 +8,7 @@ ghost use Rattle.inputs.specs.Inner.{Sampled, Stencilled};
 ghost use Rattle.inputs.specs.Window.{cell_in, cut_cells, cut_samples, CellsPasted, SamplesPasted};
 ghost use Rattle.inputs.specs.Stencil.{is_error};
 
-use crate::bitmap;
+use crate::{bitmap, window};
 use detectors::texel;
 use inputs::sizes::Window;
 use inputs::stencil;
@@ -48,19 +48,6 @@ fn collapse_row(stencil: &[u8], xs: &mut [f32], b: Window, y: usize)
     }
 }
 
-// Leaves no order in a cell of row y.
-fn clear_row(stencil: &mut [u8], b: Window, y: usize)
-    requires stencilled { Stencilled b stencil.old }
-    requires y_lt_height { y < b.height }
-    ensures { CellsPasted b stencil.old stencil.new (painted (λ v. v % 8) (λ k. eqb (k / b.width) y) (cut_cells b stencil.old)) }
-{
-    for x in 0..b.width {
-        let k = bitmap::cell(b, x, y);
-        let v = stencil[k];
-        stencil[k] = v % stencil::ORDER;
-    }
-}
-
 // Collapses each texel whose cell has the error bit, and leaves no order in a cell.
 pub fn apply(stencil: &mut [u8], xs: &mut [f32], b: Window)
     requires sampled { Sampled b xs.old }
@@ -70,6 +57,6 @@ pub fn apply(stencil: &mut [u8], xs: &mut [f32], b: Window)
 {
     for y in 0..b.height {
         collapse_row(stencil, xs, b, y);
-        clear_row(stencil, b, y);
+        window::paint_row(stencil, b, y, |_, v| v % stencil::ORDER);
     }
 }

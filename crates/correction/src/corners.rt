@@ -20,6 +20,16 @@ struct Contour {
     end: usize,
 }
 
+impl Contour {
+    // The segment before i, cyclic.
+    fn previous(self, i: usize) -> usize
+        requires { (self.from ≤ i) × (i < self.end) }
+        ensures { (result ≡ cond (eqb i self.from) (self.end - 1) (i - 1)) × (result < self.end) }
+    {
+        if i == self.from { self.end - 1 } else { i - 1 }
+    }
+}
+
 // A signed column or row, clipped: counted from 1 where it is from -1 to n - 1, and n + 1 elsewhere.
 fn clipped(l: i64, n: usize) -> usize
     requires { n ≤ 4096 }
@@ -83,14 +93,6 @@ fn is_corner(a: u8, b: u8) -> bool
     shared(a, b) < 2
 }
 
-// The segment before i, cyclic in its contour.
-fn previous(c: Contour, i: usize) -> usize
-    requires { (c.from ≤ i) × (i < c.end) }
-    ensures { (result ≡ cond (eqb i c.from) (c.end - 1) (i - 1)) × (result < c.end) }
-{
-    if i == c.from { c.end - 1 } else { i - 1 }
-}
-
 // Segment i of a contour, where it is a corner.
 fn protect_corner(
     stencil: &mut [u8],
@@ -105,7 +107,7 @@ fn protect_corner(
     requires from_le_i { (c.from ≤ i) × (i < c.end) × (c.end ≤ length colours.now) }
     ensures { CellsPasted b stencil.old stencil.new (painted at_corner (λ k. corner_hits colours.now coords.now c.from c.end i (k % b.width) (k / b.width)) (cut_cells b stencil.old)) }
 {
-    let j = previous(c, i);
+    let j = c.previous(i);
     if is_corner(colours[j], colours[i]) {
         mark_around(stencil, b, coords[2 * i], coords[2 * i + 1]);
     }

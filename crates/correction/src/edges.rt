@@ -38,9 +38,9 @@ struct Half {
 
 // A texel whose median is d away is within some radius: else none of its pairs can be near. No test waits for another.
 fn reaches(d: f32, r: Radii) -> bool
-    ensures { result ≡ (lt d r.horizontal || (lt d r.vertical || lt d r.diagonal)) }
+    ensures { result ≡ (lt d r.horizontal || lt d r.vertical || lt d r.diagonal) }
 {
-    (d < r.horizontal) | ((d < r.vertical) | (d < r.diagonal))
+    (d < r.horizontal) | (d < r.vertical) | (d < r.diagonal)
 }
 
 // Where the medians of row y start in the room, which has those of two rows by turns.
@@ -128,9 +128,9 @@ fn some_of(room: &[f32], xs: &[f32], b: Window, r: Radii, t: Centre, n: Half) ->
     ensures { result ≡ some_of n.lower (texel (cut_samples b xs.now) b.width b.channels) b.width b.height r.horizontal r.vertical r.diagonal t.x t.y n.ahead n.behind n.level }
 {
     as_either(room, xs, b, r.horizontal, n.lower, t, n.ahead, t.y + 1)
-        || (as_either(room, xs, b, r.vertical, n.lower, t, t.x + 1, n.level)
-            || (as_either(room, xs, b, r.diagonal, n.lower, t, n.ahead, n.level)
-                || as_either(room, xs, b, r.diagonal, n.lower, t, n.behind, n.level)))
+        || as_either(room, xs, b, r.vertical, n.lower, t, t.x + 1, n.level)
+        || as_either(room, xs, b, r.diagonal, n.lower, t, n.ahead, n.level)
+        || as_either(room, xs, b, r.diagonal, n.lower, t, n.behind, n.level)
 }
 
 // Some pair protects texel x, y, whose median is m. Most texels are too far from the outline for any.

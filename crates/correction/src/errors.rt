@@ -87,9 +87,10 @@ fn settle(stencil: &[u8], b: Window, y: usize, from: Scan) -> Scan
     ensures { Scanned b stencil.now y result × (from.x ≤ result.x) × ((x : ℕ) → from.x ≤ x → x < result.x → Settled b stencil.now x y) }
 {
     let mut at = from;
+    // No count: a step of the scan carries the orders beside its column.
     while at.x < b.width {
         let next = step(stencil, b, y, at);
-        if !((at.here > 0) & ((at.left == at.here) & (next.here == at.here))) {
+        if !((at.here > 0) & (at.left == at.here) & (next.here == at.here)) {
             return at;
         }
         at = next;
@@ -383,6 +384,7 @@ fn find_in_row(stencil: &mut [u8], xs: &[f32], b: Window, s: Settings, y: usize)
     };
     let mut at = settle(stencil, b, y, start);
     let mut tests = 0usize;
+    // No count: settled columns are passed over.
     while at.x < b.width {
         let k = bitmap::cell(b, at.x, y);
         let byte = stencil[k];

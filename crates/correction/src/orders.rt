@@ -1,29 +1,25 @@
 // The orders of texels, which stand in their cells while errors are found.
-ghost use Rattle.std.specs.Prelude.{◌≡◌, ◌<◌};
-ghost use Rattle.correction.specs.Inner.{Plain, PlainRow, row_orders, with_orders};
+ghost use Rattle.std.specs.Prelude.{◌≡◌, ◌+◌, ◌*◌, ◌<◌, length};
+ghost use Rattle.detectors.specs.Orders.{order_code};
+ghost use Rattle.correction.specs.Inner.{Plain, PlainRow, row_orders, samples_at, with_orders};
 ghost use Rattle.inputs.specs.Inner.{Sampled, Stencilled};
 ghost use Rattle.inputs.specs.Window.{cut_cells, cut_samples, CellsPasted};
 
-use crate::bitmap;
+use crate::{bitmap, window};
 use detectors::orders;
 use inputs::sizes::Window;
 use inputs::stencil;
 
-// Puts the order of each texel of row y above the three bits of its cell. `step` is the number of channels: as a constant it lets several texels be worked out at once.
-fn write_run(stencil: &mut [u8], xs: &[f32], b: Window, y: usize, step: usize)
-    requires sampled { Sampled b xs.now }
-    requires stencilled { Stencilled b stencil.old × PlainRow b stencil.old y }
-    requires y_lt_height { (y < b.height) × (step ≡ b.channels) }
-    ensures { CellsPasted b stencil.old stencil.new (row_orders (cut_samples b xs.now) b.width b.channels y (cut_cells b stencil.old)) }
+// The byte v of a cell with the order above it of the texel whose samples stand from a place on.
+fn with_order(xs: &[f32], at: usize, v: u8) -> u8
+    requires { (at + 2 < length xs.now) × (v < 8) }
+    ensures { result ≡ v + 8 * order_code (samples_at xs.now at) }
 {
-    for x in 0..b.width {
-        let k = bitmap::cell(b, x, y);
-        let v = stencil[k];
-        stencil[k] = v + stencil::ORDER * orders::order_code(bitmap::samples_at(xs, k * step));
-    }
+    v + stencil::ORDER * orders::order_code(bitmap::samples_at(xs, at))
 }
 
-// The same, by the number of channels: three or four.
+// Puts the order of each texel of row y above the three bits of its cell.
+// The number of channels is a constant in each loop, which lets several texels be worked out at once.
 fn write_row(stencil: &mut [u8], xs: &[f32], b: Window, y: usize)
     requires sampled { Sampled b xs.now }
     requires stencilled { Stencilled b stencil.old × PlainRow b stencil.old y }
@@ -31,9 +27,9 @@ fn write_row(stencil: &mut [u8], xs: &[f32], b: Window, y: usize)
     ensures { CellsPasted b stencil.old stencil.new (row_orders (cut_samples b xs.now) b.width b.channels y (cut_cells b stencil.old)) }
 {
     if b.channels == 3 {
-        write_run(stencil, xs, b, y, 3);
+        window::paint_row(stencil, b, y, |k, v| with_order(xs, k * 3, v));
     } else {
-        write_run(stencil, xs, b, y, 4);
+        window::paint_row(stencil, b, y, |k, v| with_order(xs, k * 4, v));
     }
 }
 

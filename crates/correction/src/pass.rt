@@ -1,7 +1,8 @@
 // The pass: the checks, then the engine.
-ghost use Rattle.std.specs.Prelude.{◌≡◌};
+ghost use Rattle.std.specs.Prelude.{◌≡◌, ◌+◌, ◌^◌, ◌<◌};
 ghost use Rattle.inputs.specs.Checks.{input};
 ghost use Rattle.correction.specs.Pass as Pass;
+ghost use Rattle.correction.specs.Cells.{plus};
 
 use crate::{bitmap, engine, window};
 use inputs::refusal::Refusal;
@@ -15,6 +16,20 @@ use ranges::config::Settings;
 pub struct Corrected {
     pub counts: Counts,
     pub tests: usize,
+}
+
+impl Corrected {
+    // With what another cell of a sheet adds.
+    pub(crate) fn plus(self, n: Corrected) -> Corrected
+        requires counts { (self.counts.protected + n.counts.protected < 2 ^ 64) × (self.counts.error + n.counts.error < 2 ^ 64) × (self.counts.corner + n.counts.corner < 2 ^ 64) }
+        requires tests { self.tests + n.tests < 2 ^ 64 }
+        ensures { result ≡ plus self n }
+    {
+        Corrected {
+            counts: window::together(self.counts, n.counts),
+            tests: self.tests + n.tests,
+        }
+    }
 }
 
 // The error correction of a bitmap, in place.

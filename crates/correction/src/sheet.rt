@@ -1,5 +1,5 @@
 // Whole sheets: the pass on each cell of a sheet, in place, as if the cell were a bitmap alone.
-ghost use Rattle.std.specs.Prelude.{◌≡◌, [], ◌*◌, ◌≤◌, ◌<◌, length};
+ghost use Rattle.std.specs.Prelude.{◌≡◌, [], ◌+◌, ◌*◌, ◌^◌, ◌≤◌, ◌<◌, length};
 ghost use Rattle.ground.specs.Lists.{tab};
 ghost use Rattle.inputs.specs.Checks.{content_refusal, place_of};
 ghost use Rattle.inputs.specs.Window.{CellsPasted, SamplesPasted};
@@ -19,15 +19,6 @@ use inputs::sizes::Bitmap;
 use inputs::stencil::Counts;
 use inputs::{room, stencil};
 
-// What is summed over the cells: those with each bit, and the range tests.
-#[derive(Clone, Copy)]
-struct Tally {
-    protected: usize,
-    error: usize,
-    corner: usize,
-    tests: usize,
-}
-
 // Checks 5 to 9 of cell c.
 fn check_cell(
     b: Bitmap,
@@ -45,22 +36,14 @@ fn check_cell(
     ensures places { content_place_in result ≡ place_of (Sheet.alone (sheet b.width b.height b.channels xs.now [] [] cells.now modes.now settings.now colours.now coords.now ends.now) c) (content_number_in result) }
 {
     let k = cells::cell_at(b, cells, settings, c);
-    let g = k.window;
-    let s = k.settings;
-    let p = k.colours.from;
-    let pe = p + k.colours.count;
-    let q = k.coords.from;
-    let qe = q + k.coords.count;
-    let r = k.ends.from;
-    let re = r + k.ends.count;
     window::check(
         xs,
-        g,
+        k.window,
         modes[c],
-        s,
-        &colours[p..pe],
-        &coords[q..qe],
-        &ends[r..re],
+        k.settings,
+        k.colours.of(colours),
+        k.coords.of(coords),
+        k.ends.of(ends),
     )
 }
 
@@ -136,7 +119,7 @@ fn correct_cell(
     coords: &[f64],
     ends: &[usize],
     c: usize,
-) -> Tally
+) -> Corrected
     requires laid { Laid (sheet b.width b.height b.channels xs.old stencil.old [] cells.now modes.now settings.now colours.now coords.now ends.now) × (c < length modes.now) × CellOutlined (sheet b.width b.height b.channels xs.old stencil.old [] cells.now modes.now settings.now colours.now coords.now ends.now) c }
     requires stencil_len { length stencil.old ≡ b.height * b.width }
     requires cleared { Cleared (Sheet.window_at (sheet b.width b.height b.channels xs.old stencil.old [] cells.now modes.now settings.now colours.now coords.now ends.now) c) stencil.old }
@@ -146,30 +129,19 @@ fn correct_cell(
     ensures writes { SamplesPasted (Sheet.window_at (sheet b.width b.height b.channels xs.old stencil.old [] cells.now modes.now settings.now colours.now coords.now ends.now) c) xs.old xs.new (pass_samples (Sheet.alone (sheet b.width b.height b.channels xs.old stencil.old [] cells.now modes.now settings.now colours.now coords.now ends.now) c)) }
 {
     let k = cells::cell_at(b, cells, settings, c);
-    let g = k.window;
-    let s = k.settings;
-    let p = k.colours.from;
-    let pe = p + k.colours.count;
-    let q = k.coords.from;
-    let qe = q + k.coords.count;
-    let r = k.ends.from;
-    let re = r + k.ends.count;
     let tests = engine::correct(
         stencil,
         xs,
         room,
-        g,
+        k.window,
         modes[c],
-        s,
-        &colours[p..pe],
-        &coords[q..qe],
-        &ends[r..re],
+        k.settings,
+        k.colours.of(colours),
+        k.coords.of(coords),
+        k.ends.of(ends),
     );
-    let n = window::count_cells(stencil, g);
-    Tally {
-        protected: n.protected,
-        error: n.error,
-        corner: n.corner,
+    Corrected {
+        counts: window::count_cells(stencil, k.window),
         tests,
     }
 }
@@ -186,7 +158,7 @@ fn correct_cells(
     colours: &[u8],
     coords: &[f64],
     ends: &[usize],
-) -> Tally
+) -> Corrected
     requires ready { Ready (sheet b.width b.height b.channels xs.old stencil.old [] cells.now modes.now settings.now colours.now coords.now ends.now) }
     requires stencil_value { stencil.old ≡ tab (length stencil.old) (λ k. 0) }
     requires width_in_bounds { 2 * b.width ≤ length room.old }
@@ -194,25 +166,17 @@ fn correct_cells(
     ensures leaves { stencil.new ≡ Sheet.sheet_stencil (sheet b.width b.height b.channels xs.old stencil.old [] cells.now modes.now settings.now colours.now coords.now ends.now) }
     ensures writes { xs.new ≡ Sheet.sheet_samples (sheet b.width b.height b.channels xs.old stencil.old [] cells.now modes.now settings.now colours.now coords.now ends.now) }
 {
-    let mut p = 0usize;
-    let mut e = 0usize;
-    let mut r = 0usize;
-    let mut t = 0usize;
+    let mut sum = Corrected {
+        counts: window::NONE,
+        tests: 0,
+    };
     for c in 0..modes.len() {
         let n = correct_cell(
             stencil, xs, room, b, cells, modes, settings, colours, coords, ends, c,
         );
-        p += n.protected;
-        e += n.error;
-        r += n.corner;
-        t += n.tests;
+        sum = sum.plus(n);
     }
-    Tally {
-        protected: p,
-        error: e,
-        corner: r,
-        tests: t,
-    }
+    sum
 }
 
 // The error correction of a sheet's cells, in place.
@@ -248,13 +212,5 @@ pub fn msdf_sheet_error_correction(
         stencil, samples, room, b, cells, modes, settings, colours, coords, ends,
     );
     room::clear(room);
-    let counts = Counts {
-        protected: n.protected,
-        error: n.error,
-        corner: n.corner,
-    };
-    Ok(Corrected {
-        counts,
-        tests: n.tests,
-    })
+    Ok(n)
 }

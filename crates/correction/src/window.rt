@@ -1,12 +1,13 @@
 // What is done to a window row by row: a row's cells and samples lie side by side.
-ghost use Rattle.std.specs.Prelude.{◌≡◌, [], ◌*◌, ◌/◌, ◌<◌, eqb};
-ghost use Rattle.ground.specs.Lists.{painted, tab};
+ghost use Rattle.std.specs.Prelude.{◌≡◌, ℕ, [], ◌+◌, ◌*◌, ◌^◌, ◌<◌, get_or};
+ghost use Rattle.ground.specs.Lists.{tab};
 ghost use Rattle.inputs.specs.Checks as Checks;
 ghost use Rattle.inputs.specs.Checks.{input};
 ghost use Rattle.inputs.specs.Refusal.{content_number_in, content_place_in};
 ghost use Rattle.inputs.specs.Inner.{Sampled, Stencilled};
 ghost use Rattle.inputs.specs.Stencil.{counts_of};
-ghost use Rattle.inputs.specs.Window.{cut_cells, cut_samples, CellsPasted};
+ghost use Rattle.inputs.specs.Window.{cell_in, cut_cells, cut_samples, CellsPasted};
+ghost use Rattle.correction.specs.Inner.{RowPainted, together};
 
 use crate::bitmap;
 use inputs::refusal::ContentRefusal;
@@ -15,15 +16,16 @@ use inputs::stencil::Counts;
 use inputs::{checks, stencil};
 use ranges::config::Settings;
 
-// The protected bit and no other in each cell of row y.
-fn protect_row(stencil: &mut [u8], b: Window, y: usize)
+// Each cell of row y holds what `paint` makes of its number and its byte.
+pub fn paint_row<F: Fn(usize, u8) -> u8>(stencil: &mut [u8], b: Window, y: usize, paint: F)
     requires stencilled { Stencilled b stencil.old }
     requires y_lt_height { y < b.height }
-    ensures { CellsPasted b stencil.old stencil.new (painted (λ v. 2) (λ k. eqb (k / b.width) y) (cut_cells b stencil.old)) }
+    requires callable { (x : ℕ) → x < b.width → F.pre paint (cell_in b x y) (get_or stencil.old (cell_in b x y) 0) }
+    ensures { RowPainted (F.post paint) b y b.width stencil.old stencil.new }
 {
     for x in 0..b.width {
         let k = bitmap::cell(b, x, y);
-        stencil[k] = stencil::PROTECTED;
+        stencil[k] = paint(k, stencil[k]);
     }
 }
 
@@ -33,7 +35,26 @@ pub fn protect_all(stencil: &mut [u8], b: Window)
     ensures { CellsPasted b stencil.old stencil.new (tab (b.height * b.width) (λ k. 2)) }
 {
     for y in 0..b.height {
-        protect_row(stencil, b, y);
+        paint_row(stencil, b, y, |_, _| stencil::PROTECTED);
+    }
+}
+
+// No cell counted.
+pub const NONE: Counts = Counts {
+    protected: 0,
+    error: 0,
+    corner: 0,
+};
+
+// How many cells of two parts have each bit.
+pub fn together(a: Counts, b: Counts) -> Counts
+    requires { (a.protected + b.protected < 2 ^ 64) × (a.error + b.error < 2 ^ 64) × (a.corner + b.corner < 2 ^ 64) }
+    ensures { result ≡ together a b }
+{
+    Counts {
+        protected: a.protected + b.protected,
+        error: a.error + b.error,
+        corner: a.corner + b.corner,
     }
 }
 
@@ -42,22 +63,13 @@ pub fn count_cells(stencil: &[u8], b: Window) -> Counts
     requires { Stencilled b stencil.now }
     ensures { result ≡ counts_of (cut_cells b stencil.now) }
 {
-    let mut p = 0usize;
-    let mut e = 0usize;
-    let mut c = 0usize;
+    let mut sum = NONE;
     for y in 0..b.height {
         let from = bitmap::cell(b, 0, y);
         let end = from + b.width;
-        let n = stencil::count_cells(&stencil[from..end]);
-        p += n.protected;
-        e += n.error;
-        c += n.corner;
+        sum = together(sum, stencil::count_cells(&stencil[from..end]));
     }
-    Counts {
-        protected: p,
-        error: e,
-        corner: c,
-    }
+    sum
 }
 
 // Check 6 of a window: the first bad sample, as the window counts its samples.

@@ -79,15 +79,15 @@ unfolding some_of as_either protects_as some_upper as_upper
 upper_half tex w h rh rv rd x y = refl
 
 -- No pair protects a texel whose median is d away where d is below none of the three radii.
-pub far_edge : (tex : ℕ → ℕ → List Float) (w h : ℕ) (rh rv rd : Float) (x y : ℕ) (d : Float) → d ≡ distance (texel_median (tex x y)) → (lt d rh || (lt d rv || lt d rd)) ≡ false → some_edge tex w h rh rv rd x y ≡ false
+pub far_edge : (tex : ℕ → ℕ → List Float) (w h : ℕ) (rh rv rd : Float) (x y : ℕ) (d : Float) → d ≡ distance (texel_median (tex x y)) → (lt d rh || lt d rv || lt d rd) ≡ false → some_edge tex w h rh rv rd x y ≡ false
 unfolding some_edge
 far_edge tex w h rh rv rd x y d e p = rw (sym (lower_half tex w h rh rv rd x y), sym (upper_half tex w h rh rv rd x y), none true (x + 2) x (y + 2), none false x (x + 2) y)
   where
-    first : (lt d rh ≡ false) × ((lt d rv || lt d rd) ≡ false)
-    first = both_fail (lt d rh) (lt d rv || lt d rd) p
+    second : ((lt d rh || lt d rv) ≡ false) × (lt d rd ≡ false)
+    second = both_fail (lt d rh || lt d rv) (lt d rd) p
 
-    second : (lt d rv ≡ false) × (lt d rd ≡ false)
-    second = both_fail (lt d rv) (lt d rd) first.1
+    first : (lt d rh ≡ false) × (lt d rv ≡ false)
+    first = both_fail (lt d rh) (lt d rv) second.0
 
     not_below : (r : Float) → lt d r ≡ false → lt (distance (texel_median (tex x y))) r ≡ false
     not_below r f = ap (λ (z : Float). lt z r) (sym e) ∙ f
@@ -96,4 +96,4 @@ far_edge tex w h rh rv rd x y d e p = rw (sym (lower_half tex w h rh rv rd x y),
     none lower ahead behind level =
         unfold some_of in
         let fd = not_below rd second.1 in
-        rw (no_pair lower tex w h rh x y ahead (y + 1) (not_below rh first.0), no_pair lower tex w h rv x y (x + 1) level (not_below rv second.0), no_pair lower tex w h rd x y ahead level fd, no_pair lower tex w h rd x y behind level fd)
+        rw (no_pair lower tex w h rh x y ahead (y + 1) (not_below rh first.0), no_pair lower tex w h rv x y (x + 1) level (not_below rv first.1), no_pair lower tex w h rd x y ahead level fd, no_pair lower tex w h rd x y behind level fd)

@@ -13,7 +13,7 @@ use Rattle.std.specs.Prelude.{Ok, Err}
 use Rattle.correction.specs.declared.refusal.Refusal.{Refusal}
 use Rattle.correction.proofs.Laws.Failure.{saying_told, told_not_0}
 use Rattle.correction.specs.Sheet.{Failure}
-use Rattle.correction.specs.declared.sheet.Tally.{Tally}
+use Rattle.correction.specs.declared.pass.Corrected.{Corrected}
 use Rattle.correction.specs.Sheet.{Sheet, failure, sheet_accepted, sheet_stencil, sheet_samples, told, saying, Answer, sheet_answer, sheet_stencil_after, sheet_samples_after, sheet_room_after}
 use Rattle.correction.specs.Cells.{tallies}
 
@@ -26,8 +26,8 @@ refused s r e =
 pub refused_as : (s : Sheet) (z : Answer) (r : Refusal) → z ≡ Err r → told r ≡ failure s → (z ≡ sheet_answer s) × ((s.stencil ≡ sheet_stencil_after s) × ((s.samples ≡ sheet_samples_after s) × (s.room ≡ sheet_room_after s)))
 refused_as s z r e t = let h = refused s r t in (e ∙ h.0, h.1)
 
-pub answered : (s : Sheet) (n : Tally) (st : List ℕ) (xs room : List Float) → (failure s).number ≡ 0 → n ≡ tallies s → st ≡ sheet_stencil s → xs ≡ sheet_samples s → room ≡ tab (length s.room) (λ k. zero_of binary32) →
-    (Ok (record { counts = record { protected = n.protected; error = n.error; corner = n.corner }; tests = n.tests }) ≡ sheet_answer s) × ((st ≡ sheet_stencil_after s) × ((xs ≡ sheet_samples_after s) × (room ≡ sheet_room_after s)))
+pub answered : (s : Sheet) (n : Corrected) (st : List ℕ) (xs room : List Float) → (failure s).number ≡ 0 → n ≡ tallies s → st ≡ sheet_stencil s → xs ≡ sheet_samples s → room ≡ tab (length s.room) (λ k. zero_of binary32) →
+    (Ok n ≡ sheet_answer s) × ((st ≡ sheet_stencil_after s) × ((xs ≡ sheet_samples_after s) × (room ≡ sheet_room_after s)))
 unfolding sheet_answer sheet_stencil_after sheet_samples_after sheet_room_after sheet_accepted
 answered s n st xs room h a b c d =
     let t : eqb (failure s).number 0 ≡ true = eq-eqb _ 0 h in

@@ -1,5 +1,4 @@
 -- A cell as it is taken from a sheet and handed to the checks and to the engine: its window, its settings and its runs are those of the cell alone. Assumes nothing.
---     slice_taken      a run by where it starts and where it ends is what it takes
 --     cell_there       a cell's numbers and settings are there, and its area lies in the sheet
 --     runs_held        its runs end in their lists
 --     sampled_as, stencilled_as, cleared_as, outlined_as   what is known of the cell alone, of what is handed over
@@ -8,10 +7,9 @@
 --     leaves, writes, tallied   what the engine leaves of it is what the pass leaves of the cell alone
 use mathlib.Core.Path.{◌≡◌, sym, ◌∙◌, ap, subst}
 use mathlib.Core.List.{List, []}
-use Prim.Native.Nat.{ℕ, ◌+◌, ◌-◌, ◌*◌, ◌<◌, ◌≤◌}
-use native.Mathlib.Nat.{add-sub_cancel_left}
+use Prim.Native.Nat.{ℕ, ◌+◌, ◌*◌, ◌<◌, ◌≤◌}
 use native.Mathlib.Omega.{arith}
-use lib.ListN.{get_or, length, take, drop}
+use lib.ListN.{get_or, length}
 use lib.Ieee.{Float, nan}
 use Rattle.ground.proofs.Laws.Picked.{pasted_as}
 use Rattle.inputs.specs.declared.sizes.Window.{Window}
@@ -21,24 +19,16 @@ use Rattle.inputs.specs.Inner.{Sampled, Stencilled, Outlined}
 use Rattle.inputs.specs.Window.{cell_shown, sample_shown, cut_cells, cut_samples, CellsPasted, SamplesPasted}
 use Rattle.inputs.specs.Checks.{Input, input, content_refusal, place_of}
 use Rattle.correction.specs.declared.cells.Cell.{Cell}
-use Rattle.correction.specs.declared.cells.Run.{Run}
-use Rattle.correction.specs.declared.sheet.Tally.{Tally}
+use Rattle.correction.specs.declared.pass.Corrected.{Corrected}
 use Rattle.correction.specs.Inner.{Cleared, cut_out}
 use Rattle.correction.specs.Pass.{pass_stencil, pass_samples, pass_tests}
 use Rattle.correction.specs.Sheet.{Sheet, cells_of, area_at, window_at, taken, alone}
 use Rattle.correction.specs.Cells.{AreaInside, Laid, CellOutlined, cell_at, tally_of}
 use Rattle.correction.proofs.sheet.Corrected.{SameLeft, pass_free}
 
--- a run by where it starts and where it ends
-abbrev pub slice : {A : Type 0} → Run → List A → List A
-slice r xs = take (r.from + r.count - r.from) (drop r.from xs)
-
-pub slice_taken : {A : Type 0} (r : Run) (xs : List A) → slice r xs ≡ taken r xs
-slice_taken r xs = rw add-sub_cancel_left
-
 -- what is counted of a cell
-abbrev pub tally : Counts → ℕ → Tally
-tally n t = record { protected = n.protected; error = n.error; corner = n.corner; tests = t }
+abbrev pub tally : Counts → ℕ → Corrected
+tally n t = record { counts = n; tests = t }
 
 pub cell_there : (s : Sheet) (c : ℕ) → Laid s → c < cells_of s → ((10 * c + 10 ≤ length s.cells) × (4 * c + 4 ≤ length s.settings)) × (AreaInside s.width s.height (area_at s.cells c) × (s.width ≤ 4096) × (s.height ≤ 4096))
 cell_there s c t l = ((omega (arith, t.numbers), omega (arith, t.fours)), (t.inside c l, t.wide, t.high))
@@ -65,15 +55,15 @@ module _ (s : Sheet) (c : ℕ) (k : Cell) (e : k ≡ cell_at s.width s.channels 
   abbrev handed : Input
   handed =
       input k.window.width k.window.height k.window.channels (cut_samples k.window s.samples) [] [] (get_or s.modes c 0) k.settings
-      (slice k.colours s.colours) (slice k.coords s.coords) (slice k.ends s.ends)
+      (taken k.colours s.colours) (taken k.coords s.coords) (taken k.ends s.ends)
 
   judged_alone : content_refusal handed ≡ content_refusal (alone s c)
   unfolding content_refusal alone
-  judged_alone = rw (slice_taken k.colours s.colours, slice_taken k.coords s.coords, slice_taken k.ends s.ends, e)
+  judged_alone = rw e
 
   placed_alone : (n : ℕ) → place_of handed n ≡ place_of (alone s c) n
   unfolding place_of alone
-  placed_alone n = rw (slice_taken k.colours s.colours, slice_taken k.coords s.coords, slice_taken k.ends s.ends, e)
+  placed_alone n = rw e
 
   pub judged : {z o : ℕ} → (z ≡ content_refusal handed) × (o ≡ place_of handed z) → (z ≡ content_refusal (alone s c)) × (o ≡ place_of (alone s c) z)
   judged {z} {o} a = (a.0 ∙ judged_alone, a.1 ∙ placed_alone z)
@@ -89,15 +79,15 @@ module _ (s : Sheet) (c : ℕ) (k : Cell) (e : k ≡ cell_at s.width s.channels 
   pub cleared_as : Cleared (window_at s c) s.stencil → Cleared k.window s.stencil
   cleared_as = subst (λ (g : Window). Cleared g s.stencil) (sym windowed)
 
-  pub outlined_as : CellOutlined s c → Outlined (slice k.colours s.colours) (slice k.coords s.coords) (slice k.ends s.ends)
-  outlined_as o = rw (slice_taken k.colours s.colours, slice_taken k.coords s.coords, slice_taken k.ends s.ends, e) o
+  pub outlined_as : CellOutlined s c → Outlined (taken k.colours s.colours) (taken k.coords s.coords) (taken k.ends s.ends)
+  outlined_as o = rw e o
 
   abbrev given : Input
-  given = cut_out k.window s.samples (get_or s.modes c 0) k.settings (slice k.colours s.colours) (slice k.coords s.coords) (slice k.ends s.ends)
+  given = cut_out k.window s.samples (get_or s.modes c 0) k.settings (taken k.colours s.colours) (taken k.coords s.coords) (taken k.ends s.ends)
 
   left : SameLeft given (alone s c)
   unfolding alone
-  left = rw (slice_taken k.colours s.colours, slice_taken k.coords s.coords, slice_taken k.ends s.ends, e) (pass_free _ _ _ _ _ _ _ _ _ _ _ _ _)
+  left = rw e (pass_free _ _ _ _ _ _ _ _ _ _ _ _ _)
 
   module _ {st : List ℕ} (p : CellsPasted k.window s.stencil st (pass_stencil given)) where
     pub leaves : CellsPasted (window_at s c) s.stencil st (pass_stencil (alone s c))

@@ -20,10 +20,10 @@ use Rattle.ground.proofs.Laws.Sums.{total_most}
 use Rattle.ground.proofs.Laws.Picked.{pasted_as}
 use Rattle.inputs.specs.Stencil.{protected_count, error_count, corner_count}
 use Rattle.inputs.specs.Window.{cell_shown, sample_shown, CellsPasted, SamplesPasted}
-use Rattle.correction.specs.declared.sheet.Tally.{Tally}
+use Rattle.correction.specs.declared.pass.Corrected.{Corrected as Tally}
 use Rattle.correction.specs.Pass.{byte_at, pass_stencil, pass_samples, pass_tests}
 use Rattle.correction.specs.Sheet.{Sheet, with, cells_of, area_at, window_at, alone, over_cells, sheet_counts, sheet_tests}
-use Rattle.correction.specs.Cells.{Ready, tally_of, tallies}
+use Rattle.correction.specs.Cells.{plus, Ready, tally_of, tallies}
 use Rattle.correction.proofs.Laws.Tests.{tests_at_le}
 use Rattle.correction.proofs.sheet.Corrected.{Corrected, SameLeft, alone_with, corrected_next}
 
@@ -56,34 +56,36 @@ module _ (s : Sheet) where
   abbrev tests_of : ℕ → ℕ
   tests_of d = pass_tests (alone s d)
 
-  pub record Summed (c p e q t : ℕ) : Type 0 where
-    pub protected : p ≡ total c protected_of
-    pub error : e ≡ total c error_of
-    pub corner : q ≡ total c corner_of
-    pub tests : t ≡ total c tests_of
+  pub record Summed (c : ℕ) (n : Tally) : Type 0 where
+    pub protected : n.counts.protected ≡ total c protected_of
+    pub error : n.counts.error ≡ total c error_of
+    pub corner : n.counts.corner ≡ total c corner_of
+    pub tests : n.tests ≡ total c tests_of
 
-  pub summed_none : Summed 0 0 0 0 0
+  pub summed_none : Summed 0 (record { counts = record { protected = 0; error = 0; corner = 0 }; tests = 0 })
   summed_none = record { protected = sym (total_none protected_of); error = sym (total_none error_of); corner = sym (total_none corner_of); tests = sym (total_none tests_of) }
 
-  pub summed_step : (c p e q t : ℕ) (n : Tally) → Summed c p e q t → n ≡ tally_of (alone s c) → Summed (c + 1) (p + n.protected) (e + n.error) (q + n.corner) (t + n.tests)
-  summed_step c p e q t n i h =
+  pub summed_step : (c : ℕ) (m n : Tally) → Summed c m → n ≡ tally_of (alone s c) → Summed (c + 1) (plus m n)
+  summed_step c m n i h =
       record {
-        protected = total_more protected_of c p n.protected i.protected (ap (λ (n : Tally). n.protected) h);
-        error = total_more error_of c e n.error i.error (ap (λ (n : Tally). n.error) h);
-        corner = total_more corner_of c q n.corner i.corner (ap (λ (n : Tally). n.corner) h);
-        tests = total_more tests_of c t n.tests i.tests (ap (λ (n : Tally). n.tests) h);
+        protected = total_more protected_of c m.counts.protected n.counts.protected i.protected (ap (λ (n : Tally). n.counts.protected) h);
+        error = total_more error_of c m.counts.error n.counts.error i.error (ap (λ (n : Tally). n.counts.error) h);
+        corner = total_more corner_of c m.counts.corner n.counts.corner i.corner (ap (λ (n : Tally). n.counts.corner) h);
+        tests = total_more tests_of c m.tests n.tests i.tests (ap (λ (n : Tally). n.tests) h);
       }
 
-  abbrev pub made : ℕ → ℕ → ℕ → ℕ → Tally
-  made p e q t = record { protected = p; error = e; corner = q; tests = t }
-
-  pub summed_all : (c p e q t : ℕ) → Summed c p e q t → c ≤ cells_of s → cells_of s ≤ c → made p e q t ≡ tallies s
+  pub summed_all : (c : ℕ) (n : Tally) → Summed c n → c ≤ cells_of s → cells_of s ≤ c → n ≡ tallies s
   unfolding sheet_counts sheet_tests over_cells
-  summed_all c p e q t i l m =
-      let n : c ≡ cells_of s = le_antisymm l m in
-      rw (i.protected, i.error, i.corner, i.tests, n)
+  summed_all c n i l m =
+      let e : c ≡ cells_of s = le_antisymm l m in
+      let all : (f : ℕ → ℕ) (k : ℕ) → k ≡ total c f → k ≡ total (cells_of s) f = λ f k p. p ∙ ap (λ (d : ℕ). total d f) e in
+      rw (← all _ _ i.protected, ← all _ _ i.error, ← all _ _ i.corner, ← all _ _ i.tests)
 
   -- ---- they are small
+
+  -- as many as c cells may have
+  abbrev pub Small : ℕ → Tally → Type 0
+  Small c n = (n.counts.protected ≤ c * 16777216) × (n.counts.error ≤ c * 16777216) × (n.counts.corner ≤ c * 16777216) × (n.tests ≤ c * 1409286144)
 
   module _ (r : Ready s) where
     texels : (d : ℕ) → d < cells_of s → (area_at s.cells d).width * (area_at s.cells d).height ≤ 16777216
@@ -104,11 +106,11 @@ module _ (s : Sheet) where
         let t : tests_of d ≤ (area_at s.cells d).width * (area_at s.cells d).height * 84 = total_small 84 ((area_at s.cells d).width * (area_at s.cells d).height) _ (λ k. tests_at_le (alone s d) _ _) in
         (le_trans (count_small _ _) f, le_trans (count_small _ _) f, le_trans (count_small _ _) f, omega (arith, t, texels d l))
 
-    pub tally_small : (d : ℕ) (n : Tally) → d < cells_of s → n ≡ tally_of (alone s d) → (n.protected ≤ 16777216) × (n.error ≤ 16777216) × (n.corner ≤ 16777216) × (n.tests ≤ 1409286144)
-    tally_small d n l e = subst (λ (n : Tally). (n.protected ≤ 16777216) × (n.error ≤ 16777216) × (n.corner ≤ 16777216) × (n.tests ≤ 1409286144)) (sym e) (cell_small d l)
+    pub tally_small : (d : ℕ) (n : Tally) → d < cells_of s → n ≡ tally_of (alone s d) → Small 1 n
+    tally_small d n l e = subst (λ (n : Tally). Small 1 n) (sym e) (cell_small d l)
 
-    pub summed_small : (c p e q t : ℕ) → Summed c p e q t → c < cells_of s → (p ≤ c * 16777216) × (e ≤ c * 16777216) × (q ≤ c * 16777216) × (t ≤ c * 1409286144)
-    summed_small c p e q t i l = (
+    pub summed_small : (c : ℕ) (n : Tally) → Summed c n → c < cells_of s → Small c n
+    summed_small c n i l = (
       subst (λ (n : ℕ). n ≤ c * 16777216) (sym i.protected) (total_most 16777216 c protected_of (λ d b. (cell_small d (omega arith)).0)),
       subst (λ (n : ℕ). n ≤ c * 16777216) (sym i.error) (total_most 16777216 c error_of (λ d b. (cell_small d (omega arith)).1)),
       subst (λ (n : ℕ). n ≤ c * 16777216) (sym i.corner) (total_most 16777216 c corner_of (λ d b. (cell_small d (omega arith)).2)),

@@ -26,6 +26,7 @@ use Rattle.inputs.specs.Inner.{Fits, Sampled, Stencilled}
 use Rattle.inputs.specs.declared.stencil.Counts.{Counts}
 use Rattle.inputs.specs.Stencil.{has_corner, is_protected, is_error, cell_count, protected_count, error_count, corner_count, counts_of}
 use Rattle.inputs.specs.Checks.{oversize, samples_place}
+use Rattle.correction.specs.Inner.{together}
 use Rattle.inputs.proofs.Laws.Places.{cell_inside, next_row}
 use Rattle.inputs.proofs.Laws.Windows.{cell_shown_law, sample_shown_law, near_small}
 
@@ -44,11 +45,11 @@ pub record SampleRow (w ch from n : ℕ) : Type 0 where
   pub small : from + w * ch ≤ 134217728
 
 -- the bits of the rows below y of a window are counted
-pub record Counted (g : Window) (st : List ℕ) (y p e c : ℕ) : Type 0 where
+pub record Counted (g : Window) (st : List ℕ) (y : ℕ) (n : Counts) : Type 0 where
   pub high : y ≤ g.height
-  pub protected : p ≡ count (y * g.width) (λ k. is_protected (get_or (cut_cells g st) k 0))
-  pub error : e ≡ count (y * g.width) (λ k. is_error (get_or (cut_cells g st) k 0))
-  pub corner : c ≡ count (y * g.width) (λ k. has_corner (get_or (cut_cells g st) k 0))
+  pub protected : n.protected ≡ count (y * g.width) (λ k. is_protected (get_or (cut_cells g st) k 0))
+  pub error : n.error ≡ count (y * g.width) (λ k. is_error (get_or (cut_cells g st) k 0))
+  pub corner : n.corner ≡ count (y * g.width) (λ k. has_corner (get_or (cut_cells g st) k 0))
 
 module _ (g : Window) where
   row_cell : (y i : ℕ) → i < g.width → cell_shown g (y * g.width + i) ≡ cell_in g 0 y + i
@@ -86,7 +87,7 @@ module _ (g : Window) where
         (count_on (y * g.width) g.width (λ k. says (get_or (cut_cells g st) k 0)) (λ k. says (get_or part k 0)) a c
         (λ k b. ap says (picked_part 0 n (cell_shown g) st (y * g.width) g.width from (row_within y l) (λ i h. row_cell y i h ∙ ap (λ (m : ℕ). m + i) (sym e)) k b)))
 
-    pub counted_more : {p q r : ℕ} {n : Counts} → Counted g st y p q r → n ≡ counts_of (take (from + g.width - from) (drop from st)) → Counted g st (y + 1) (p + n.protected) (q + n.error) (r + n.corner)
+    pub counted_more : {m n : Counts} → Counted g st y m → n ≡ counts_of (take (from + g.width - from) (drop from st)) → Counted g st (y + 1) (together m n)
     unfolding protected_count error_count corner_count
     counted_more i a =
         record {
@@ -96,23 +97,23 @@ module _ (g : Window) where
           corner = row_counted has_corner i.corner (ap (λ (z : Counts). z.corner) a);
         }
 
-  pub counted_none : (st : List ℕ) → Counted g st 0 0 0 0
+  pub counted_none : (st : List ℕ) → Counted g st 0 (record { protected = 0; error = 0; corner = 0 })
   counted_none st =
       let none : (f : ℕ → Bool) → 0 ≡ count (0 * g.width) f = λ f. sym (ap (λ (m : ℕ). count m f) (zero-mul g.width) ∙ none_counted f) in
       record { high = omega arith; protected = none _; error = none _; corner = none _ }
 
-  module _ {st : List ℕ} {y p e c : ℕ} (i : Counted g st y p e c) where
-    pub counted_small : Fits g → (p ≤ 16777216) × (e ≤ 16777216) × (c ≤ 16777216)
+  module _ {st : List ℕ} {y : ℕ} {n : Counts} (i : Counted g st y n) where
+    pub counted_small : Fits g → (n.protected ≤ 16777216) × (n.error ≤ 16777216) × (n.corner ≤ 16777216)
     counted_small s =
         let b : y * g.width ≤ 4096 * 4096 = mul-le-mul (le_trans i.high s.high) (le_trans s.wide s.broad) in
         let few : (f : ℕ → Bool) (n : ℕ) → n ≡ count (y * g.width) f → n ≤ 16777216 = λ f n e. omega (arith, e, count_small f (y * g.width)) in
         (few _ _ i.protected, few _ _ i.error, few _ _ i.corner)
 
-    pub counted_all : g.height ≤ y → ◌≡◌ {A = Counts} (record { protected = p; error = e; corner = c }) (counts_of (cut_cells g st))
+    pub counted_all : g.height ≤ y → n ≡ counts_of (cut_cells g st)
     unfolding protected_count error_count corner_count
     counted_all l =
-        let n : y * g.width ≡ length (cut_cells g st) = ap (λ (m : ℕ). m * g.width) (le_antisymm i.high l) ∙ sym (picked_length 0 (g.height * g.width) (cell_shown g) st) in
-        let all : (f : ℕ → Bool) (m : ℕ) → m ≡ count (y * g.width) f → m ≡ count (length (cut_cells g st)) f = λ f m e. e ∙ ap (λ (m : ℕ). count m f) n in
+        let k : y * g.width ≡ length (cut_cells g st) = ap (λ (m : ℕ). m * g.width) (le_antisymm i.high l) ∙ sym (picked_length 0 (g.height * g.width) (cell_shown g) st) in
+        let all : (f : ℕ → Bool) (m : ℕ) → m ≡ count (y * g.width) f → m ≡ count (length (cut_cells g st)) f = λ f m e. e ∙ ap (λ (m : ℕ). count m f) k in
         rw (← all _ _ i.protected, ← all _ _ i.error, ← all _ _ i.corner)
 
   -- a sample of what is cut out is bad

@@ -1,7 +1,7 @@
 -- `correction::collapse::apply` meets its contract: row by row. Assumes nothing.
 use mathlib.Core.Path.{ap}
 use native.Mathlib.Nat.{mul-le-mul_right}
-use Rattle.ground.specs.Lists.{painted}
+use Rattle.std.proofs.Common.{rules, tests}
 use Rattle.inputs.specs.Stencil.{is_error}
 use Rattle.inputs.specs.Window.{cut_cells}
 use Rattle.inputs.specs.Inner.{Stencilled}
@@ -9,6 +9,7 @@ use Rattle.inputs.proofs.Laws.Windows.{still_stencilled}
 use Rattle.correction.specs.Inner.{without_orders}
 use Rattle.correction.proofs.bitmap.Stretch.{rows_none, rows_next, rows_all, upto_long}
 use Rattle.correction.proofs.collapse.Turns.{flags, bare, turning_none, turning_sampled, turning_row, turning_all}
+use Rattle.correction.proofs.window.Painting.{painted_row}
 use Rattle.correction.proofs.collapse.apply.Goals as goal
 use Rattle.correction.proofs.collapse.apply.Goals.{At-loop-y}
 
@@ -18,16 +19,15 @@ stencilled l = still_stencilled _ l.requires.stencilled _ (upto_long _ _ _ l.loo
 pub collapse_row-requires : goal.collapse_row-requires
 collapse_row-requires c = record { sampled = turning_sampled _ _ _ c.requires.sampled c.loop-y.invariant.0; stencilled = stencilled (goal.at.collapse_row-requires c).At-loop-y; y_lt_height = c.loop-y-test.true }
 
-pub clear_row-requires : goal.clear_row-requires
-clear_row-requires c = record { stencilled = stencilled (goal.at.clear_row-requires c).At-loop-y; y_lt_height = c.loop-y-test.true }
+pub paint_row-requires : goal.paint_row-requires
+paint_row-requires c = record { stencilled = stencilled (goal.at.paint_row-requires c).At-loop-y; y_lt_height = c.loop-y-test.true; callable = search (rules, tests) }
 
 pub loop-y-preserved : goal.loop-y-preserved
-unfolding painted
 loop-y-preserved c =
     let p = c.requires in
     let i = c.loop-y.invariant in (
       turning_row _ _ _ p.sampled (flags (cut_cells c.args.b c.loop-y.stencil)) i.0 c.loop-y-test.true (λ k m. ap is_error (i.1.filled.rest k m)) c.collapse_row.ensures,
-      rows_next bare _ _ i.1 p.stencilled c.loop-y-test.true c.clear_row.ensures,
+      rows_next bare _ _ i.1 p.stencilled c.loop-y-test.true (painted_row _ _ _ _ bare (stencilled (goal.at.loop-y-preserved c).At-loop-y) c.loop-y-test.true c.paint_row.ensures (λ x r l h. search (rules, tests))),
     )
 
 pub returns : goal.returns

@@ -19,11 +19,11 @@ use Rattle.correction.proofs.errors.settle.Goals as goal
 -- a turn that goes on
 module _ (g : Window) (st : List ℕ) (y : ℕ) (from at to : Scan) (h : y < g.height) (l : at.x < g.width) where
   on : Scanned g st y at → (to.x ≡ at.x + 1) × (to.left ≡ at.here) × (to.here ≡ column_in g st (next_in at.x g.width) y)
-      → (ltb 0 at.here && (eqb at.left at.here && eqb to.here at.here)) ≡ true → Settled g st at.x y
+      → (ltb 0 at.here && eqb at.left at.here && eqb to.here at.here) ≡ true → Settled g st at.x y
   on i p t =
-      let a = both_hold _ _ t in
-      let b = both_hold _ _ a.1 in
-      turn_settled g st at.x y at.here l h (ltb-true 0 at.here a.0) (sym (i.left l) ∙ eqb-true _ _ b.0) (sym (i.here l)) (sym p.2 ∙ eqb-true _ _ b.1)
+      let b = both_hold _ _ t in
+      let a = both_hold _ _ b.0 in
+      turn_settled g st at.x y at.here l h (ltb-true 0 at.here a.0) (sym (i.left l) ∙ eqb-true _ _ a.1) (sym (i.here l)) (sym p.2 ∙ eqb-true _ _ b.1)
 
   longer : Settled g st at.x y → to.x ≡ at.x + 1 → ((x : ℕ) → from.x ≤ x → x < at.x → Settled g st x y) → (x : ℕ) → from.x ≤ x → x < to.x → Settled g st x y
   longer s e f x m n =

@@ -1,6 +1,5 @@
 -- `correction::sheet::correct_cell` meets its contract: what is handed to the engine is the cell alone. Assumes nothing.
 use mathlib.Core.List.{[]}
-use native.Mathlib.Omega.{arith}
 use lib.ListN.{length}
 use Rattle.inputs.proofs.Laws.Windows.{still_stencilled}
 use Rattle.correction.specs.Sheet.{Sheet, sheet}
@@ -19,16 +18,25 @@ given c =
 held : (c : After-cell_at-k) → let a = c.args in Held c.cell_at-k.result (length a.colours.now) (length a.coords.now) (length a.ends.now)
 held c = runs_held (given (goal.at.After-cell_at-k c).Start) c.args.c c.cell_at-k.result c.cell_at-k.ensures c.requires.laid.0 c.requires.laid.1
 
+pub of-requires : goal.of-requires
+of-requires c = (held (goal.at.of-requires c).After-cell_at-k).colours
+
+pub of-requires-2 : goal.of-requires-2
+of-requires-2 c = (held (goal.at.of-requires-2 c).After-cell_at-k).coords
+
+pub of-requires-3 : goal.of-requires-3
+of-requires-3 c = (held (goal.at.of-requires-3 c).After-cell_at-k).ends
+
 pub correct-tests-requires : goal.correct-tests-requires
 correct-tests-requires c =
     let g = given (goal.at.correct-tests-requires c).Start in
     let n = c.args.c in
     let r = c.cell_at-k.result in
-    let e = c.cell_at-k.ensures in record { sampled = (sampled_as g n r e (sampled g n c.requires.laid.0 c.requires.laid.1), room_enough g n r e c.requires.laid.0 c.requires.laid.1 c.requires.width_in_bounds); stencilled = (stencilled_as g n r e (stencilled g n c.requires.laid.0 c.requires.stencil_len c.requires.laid.1), cleared_as g n r e c.requires.cleared); outlined = outlined_as g n r e c.requires.laid.2 }
+    let e = c.cell_at-k.ensures in record { sampled = (sampled_as g n r e (sampled g n c.requires.laid.0 c.requires.laid.1), room_enough g n r e c.requires.laid.0 c.requires.laid.1 c.requires.width_in_bounds); stencilled = (stencilled_as g n r e (stencilled g n c.requires.laid.0 c.requires.stencil_len c.requires.laid.1), cleared_as g n r e c.requires.cleared); outlined = rw (c.of.ensures, c.of-2.ensures, c.of-3.ensures) (outlined_as g n r e c.requires.laid.2) }
 
-pub count_cells-n-requires : goal.count_cells-n-requires
-count_cells-n-requires c =
-    still_stencilled _ (stencilled_as (given (goal.at.count_cells-n-requires c).Start) c.args.c c.cell_at-k.result c.cell_at-k.ensures (stencilled (given (goal.at.count_cells-n-requires c).Start) c.args.c c.requires.laid.0 c.requires.stencil_len c.requires.laid.1)) _ c.correct-tests.ensures.leaves.long
+pub count_cells-requires : goal.count_cells-requires
+count_cells-requires c =
+    still_stencilled _ (stencilled_as (given (goal.at.count_cells-requires c).Start) c.args.c c.cell_at-k.result c.cell_at-k.ensures (stencilled (given (goal.at.count_cells-requires c).Start) c.args.c c.requires.laid.0 c.requires.stencil_len c.requires.laid.1)) _ c.correct-tests.ensures.leaves.long
 
 pub returns : goal.returns
 returns c =
@@ -36,34 +44,12 @@ returns c =
     let n = c.args.c in
     let r = c.cell_at-k.result in
     let e = c.cell_at-k.ensures in
-    let p = c.correct-tests.ensures in record { counts = tallied g n r e p.leaves _ _ c.count_cells-n.ensures p.makes; leaves = leaves g n r e p.leaves; writes = writes g n r e p.writes }
+    let p = c.correct-tests.ensures in
+    let left = rw (c.of.ensures, c.of-2.ensures, c.of-3.ensures) at p.leaves in
+    record { counts = tallied g n r e left _ _ c.count_cells.ensures (rw (c.of.ensures, c.of-2.ensures, c.of-3.ensures) at p.makes); leaves = leaves g n r e left; writes = writes g n r e (rw (c.of.ensures, c.of-2.ensures, c.of-3.ensures) at p.writes) }
 
 pub cell_at-k-requires : goal.cell_at-k-requires
 cell_at-k-requires c = let all = cell_there (given (goal.at.cell_at-k-requires c).Start) c.args.c c.requires.laid.0 c.requires.laid.1 in record { c_in_bounds = all.0; area_inside = all.1 }
 
-pub overflow_add-pe : goal.overflow_add-pe
-overflow_add-pe c = omega (arith, (held (goal.at.overflow_add-pe c).After-cell_at-k).colours, c.well_formed)
-
-pub overflow_add-qe : goal.overflow_add-qe
-overflow_add-qe c = omega (arith, (held (goal.at.overflow_add-qe c).After-cell_at-k).coords, c.well_formed)
-
-pub overflow_add-re : goal.overflow_add-re
-overflow_add-re c = omega (arith, (held (goal.at.overflow_add-re c).After-cell_at-k).ends, c.well_formed)
-
 pub bounds-modes-c : goal.bounds-modes-c
 bounds-modes-c c = c.requires.laid.1
-
-pub slice_bounds-correct-end : goal.slice_bounds-correct-end
-slice_bounds-correct-end c = (held (goal.at.slice_bounds-correct-end c).After-cell_at-k).colours
-
-pub offset_bounds-coords-q : goal.offset_bounds-coords-q
-offset_bounds-coords-q c = omega (arith, (held (goal.at.offset_bounds-coords-q c).After-cell_at-k).coords, c.well_formed)
-
-pub slice_bounds-correct-end-2 : goal.slice_bounds-correct-end-2
-slice_bounds-correct-end-2 c = (held (goal.at.slice_bounds-correct-end-2 c).After-cell_at-k).coords
-
-pub offset_bounds-ends-r : goal.offset_bounds-ends-r
-offset_bounds-ends-r c = omega (arith, (held (goal.at.offset_bounds-ends-r c).After-cell_at-k).ends, c.well_formed)
-
-pub slice_bounds-correct-end-3 : goal.slice_bounds-correct-end-3
-slice_bounds-correct-end-3 c = (held (goal.at.slice_bounds-correct-end-3 c).After-cell_at-k).ends

@@ -3,4 +3,4 @@ use Rattle.correction.proofs.window.Rows.{Counted}
 use Rattle.correction.proofs.window.count_cells.Given as goal
 
 abbrev pub invariant-loop-y : goal.invariant-loop-y
-invariant-loop-y l = Counted l.b l.stencil l.y l.p l.e l.c
+invariant-loop-y l = Counted l.b l.stencil l.y l.sum
