@@ -59,10 +59,10 @@ pub extern "C" fn rungtwine_error_correction(
     ensures clears { room.new ≡ Pass.room_after (called width height channels samples.old stencil.old room.old mode ratio horizontal vertical diagonal colours.now coords.now ends.now) }
 {
     let s = Settings {
-        ratio: ratio,
-        horizontal: horizontal,
-        vertical: vertical,
-        diagonal: diagonal,
+        ratio,
+        horizontal,
+        vertical,
+        diagonal,
     };
     match pass::msdf_error_correction(
         width, height, channels, samples, stencil, room, mode, s, colours, coords, ends,
@@ -118,10 +118,10 @@ pub extern "C" fn rungtwine_plain_error_correction(
     ensures clears { room.new ≡ Pass.room_after (called width height channels samples.old stencil.old room.old mode ratio horizontal vertical diagonal colours.now coords.now ends.now) }
 {
     let s = Settings {
-        ratio: ratio,
-        horizontal: horizontal,
-        vertical: vertical,
-        diagonal: diagonal,
+        ratio,
+        horizontal,
+        vertical,
+        diagonal,
     };
     match plain::pass::plain_error_correction(
         width, height, channels, samples, stencil, room, mode, s, colours, coords, ends,
@@ -225,9 +225,9 @@ pub extern "C" fn rungtwine_sheet_check(
     ensures places { place.new ≡ (Sheet.failure (sheet width height channels samples.now stencil.now room.now cells.now modes.now settings.now colours.now coords.now ends.now)).place }
 {
     let b = Bitmap {
-        width: width,
-        height: height,
-        channels: channels,
+        width,
+        height,
+        channels,
     };
     let f = sheet::check(
         b, samples, stencil, room, cells, modes, settings, colours, coords, ends,

@@ -1,11 +1,12 @@
 // Each refusal with its place. A stencil that is left as it was shows as `?`.
 use crate::run;
+use crate::run::Task;
 use ranges::config::Settings;
 use std::io;
 
 fn sized(
     rt: &impl Print,
-    name: &[u8],
+    name: &str,
     w: usize,
     h: usize,
     ch: usize,
@@ -15,7 +16,7 @@ fn sized(
     run::plain(
         rt,
         name,
-        run::with(w, h, ch, 1, run::all(0.25)),
+        Task::new(w, h, ch, 1, run::all(0.25)),
         &mut xs,
         stencil,
     )
@@ -23,44 +24,44 @@ fn sized(
 
 pub fn sizes(rt: &impl Print) -> io::Result<()> {
     let mut two = [255u8; 2];
-    sized(rt, b"channels 2", 2, 1, 2, &mut two)?;
-    sized(rt, b"channels 5", 2, 1, 5, &mut two)?;
-    sized(rt, b"channels 0, width 0", 0, 1, 0, &mut two)?;
-    sized(rt, b"width 0", 0, 1, 3, &mut two)?;
-    sized(rt, b"height 0", 2, 0, 3, &mut two)?;
-    sized(rt, b"width 4097", 4097, 1, 3, &mut two)?;
-    sized(rt, b"height 4097", 2, 4097, 3, &mut two)?;
-    sized(rt, b"samples too few", 2, 2, 3, &mut two)?;
-    sized(rt, b"samples too many", 1, 1, 3, &mut two)?;
+    sized(rt, "channels 2", 2, 1, 2, &mut two)?;
+    sized(rt, "channels 5", 2, 1, 5, &mut two)?;
+    sized(rt, "channels 0, width 0", 0, 1, 0, &mut two)?;
+    sized(rt, "width 0", 0, 1, 3, &mut two)?;
+    sized(rt, "height 0", 2, 0, 3, &mut two)?;
+    sized(rt, "width 4097", 4097, 1, 3, &mut two)?;
+    sized(rt, "height 4097", 2, 4097, 3, &mut two)?;
+    sized(rt, "samples too few", 2, 2, 3, &mut two)?;
+    sized(rt, "samples too many", 1, 1, 3, &mut two)?;
     let mut three = [255u8; 3];
-    sized(rt, b"stencil too long", 2, 1, 3, &mut three)?;
+    sized(rt, "stencil too long", 2, 1, 3, &mut three)?;
     let mut one = [255u8; 1];
-    sized(rt, b"stencil too short", 2, 1, 3, &mut one)?;
-    sized(rt, b"width 1", 1, 2, 3, &mut two)
+    sized(rt, "stencil too short", 2, 1, 3, &mut one)?;
+    sized(rt, "width 1", 1, 2, 3, &mut two)
 }
 
 // One row, in a room of any length.
-fn lent(rt: &impl Print, name: &[u8], w: usize, mode: u8, room: &mut [f32]) -> io::Result<()> {
+fn lent(rt: &impl Print, name: &str, w: usize, mode: u8, room: &mut [f32]) -> io::Result<()> {
     let mut xs = [0.0f32; 6];
     let mut stencil = [255u8; 2];
-    let t = run::with(w, 1, 3, mode, run::all(0.25));
+    let t = Task::new(w, 1, 3, mode, run::all(0.25));
     run::lent(rt, name, t, &mut xs, &mut stencil, room, &[], &[], &[])
 }
 
 pub fn rooms(rt: &impl Print) -> io::Result<()> {
     let mut three = [1.0f32; 3];
-    lent(rt, b"room too short", 2, 1, &mut three)?;
-    lent(rt, b"room too short, samples too many", 1, 1, &mut three)?;
-    lent(rt, b"room too short, mode 4", 2, 4, &mut three)?;
+    lent(rt, "room too short", 2, 1, &mut three)?;
+    lent(rt, "room too short, samples too many", 1, 1, &mut three)?;
+    lent(rt, "room too short, mode 4", 2, 4, &mut three)?;
     let mut none = [1.0f32; 0];
-    lent(rt, b"no room, disabled", 2, 0, &mut none)?;
+    lent(rt, "no room, disabled", 2, 0, &mut none)?;
     let mut four = [1.0f32; 4];
-    lent(rt, b"room for two rows", 2, 1, &mut four)
+    lent(rt, "room for two rows", 2, 1, &mut four)
 }
 
 fn set(
     rt: &impl Print,
-    name: &[u8],
+    name: &str,
     mode: u8,
     ratio: f64,
     horizontal: f64,
@@ -68,10 +69,10 @@ fn set(
     diagonal: f64,
 ) -> io::Result<()> {
     let s = Settings {
-        ratio: ratio,
-        horizontal: horizontal,
-        vertical: vertical,
-        diagonal: diagonal,
+        ratio,
+        horizontal,
+        vertical,
+        diagonal,
     };
     run::pair(rt, name, [0.0; 6], mode, s)
 }
@@ -79,14 +80,14 @@ fn set(
 pub fn settings(rt: &impl Print) -> io::Result<()> {
     let nan = 0.0f64 / 0.0;
     let infinity = 1.0f64 / 0.0;
-    set(rt, b"mode 4", 4, nan, 1.0, 1.0, 1.0)?;
-    set(rt, b"ratio NaN", 1, nan, -1.0, 1.0, 1.0)?;
-    set(rt, b"horizontal below 0", 1, 1.0, -0.5, 1.0, 1.0)?;
-    set(rt, b"vertical above the limit", 1, 1.0, 1.0, 1048576.5, 1.0)?;
-    set(rt, b"diagonal infinite", 1, 1.0, 1.0, 1.0, infinity)?;
+    set(rt, "mode 4", 4, nan, 1.0, 1.0, 1.0)?;
+    set(rt, "ratio NaN", 1, nan, -1.0, 1.0, 1.0)?;
+    set(rt, "horizontal below 0", 1, 1.0, -0.5, 1.0, 1.0)?;
+    set(rt, "vertical above the limit", 1, 1.0, 1.0, 1048576.5, 1.0)?;
+    set(rt, "diagonal infinite", 1, 1.0, 1.0, 1.0, infinity)?;
     set(
         rt,
-        b"disabled, diagonal infinite",
+        "disabled, diagonal infinite",
         0,
         1.0,
         1.0,
@@ -100,35 +101,35 @@ pub fn samples(rt: &impl Print) -> io::Result<()> {
     let infinity = 1.0f32 / 0.0;
     run::pair(
         rt,
-        b"sample 4 NaN",
+        "sample 4 NaN",
         [0.0, 0.0, 0.0, 0.0, nan, nan],
         1,
         run::all(0.0),
     )?;
     run::pair(
         rt,
-        b"sample 0 infinite",
+        "sample 0 infinite",
         [infinity, 0.0, 0.0, 0.0, 0.0, 0.0],
         1,
         run::all(0.0),
     )?;
     run::pair(
         rt,
-        b"sample 5 above the limit",
+        "sample 5 above the limit",
         [1048576.0, 0.0, 0.0, 0.0, 0.0, 1048576.125],
         1,
         run::all(0.0),
     )?;
     run::pair(
         rt,
-        b"sample 2 below the limit",
+        "sample 2 below the limit",
         [0.0, 0.0, -1048576.125, 0.0, 0.0, 0.0],
         1,
         run::all(0.0),
     )?;
     run::pair(
         rt,
-        b"samples at the limit",
+        "samples at the limit",
         [1048576.0, -1048576.0, 0.0, 0.0, 0.0, 0.0],
         0,
         run::all(0.0),
@@ -138,29 +139,29 @@ pub fn samples(rt: &impl Print) -> io::Result<()> {
 pub fn outlines(rt: &impl Print) -> io::Result<()> {
     let nan = 0.0f64 / 0.0;
     let infinity = 1.0f64 / 0.0;
-    run::outlines(rt, b"coordinates too few", &[1, 1], &[0.0, 0.0, 1.0], &[2])?;
+    run::outlines(rt, "coordinates too few", &[1, 1], &[0.0, 0.0, 1.0], &[2])?;
     run::outlines(
         rt,
-        b"coordinates too many",
+        "coordinates too many",
         &[1],
         &[0.0, 0.0, 1.0, 1.0],
         &[1],
     )?;
-    run::ending(rt, b"first end too far", &[3, 2])?;
-    run::ending(rt, b"second end below the first", &[1, 0])?;
-    run::ending(rt, b"last end too near", &[0, 1])?;
-    run::ending(rt, b"no ends", &[])?;
-    run::outlines(rt, b"colour 8", &[1, 8], &[0.0, 0.0, nan, 0.0], &[2])?;
+    run::ending(rt, "first end too far", &[3, 2])?;
+    run::ending(rt, "second end below the first", &[1, 0])?;
+    run::ending(rt, "last end too near", &[0, 1])?;
+    run::ending(rt, "no ends", &[])?;
+    run::outlines(rt, "colour 8", &[1, 8], &[0.0, 0.0, nan, 0.0], &[2])?;
     run::outlines(
         rt,
-        b"coordinate NaN",
+        "coordinate NaN",
         &[1, 1, 1],
         &[0.0, 0.0, 1.0, nan, nan, 0.0],
         &[3],
     )?;
-    run::point(rt, b"coordinate infinite", 1.0, -infinity)?;
-    run::point(rt, b"point (1048576.5,1)", 1048576.5, 1.0)?;
-    run::point(rt, b"point (1,-1048576.5)", 1.0, -1048576.5)
+    run::point(rt, "coordinate infinite", 1.0, -infinity)?;
+    run::point(rt, "point (1048576.5,1)", 1048576.5, 1.0)?;
+    run::point(rt, "point (1,-1048576.5)", 1.0, -1048576.5)
 }
 
 // As many segments as check 7 lets through, and one more.
@@ -169,10 +170,10 @@ pub fn many(rt: &impl Print) -> io::Result<()> {
     let coords = [0.0f64; 131074];
     run::outlines(
         rt,
-        b"65536 segments",
+        "65536 segments",
         &colours[..65536],
         &coords[..131072],
         &[65536],
     )?;
-    run::outlines(rt, b"65537 segments", &colours, &coords, &[65537])
+    run::outlines(rt, "65537 segments", &colours, &coords, &[65537])
 }

@@ -2,106 +2,109 @@
 use correction::pass::Answer;
 use ground::bytes;
 use inputs::sizes::Bitmap;
-use std::io;
-
-fn text(rt: &impl Print, s: &[u8]) -> io::Result<()> {
-    rt.write_all(s)
-}
-
-fn number(rt: &impl Print, n: u64) -> io::Result<()> {
-    print!(rt; " {n}")
-}
+use std::{fmt, io};
 
 // The number, the place, the three counts and the number of range tests.
-fn answer(rt: &impl Print, a: Answer) -> io::Result<()> {
-    match a {
-        Answer::Accepted(c, t) => {
-            text(rt, b" 0 0")?;
-            number(rt, c.protected as u64)?;
-            number(rt, c.error as u64)?;
-            number(rt, c.corner as u64)?;
-            number(rt, t as u64)
-        }
-        Answer::Refused(n, p) => {
-            number(rt, n as u64)?;
-            number(rt, p as u64)?;
-            text(rt, b" 0 0 0 0")
+#[derive(Clone, Copy)]
+struct Answered(Answer);
+
+impl fmt::Display for Answered {
+    fn fmt<W: fmt::Write>(&self, f: &mut fmt::Formatter<W>) -> fmt::Result {
+        match self.0 {
+            Answer::Accepted(c, t) => write!(
+                f,
+                " 0 0 {} {} {} {t}",
+                c.protected, c.error, c.corner
+            ),
+            Answer::Refused(n, p) => write!(f, " {n} {p} 0 0 0 0"),
         }
     }
 }
 
 // A stencil cell: `?` where it has none of the pass's bytes.
-fn cell(rt: &impl Print, v: u8) -> io::Result<()> {
+fn mark(v: u8) -> char {
     match v {
-        0 => text(rt, b"."),
-        1 => text(rt, b"E"),
-        2 => text(rt, b"P"),
-        3 => text(rt, b"B"),
-        6 => text(rt, b"C"),
-        7 => text(rt, b"D"),
-        _ => text(rt, b"?"),
+        0 => '.',
+        1 => 'E',
+        2 => 'P',
+        3 => 'B',
+        6 => 'C',
+        7 => 'D',
+        _ => '?',
     }
 }
 
-fn cells(rt: &impl Print, stencil: &[u8], w: usize) -> io::Result<()> {
-    if w == 0 {
-        return Ok(());
-    }
-    for k in 0..stencil.len() {
-        if k % w == 0 {
-            text(rt, b" ")?;
+// The rows of a stencil, where a row has cells.
+#[derive(Clone, Copy)]
+struct Cells<'a> {
+    stencil: &'a [u8],
+    width: usize,
+}
+
+impl<'a> fmt::Display for Cells<'a> {
+    fn fmt<W: fmt::Write>(&self, f: &mut fmt::Formatter<W>) -> fmt::Result {
+        if self.width == 0 {
+            return Ok(());
         }
-        cell(rt, stencil[k])?;
+        for row in self.stencil.chunks(self.width) {
+            f.write_char(' ')?;
+            for v in row {
+                f.write_char(mark(*v))?;
+            }
+        }
+        Ok(())
     }
-    Ok(())
 }
 
 // One of the pass's bytes, with an error.
 fn is_flagged(v: u8) -> bool {
-    match v {
-        1 => true,
-        3 => true,
-        7 => true,
-        _ => false,
-    }
+    matches!(v, 1 | 3 | 7)
 }
 
-fn sample(rt: &impl Print, flagged: bool, v: f32) -> io::Result<()> {
-    if !flagged {
-        return Ok(());
-    }
-    if v != v {
-        return text(rt, b" NaN");
-    }
-    let bits = bytes::bits_of_float32(v);
-    print!(rt; " {bits:08x}")
+// The samples of each flagged texel, where a texel has some.
+#[derive(Clone, Copy)]
+struct Samples<'a> {
+    stencil: &'a [u8],
+    samples: &'a [f32],
+    channels: usize,
 }
 
-fn samples(rt: &impl Print, stencil: &[u8], xs: &[f32], ch: usize) -> io::Result<()> {
-    if ch == 0 {
-        return Ok(());
-    }
-    for j in 0..xs.len() {
-        let k = j / ch;
-        if k < stencil.len() {
-            sample(rt, is_flagged(stencil[k]), xs[j])?;
+impl<'a> fmt::Display for Samples<'a> {
+    fn fmt<W: fmt::Write>(&self, f: &mut fmt::Formatter<W>) -> fmt::Result {
+        if self.channels == 0 {
+            return Ok(());
         }
+        for (v, texel) in self.stencil.iter().zip(self.samples.chunks(self.channels)) {
+            if is_flagged(*v) {
+                for x in texel {
+                    if x.is_nan() {
+                        f.write_str(" NaN")?;
+                    } else {
+                        write!(f, " {:08x}", bytes::bits_of_float32(*x))?;
+                    }
+                }
+            }
+        }
+        Ok(())
     }
-    Ok(())
 }
 
 pub fn line(
     rt: &impl Print,
-    name: &[u8],
+    name: &str,
     a: Answer,
     stencil: &[u8],
-    xs: &[f32],
+    samples: &[f32],
     b: Bitmap,
 ) -> io::Result<()> {
-    text(rt, name)?;
-    text(rt, b":")?;
-    answer(rt, a)?;
-    cells(rt, stencil, b.width)?;
-    samples(rt, stencil, xs, b.channels)?;
-    text(rt, b"\n")
+    let cells = Cells {
+        stencil,
+        width: b.width,
+    };
+    let flagged = Samples {
+        stencil,
+        samples,
+        channels: b.channels,
+    };
+    println!(rt; "{name}:{}{cells}{flagged}", Answered(a))
 }

@@ -105,8 +105,8 @@ fn mark_contour(
     end: usize,
 )
     requires celled { Celled b.width b.height stencil.old }
-    requires coords_len { (length coords.now ≡ 2 * length colours.now) × (length colours.now ≤ 65536) }
-    requires from_le_end { (from ≤ end) × (end ≤ length colours.now) }
+    requires paired { (length coords.now ≡ 2 * length colours.now) × (length colours.now ≤ 65536) }
+    requires within { (from ≤ end) × (end ≤ length colours.now) }
     ensures { stencil.new ≡ painted Inner.corner (λ k. contour_hits colours.now coords.now from end (k % b.width) (k / b.width)) stencil.old }
 {
     let mut last = last_colour(colours, from, end);

@@ -49,7 +49,7 @@ fn pair_protects(r: f32, a: [f32; 3], b: [f32; 3], c: [f32; 3]) -> bool
 // Texel x, y as the lower one of a pair with nx, ny, where that is a texel.
 fn as_lower(xs: &[f32], b: Bitmap, r: f32, x: usize, y: usize, nx: usize, ny: usize) -> bool
     requires sized { Sized b.width b.height b.channels xs.now }
-    requires x_lt_width { (x < b.width) × (y < b.height) }
+    requires inside { (x < b.width) × (y < b.height) }
     ensures { result ≡ Inner.lower_with (texel xs.now b.width b.channels) b.width b.height r x y nx ny }
 {
     if texels::is_texel(b, nx, ny) {
@@ -63,7 +63,7 @@ fn as_lower(xs: &[f32], b: Bitmap, r: f32, x: usize, y: usize, nx: usize, ny: us
 // Texel x, y as the other one.
 fn as_upper(xs: &[f32], b: Bitmap, r: f32, x: usize, y: usize, nx: usize, ny: usize) -> bool
     requires sized { Sized b.width b.height b.channels xs.now }
-    requires x_lt_width { (x < b.width) × (y < b.height) }
+    requires inside { (x < b.width) × (y < b.height) }
     ensures { result ≡ Inner.upper_with (texel xs.now b.width b.channels) b.width b.height r x y nx ny }
 {
     if texels::is_texel(b, nx, ny) {
@@ -77,7 +77,7 @@ fn as_upper(xs: &[f32], b: Bitmap, r: f32, x: usize, y: usize, nx: usize, ny: us
 // The pairs in which it is the lower one: with the right, the upper, the upper right and the upper left texel.
 fn some_lower(xs: &[f32], b: Bitmap, s: Settings, x: usize, y: usize) -> bool
     requires sized { Sized b.width b.height b.channels xs.now }
-    requires x_lt_width { (x < b.width) × (y < b.height) }
+    requires inside { (x < b.width) × (y < b.height) }
     ensures { result ≡ Edges.some_lower (texel xs.now b.width b.channels) b.width b.height (Config.radius s.horizontal) (Config.radius s.vertical) (Config.radius s.diagonal) x y }
 {
     let across = radius(s.diagonal);
@@ -91,7 +91,7 @@ fn some_lower(xs: &[f32], b: Bitmap, s: Settings, x: usize, y: usize) -> bool
 // The pairs in which it is the other one: with the left, the lower, the lower left and the lower right texel.
 fn some_upper(xs: &[f32], b: Bitmap, s: Settings, x: usize, y: usize) -> bool
     requires sized { Sized b.width b.height b.channels xs.now }
-    requires x_lt_width { (x < b.width) × (y < b.height) }
+    requires inside { (x < b.width) × (y < b.height) }
     ensures { result ≡ Edges.some_upper (texel xs.now b.width b.channels) b.width b.height (Config.radius s.horizontal) (Config.radius s.vertical) (Config.radius s.diagonal) x y }
 {
     let across = radius(s.diagonal);
@@ -107,7 +107,7 @@ fn some_upper(xs: &[f32], b: Bitmap, s: Settings, x: usize, y: usize) -> bool
 // Some pair protects it.
 pub fn is_at_edge(xs: &[f32], b: Bitmap, s: Settings, x: usize, y: usize) -> bool
     requires sized { Sized b.width b.height b.channels xs.now }
-    requires x_lt_width { (x < b.width) × (y < b.height) }
+    requires inside { (x < b.width) × (y < b.height) }
     ensures { result ≡ Edges.edges_protect (texel xs.now b.width b.channels) b.width b.height s x y }
 {
     let lower = some_lower(xs, b, s, x, y);

@@ -23,7 +23,7 @@ fn towards_side(
     ny: usize,
 ) -> bool
     requires sized { Sized b.width b.height b.channels xs.now }
-    requires x_lt_width { (x < b.width) × (y < b.height) }
+    requires inside { (x < b.width) × (y < b.height) }
     ensures { result ≡ Inner.towards_side (texel xs.now b.width b.channels) b.width b.height k.span k.protected x y nx ny }
 {
     if texels::is_texel(b, nx, ny) {
@@ -45,7 +45,7 @@ fn towards_across(
     ny: usize,
 ) -> bool
     requires sized { Sized b.width b.height b.channels xs.now }
-    requires x_lt_width { (x < b.width) × (y < b.height) }
+    requires inside { (x < b.width) × (y < b.height) }
     ensures { result ≡ Inner.towards_across (texel xs.now b.width b.channels) b.width b.height k.span k.protected x y nx ny }
 {
     if texels::is_texel(b, nx, ny) {
@@ -61,7 +61,7 @@ fn towards_across(
 // The four texels beside it.
 fn some_side(xs: &[f32], b: Bitmap, s: Settings, protected: bool, x: usize, y: usize) -> bool
     requires sized { Sized b.width b.height b.channels xs.now }
-    requires x_lt_width { (x < b.width) × (y < b.height) }
+    requires inside { (x < b.width) × (y < b.height) }
     ensures { result ≡ Errors.some_side (texel xs.now b.width b.channels) b.width b.height (side_span s false) (side_span s true) protected (texel_median (texel xs.now b.width b.channels x y)) (texel xs.now b.width b.channels x y) x y }
 {
     let row = Classifier {
@@ -82,7 +82,7 @@ fn some_side(xs: &[f32], b: Bitmap, s: Settings, protected: bool, x: usize, y: u
 // The four texels across.
 fn some_across(xs: &[f32], b: Bitmap, s: Settings, protected: bool, x: usize, y: usize) -> bool
     requires sized { Sized b.width b.height b.channels xs.now }
-    requires x_lt_width { (x < b.width) × (y < b.height) }
+    requires inside { (x < b.width) × (y < b.height) }
     ensures { result ≡ Errors.some_diagonal (texel xs.now b.width b.channels) b.width b.height (diagonal_span s) protected (texel_median (texel xs.now b.width b.channels x y)) (texel xs.now b.width b.channels x y) x y }
 {
     let k = Classifier {
@@ -103,7 +103,7 @@ fn some_across(xs: &[f32], b: Bitmap, s: Settings, protected: bool, x: usize, y:
 // All eight.
 pub fn has_artifact(xs: &[f32], b: Bitmap, s: Settings, protected: bool, x: usize, y: usize) -> bool
     requires sized { Sized b.width b.height b.channels xs.now }
-    requires x_lt_width { (x < b.width) × (y < b.height) }
+    requires inside { (x < b.width) × (y < b.height) }
     ensures { result ≡ Errors.has_artifact (texel xs.now b.width b.channels) b.width b.height s protected x y }
 {
     let sides = some_side(xs, b, s, protected, x, y);

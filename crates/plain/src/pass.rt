@@ -38,7 +38,7 @@ fn byte(corner: bool, protected: bool, error: bool) -> u8
 // The byte of texel x, y, where `corner` says whether a corner protects it.
 fn byte_at(xs: &[f32], b: Bitmap, mode: u8, s: Settings, corner: bool, x: usize, y: usize) -> u8
     requires sized { Sized b.width b.height b.channels xs.now }
-    requires x_lt_width { (x < b.width) × (y < b.height) }
+    requires inside { (x < b.width) × (y < b.height) }
     ensures { result ≡ Inner.byte_by (texel xs.now b.width b.channels) b.width b.height mode s corner x y }
 {
     let edge = edges::is_at_edge(xs, b, s, x, y);

@@ -23,7 +23,7 @@ pub fn is_texel(b: Bitmap, x: usize, y: usize) -> bool
 // The first three channels of texel x, y.
 pub fn texel(xs: &[f32], b: Bitmap, x: usize, y: usize) -> [f32; 3]
     requires sized { Sized b.width b.height b.channels xs.now }
-    requires x_lt_width { (x < b.width) × (y < b.height) }
+    requires inside { (x < b.width) × (y < b.height) }
     ensures { result ≡ Rules.texel xs.now b.width b.channels x y }
 {
     let at = (y * b.width + x) * b.channels;

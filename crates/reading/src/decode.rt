@@ -76,7 +76,7 @@ pub fn decode_outline(
     ends: &mut [usize],
 )
     requires outlined { Outlined s.now end k n }
-    requires n_in_bounds { (n ≤ length colours.old) × (2 * n ≤ length coords.old) × (k ≤ length ends.old) }
+    requires room { (n ≤ length colours.old) × (2 * n ≤ length coords.old) × (k ≤ length ends.old) }
     ensures { Decoded s.now k n colours.old colours.new coords.old coords.new ends.old ends.new }
 {
     let mut last = 0usize;

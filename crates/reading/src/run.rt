@@ -90,7 +90,7 @@ pub fn answer_case<E: Engine>(
     ends: &mut [usize],
 ) -> usize
     requires whole { Inner.Whole s.now l.rows l.contours l.segments }
-    requires in_bounds { (131072 ≤ length out.old) × (0 < channels s.now) }
+    requires room { (131072 ≤ length out.old) × (0 < channels s.now) }
     requires lent { Inner.Lent samples.old stencil.old colours.old coords.old ends.old }
     ensures { Written out.old 0 (Inner.judged_text (Answers.case_of s.now) (Inner.judged E.plainly (Answers.case_of s.now))) result out.new }
 {

@@ -225,8 +225,8 @@ fn put_texel(out: &mut [u8], at: usize, x: usize, y: usize, m: Middle) -> usize
 
 // Cell k, where it is flagged; xs has its texel as it was before the pass.
 fn put_flagged(out: &mut [u8], at: usize, st: &[u8], xs: &[f32], b: Bitmap, k: usize) -> usize
-    requires at_in_bounds { (at + 26 ≤ length out.old) × (k < length st.now) }
-    requires channels_in_bounds { (k * b.channels + 2 < length xs.now) × (0 < b.width) × (k < 100000) }
+    requires room { (at + 26 ≤ length out.old) × (k < length st.now) }
+    requires texels { (k * b.channels + 2 < length xs.now) × (0 < b.width) × (k < 100000) }
     ensures { Written out.old at (Text.flagged_text b.width st.now (cell_texel xs.now b.channels) k) result out.new }
 {
     if stencil::is_error(st[k]) {
@@ -239,8 +239,8 @@ fn put_flagged(out: &mut [u8], at: usize, st: &[u8], xs: &[f32], b: Bitmap, k: u
 
 // Each flagged texel, row by row.
 fn put_texels(out: &mut [u8], at: usize, st: &[u8], xs: &[f32], b: Bitmap) -> usize
-    requires height_in_bounds { (at + 26 * (b.width * b.height) ≤ length out.old) × (b.width * b.height ≤ length st.now) }
-    requires channels_in_bounds { (b.width * b.height * b.channels ≤ length xs.now) × (3 ≤ b.channels) × (0 < b.width) × (b.width * b.height ≤ 100000) }
+    requires room { (at + 26 * (b.width * b.height) ≤ length out.old) × (b.width * b.height ≤ length st.now) }
+    requires texels { (b.width * b.height * b.channels ≤ length xs.now) × (3 ≤ b.channels) × (0 < b.width) × (b.width * b.height ≤ 100000) }
     ensures { Written out.old at (joined (b.width * b.height) (Text.flagged_text b.width st.now (cell_texel xs.now b.channels))) result out.new }
 {
     let n = b.width * b.height;
@@ -260,8 +260,8 @@ pub fn put_accepted(
     st: &[u8],
     xs: &[f32],
 ) -> usize
-    requires width_nonzero { (0 < b.width) × (3 ≤ b.channels) × (b.height ≤ 4096) × (b.width * b.height ≤ 4096) }
-    requires height_in_bounds { (b.width * b.height ≤ length st.now) × (b.width * b.height * b.channels ≤ length xs.now) × (131072 ≤ length out.old) }
+    requires sizes { (0 < b.width) × (3 ≤ b.channels) × (b.height ≤ 4096) × (b.width * b.height ≤ 4096) }
+    requires room { (b.width * b.height ≤ length st.now) × (b.width * b.height * b.channels ≤ length xs.now) × (131072 ≤ length out.old) }
     ensures { Written out.old 0 (Text.accepted_with b.width b.height b.channels (counts_line c tests) st.now (cell_texel xs.now b.channels)) result out.new }
 {
     let counts = put_size(out, 0, b);

@@ -24,23 +24,27 @@ pub fn is_answer(list: &[u8], at: usize, a: Answer) -> bool
     match a {
         Answer::Accepted(c, t) => {
             number == 0
-                && (place == 0
-                    && (protected == c.protected as u64
-                        && (error == c.error as u64 && (corner == c.corner as u64 && tests == t))))
+                && place == 0
+                && protected == c.protected as u64
+                && error == c.error as u64
+                && corner == c.corner as u64
+                && tests == t
         }
         Answer::Refused(n, p) => {
             number == n
-                && (place == p as u64
-                    && (protected == 0 && (error == 0 && (corner == 0 && tests == 0))))
+                && place == p as u64
+                && protected == 0
+                && error == 0
+                && corner == 0
+                && tests == 0
         }
     }
 }
 
 // The same bits, or a NaN on both sides.
 pub fn is_sample(bits: u32, x: f32) -> bool {
-    if x != x {
-        let y = bytes::float_of_bits32(bits);
-        return y != y;
+    if x.is_nan() {
+        return bytes::float_of_bits32(bits).is_nan();
     }
     bits == bytes::bits_of_float32(x)
 }
@@ -48,23 +52,14 @@ pub fn is_sample(bits: u32, x: f32) -> bool {
 pub fn are_samples(list: &[u8], at: usize, xs: &[f32]) -> bool
     requires { at + 4 * length xs.now < 900000 }
 {
-    let mut i = 0usize;
-    while i < xs.len() {
-        if !is_sample(bytes::be32(list, at + 4 * i), xs[i]) {
-            return false;
-        }
-        i += 1;
-    }
-    true
+    xs.iter()
+        .enumerate()
+        .all(|(i, x)| is_sample(bytes::be32(list, at + 4 * i), *x))
 }
 
 pub fn are_cells(list: &[u8], at: usize, cells: &[u8]) -> bool {
-    let mut i = 0usize;
-    while i < cells.len() {
-        if bytes::byte_from(list, at, i) != cells[i] {
-            return false;
-        }
-        i += 1;
-    }
-    true
+    cells
+        .iter()
+        .enumerate()
+        .all(|(i, v)| bytes::byte_from(list, at, i) == *v)
 }

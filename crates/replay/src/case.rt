@@ -1,6 +1,6 @@
 // One case of the list: what it holds and where, and its run.
-ghost use Rattle.std.specs.Prelude.{◌≤◌, length, ◌≡◌, true};
-ghost use Rattle.replay.specs.Inner.{Sized};
+ghost use Rattle.std.specs.Prelude.{◌≤◌, length, IsTrue};
+ghost use Rattle.replay.specs.Inner.{Roomy};
 
 use crate::{answer, number};
 use correction::pass;
@@ -8,7 +8,7 @@ use correction::pass::Answer;
 use ground::bytes;
 use ranges::config::Settings;
 
-// Where a case begins, and how many samples, cells, colours, coordinates and ends it holds.
+// Where a case begins, and how many samples, cells, colours, coordinates and ends it holds: one more than there is room for stands for all numbers that are larger.
 #[derive(Clone, Copy)]
 pub struct Case {
     pub at: usize,
@@ -17,111 +17,90 @@ pub struct Case {
     pub colours: usize,
     pub coords: usize,
     pub ends: usize,
+    ghost begins: { at ≤ 262144 },
+    ghost bounded: { (samples ≤ 65) × (cells ≤ 65) × (colours ≤ 65) × (coords ≤ 65) × (ends ≤ 65) },
 }
 
-// A number of things; one more than there is room for stands for all that are larger.
+// A number of things.
 fn count(list: &[u8], at: usize) -> usize
     ensures { result ≤ 65 }
 {
-    let n = bytes::be64(list, at);
-    if n > 64 {
-        return 65;
-    }
-    n as usize
+    bytes::be64(list, at).min(65) as usize
 }
 
-// The case that begins at a place of the list.
-pub fn read(list: &[u8], at: usize) -> Case
-    requires { at ≤ 262144 }
-    ensures { Sized 65 result }
-{
-    let samples = count(list, at + 57);
-    let after = at + 65 + 4 * samples;
-    let cells = count(list, after);
-    let after = after + 8 + cells;
-    let colours = count(list, after);
-    let after = after + 8 + colours;
-    let coords = count(list, after);
-    let after = after + 8 + 8 * coords;
-    let ends = count(list, after);
-    Case {
-        at: at,
-        samples: samples,
-        cells: cells,
-        colours: colours,
-        coords: coords,
-        ends: ends,
+impl Case {
+    // The case that begins at a place of the list.
+    pub fn read(list: &[u8], at: usize) -> Case
+        requires { at ≤ 262144 }
+    {
+        let samples = count(list, at + 57);
+        let after = at + 65 + 4 * samples;
+        let cells = count(list, after);
+        let after = after + 8 + cells;
+        let colours = count(list, after);
+        let after = after + 8 + colours;
+        let coords = count(list, after);
+        let after = after + 8 + 8 * coords;
+        let ends = count(list, after);
+        Case {
+            at,
+            samples,
+            cells,
+            colours,
+            coords,
+            ends,
+        }
     }
-}
 
-// Where the cells, the colours, the coordinates, the ends and the answer begin, the first four each after their number.
-fn cells_at(c: Case) -> usize
-    requires { Sized 65 c }
-    ensures { result ≤ 300000 }
-{
-    c.at + 73 + 4 * c.samples
-}
-
-fn colours_at(c: Case) -> usize
-    requires { Sized 65 c }
-    ensures { result ≤ 300000 }
-{
-    c.at + 81 + 4 * c.samples + c.cells
-}
-
-fn coords_at(c: Case) -> usize
-    requires { Sized 65 c }
-    ensures { result ≤ 300000 }
-{
-    c.at + 89 + 4 * c.samples + c.cells + c.colours
-}
-
-fn ends_at(c: Case) -> usize
-    requires { Sized 65 c }
-    ensures { result ≤ 310000 }
-{
-    coords_at(c) + 8 + 8 * c.coords
-}
-
-fn answer_at(c: Case) -> usize
-    requires { Sized 65 c }
-    ensures { result ≤ 320000 }
-{
-    ends_at(c) + 8 * c.ends
-}
-
-// Where the next case begins.
-pub fn end(c: Case) -> usize
-    requires { Sized 65 c }
-    ensures { result ≤ 330000 }
-{
-    answer_at(c) + 41 + 4 * c.samples + c.cells
-}
-
-// Whether it ends within the list, and there is room for what it holds.
-pub fn has_room(c: Case, next: usize, size: usize) -> bool
-    requires { Sized 65 c }
-    ensures { result ≡ true → (next ≤ size) × Sized 64 c }
-{
-    if next > size {
-        return false;
+    // Where the cells, the colours, the coordinates, the ends and the answer begin, the first four each after their number.
+    fn cells_at(self) -> usize
+        ensures { result ≤ 300000 }
+    {
+        self.at + 73 + 4 * self.samples
     }
-    if c.samples > 64 {
-        return false;
+
+    fn colours_at(self) -> usize
+        ensures { result ≤ 300000 }
+    {
+        self.at + 81 + 4 * self.samples + self.cells
     }
-    if c.cells > 64 {
-        return false;
+
+    fn coords_at(self) -> usize
+        ensures { result ≤ 300000 }
+    {
+        self.at + 89 + 4 * self.samples + self.cells + self.colours
     }
-    if c.colours > 64 {
-        return false;
+
+    fn ends_at(self) -> usize
+        ensures { result ≤ 310000 }
+    {
+        self.coords_at() + 8 + 8 * self.coords
     }
-    if c.coords > 64 {
-        return false;
+
+    fn answer_at(self) -> usize
+        ensures { result ≤ 320000 }
+    {
+        self.ends_at() + 8 * self.ends
     }
-    if c.ends > 64 {
-        return false;
+
+    // Where the next case begins.
+    pub fn end(self) -> usize
+        ensures { result ≤ 330000 }
+    {
+        self.answer_at() + 41 + 4 * self.samples + self.cells
     }
-    true
+
+    // Whether it ends within the list, and there is room for what it holds.
+    pub fn has_room(self, next: usize, size: usize) -> bool
+        ensures { IsTrue result → (next ≤ size) × Roomy self.samples self.cells self.colours self.coords self.ends }
+    {
+        next <= size
+            && self.samples <= 64
+            && self.cells <= 64
+            && self.colours <= 64
+            && self.coords <= 64
+            && self.ends <= 64
+    }
 }
 
 // The ratio and the three lengths.
@@ -146,102 +125,154 @@ fn load(
     coords: &mut [f64],
     ends: &mut [usize],
 )
-    requires sized { Sized 65 c }
-    requires samples_len_bound { (length samples.old ≤ 64) × (length cells.old ≤ 64) × (length colours.old ≤ 64) × (length coords.old ≤ 64) × (length ends.old ≤ 64) }
+    requires { (length samples.old ≤ 64) × (length cells.old ≤ 64) × (length colours.old ≤ 64) × (length coords.old ≤ 64) × (length ends.old ≤ 64) }
 {
-    number::singles(list, c.at + 65, samples);
-    number::bytes(list, cells_at(c), cells);
-    number::bytes(list, colours_at(c), colours);
-    number::doubles(list, coords_at(c), coords);
-    number::words(list, ends_at(c), ends);
+    let (samples_at, cells_at, colours_at) = (c.at + 65, c.cells_at(), c.colours_at());
+    let (coords_at, ends_at) = (c.coords_at(), c.ends_at());
+    number::fill(samples, |i| bytes::f32_at(list, samples_at + 4 * i));
+    number::fill(cells, |i| bytes::byte_from(list, cells_at, i));
+    number::fill(colours, |i| bytes::byte_from(list, colours_at, i));
+    number::fill(coords, |i| bytes::f64_at(list, coords_at + 8 * i));
+    number::fill(ends, |i| bytes::be64(list, ends_at + 8 * i) as usize);
 }
 
-// The plain engine's answer with this number of range tests, which it does not count.
-fn counted(a: plain::pass::Answer, tests: usize) -> Answer {
-    match a {
-        plain::pass::Answer::Accepted(c) => Answer::Accepted(c, tests),
-        plain::pass::Answer::Refused(n, p) => Answer::Refused(n, p),
+// An engine: it does the pass in place, and answers with the number of range tests, or, where it counts none, with the list's.
+pub trait Engine {
+    fn correct(
+        list_tests: usize,
+        width: usize,
+        height: usize,
+        channels: usize,
+        samples: &mut [f32],
+        cells: &mut [u8],
+        room: &mut [f32],
+        mode: u8,
+        s: Settings,
+        colours: &[u8],
+        coords: &[f64],
+        ends: &[usize],
+    ) -> Answer;
+}
+
+// The first engine, the pass.
+pub struct First;
+
+impl Engine for First {
+    fn correct(
+        _list_tests: usize,
+        width: usize,
+        height: usize,
+        channels: usize,
+        samples: &mut [f32],
+        cells: &mut [u8],
+        room: &mut [f32],
+        mode: u8,
+        s: Settings,
+        colours: &[u8],
+        coords: &[f64],
+        ends: &[usize],
+    ) -> Answer {
+        pass::msdf_error_correction(
+            width, height, channels, samples, cells, room, mode, s, colours, coords, ends,
+        )
     }
 }
 
-// Runs a case, by the plain engine where it is asked for, which answers the list's number of range tests. 64 samples are at most 21 texels a row.
-fn correct(
+// The plain engine.
+pub struct Plain;
+
+impl Engine for Plain {
+    fn correct(
+        list_tests: usize,
+        width: usize,
+        height: usize,
+        channels: usize,
+        samples: &mut [f32],
+        cells: &mut [u8],
+        room: &mut [f32],
+        mode: u8,
+        s: Settings,
+        colours: &[u8],
+        coords: &[f64],
+        ends: &[usize],
+    ) -> Answer {
+        match plain::pass::plain_error_correction(
+            width, height, channels, samples, cells, room, mode, s, colours, coords, ends,
+        ) {
+            plain::pass::Answer::Accepted(c) => Answer::Accepted(c, list_tests),
+            plain::pass::Answer::Refused(n, p) => Answer::Refused(n, p),
+        }
+    }
+}
+
+// Runs a case. 64 samples are at most 21 texels a row.
+fn correct<E: Engine>(
     list: &[u8],
     c: Case,
-    plain: bool,
     samples: &mut [f32],
     cells: &mut [u8],
     colours: &[u8],
     coords: &[f64],
     ends: &[usize],
-) -> Answer
-    requires { Sized 65 c }
-{
-    let at = c.at;
-    let width = bytes::be64(list, at) as usize;
-    let height = bytes::be64(list, at + 8) as usize;
-    let channels = bytes::be64(list, at + 16) as usize;
-    let mode = bytes::byte_from(list, at, 24);
-    let s = settings(list, at);
+) -> Answer {
     let mut room = [1.0f32; 42];
-    if plain {
-        let tests = answer::tests(list, answer_at(c));
-        return counted(
-            plain::pass::plain_error_correction(
-                width, height, channels, samples, cells, &mut room, mode, s, colours, coords, ends,
-            ),
-            tests,
-        );
-    }
-    pass::msdf_error_correction(
-        width, height, channels, samples, cells, &mut room, mode, s, colours, coords, ends,
+    E::correct(
+        answer::tests(list, c.answer_at()),
+        bytes::be64(list, c.at) as usize,
+        bytes::be64(list, c.at + 8) as usize,
+        bytes::be64(list, c.at + 16) as usize,
+        samples,
+        cells,
+        &mut room,
+        bytes::byte_from(list, c.at, 24),
+        settings(list, c.at),
+        colours,
+        coords,
+        ends,
     )
 }
 
 // Whether an answer, the samples and the cells afterwards are the list's.
 fn is_right(list: &[u8], c: Case, a: Answer, samples: &[f32], cells: &[u8]) -> bool
-    requires sized { Sized 65 c }
-    requires samples_len_bound { (length samples.now ≤ 64) × (length cells.now ≤ 64) }
+    requires { (length samples.now ≤ 64) × (length cells.now ≤ 64) }
 {
-    let at = answer_at(c);
+    let at = c.answer_at();
     let after = at + 41;
     let then = after + 4 * c.samples;
     answer::is_answer(list, at, a)
-        && (answer::are_samples(list, after, samples) && answer::are_cells(list, then, cells))
+        && answer::are_samples(list, after, samples)
+        && answer::are_cells(list, then, cells)
 }
 
 // Reads a case into these arrays, which are as long as it says, runs it, and answers whether it goes as the list says.
-fn run(
+fn run<E: Engine>(
     list: &[u8],
     c: Case,
-    plain: bool,
     samples: &mut [f32],
     cells: &mut [u8],
     colours: &mut [u8],
     coords: &mut [f64],
     ends: &mut [usize],
 ) -> bool
-    requires sized { Sized 65 c }
-    requires samples_len_bound { (length samples.old ≤ 64) × (length cells.old ≤ 64) × (length colours.old ≤ 64) × (length coords.old ≤ 64) × (length ends.old ≤ 64) }
+    requires { (length samples.old ≤ 64) × (length cells.old ≤ 64) × (length colours.old ≤ 64) × (length coords.old ≤ 64) × (length ends.old ≤ 64) }
 {
     load(list, c, samples, cells, colours, coords, ends);
-    let a = correct(list, c, plain, samples, cells, colours, coords, ends);
+    let a = correct::<E>(list, c, samples, cells, colours, coords, ends);
     is_right(list, c, a, samples, cells)
 }
 
-// Whether a case goes as the list says, by the plain engine or by the first.
-pub fn is_same(list: &[u8], c: Case, plain: bool) -> bool
-    requires { Sized 64 c }
+// Whether a case goes as the list says, by an engine.
+pub fn is_same<E: Engine>(list: &[u8], c: Case) -> bool
+    requires { Roomy c.samples c.cells c.colours c.coords c.ends }
 {
     let mut samples = [0.0f32; 64];
     let mut cells = [0u8; 64];
     let mut colours = [0u8; 64];
     let mut coords = [0.0f64; 64];
     let mut ends = [0usize; 64];
-    run(
+    run::<E>(
         list,
         c,
-        plain,
         &mut samples[..c.samples],
         &mut cells[..c.cells],
         &mut colours[..c.colours],

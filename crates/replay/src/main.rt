@@ -7,6 +7,7 @@ mod answer;
 mod case;
 mod number;
 
+use case::{Case, First, Plain};
 use ground::bytes;
 use std::io;
 
@@ -49,11 +50,7 @@ fn total(rt: &impl Print, cases: u64, differ: u64) -> io::Result<()> {
 fn said(list: &[u8]) -> u64
     ensures { result ≤ 262144 }
 {
-    let n = bytes::be64(list, 0);
-    if n > 262144 {
-        return 262144;
-    }
-    n
+    bytes::be64(list, 0).min(262144)
 }
 
 // Whether every case was run, and the list ends there.
@@ -62,6 +59,7 @@ fn is_whole(number: u64, cases: u64, at: usize, end: usize) -> bool {
 }
 
 // Runs the cases in order, up to one that is cut off or too large. A list that ends elsewhere than after its last case counts as one that differs.
+// The cases are counted by hand: how many were run is told afterwards, which a range that is left early would not say.
 fn replay(rt: &impl Print, list: &[u8]) -> io::Result<()>
     requires { length list.now ≤ 262144 }
 {
@@ -70,15 +68,15 @@ fn replay(rt: &impl Print, list: &[u8]) -> io::Result<()>
     let mut number = 0u64;
     let mut differ = 0u64;
     while number < cases {
-        let c = case::read(list, at);
-        let next = case::end(c);
-        if !case::has_room(c, next, list.len()) {
+        let c = Case::read(list, at);
+        let next = c.end();
+        if !c.has_room(next, list.len()) {
             break;
         }
         differ = judge(
             rt,
-            case::is_same(list, c, false),
-            case::is_same(list, c, true),
+            case::is_same::<First>(list, c),
+            case::is_same::<Plain>(list, c),
             number,
             differ,
         )?;

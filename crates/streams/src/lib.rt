@@ -8,6 +8,7 @@ use std::io;
 use std::io::Read;
 
 // Reads until `room` is full or the input ends, and answers how many bytes that put at its front.
+// How far a turn comes is the reader's to say, so no range counts the turns.
 pub fn read_full<R: Read>(input: &mut R, room: &mut [u8]) -> io::Result<usize>
     ensures count { ReadsAtMost result room.new }
     ensures bytes { IfOk result (λ n. IfSome (R.remaining input.old) (λ xs. take n room.new ≡ take (length room.old) xs)) }

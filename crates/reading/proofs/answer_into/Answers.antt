@@ -21,7 +21,7 @@ returns-then-input-eq0 g c =
     written_front (written_as (printed_by g.E.Engine.plainly c.args.input.now) (no_channels _ _ c.if-input-eq0.true ∙ printed_case _ _ c.in-Ok.ensures.0) c.put_refused.ensures) (le_trans (printed_fits g.E.Engine.plainly c.args.input.now) c.requires)
 
 pub answer_case-requires : goal.answer_case-requires
-answer_case-requires g c = record { whole = c.in-Ok.ensures.1; in_bounds = (c.requires, some _ c.if-input-eq0.false); lent = record { samples = le_refl 12288; cells = le_refl 12288; colours = le_refl 256; coords = le_refl 512; ends = le_refl 64 } }
+answer_case-requires g c = record { whole = c.in-Ok.ensures.1; room = (c.requires, some _ c.if-input-eq0.false); lent = record { samples = le_refl 12288; cells = le_refl 12288; colours = le_refl 256; coords = le_refl 512; ends = le_refl 64 } }
 
 pub returns : goal.returns
 returns g c =

@@ -13,7 +13,7 @@ loop-i-init c =
     let f : ℕ → ℕ → Bool = nth a.b.width a.colours.now a.coords.now a.from a.end in
     record {
       low = omega arith;
-      high = c.requires.from_le_end.0;
+      high = c.requires.within.0;
       known = λ l. c.last_colour-last.ensures ∙ simp (lt-ltb a.from a.end l, eq-eqb a.from a.from refl);
       done = rw (sub_self a.from) (painted_zero corner f a.stencil.now);
     }

@@ -19,8 +19,8 @@ loop-c-init c =
     let a = c.args in
     record { high = omega arith; done = painted_zero corner (nth a.b.width a.colours.now a.coords.now a.ends.now) a.stencil.now }
 
-pub mark_contour-requires-clause-from_le_end : goal.mark_contour-requires-clause-from_le_end
-mark_contour-requires-clause-from_le_end c =
+pub mark_contour-requires-clause-within : goal.mark_contour-requires-clause-within
+mark_contour-requires-clause-within c =
     let l = c.loop-c in
     let o = c.requires.outlined in
     let from = c.end_before-from.ensures ∙ starts _ _ in

@@ -10,7 +10,7 @@ inside : (c : Then-is_texel) → let a = c.args in (a.nx < a.b.width) × (a.ny <
 inside c = is_inside _ _ _ _ (sym c.is_texel.ensures ∙ c.if-is_texel.true)
 
 pub texel-n-requires : goal.texel-n-requires
-texel-n-requires c = record { sized = c.requires.sized; x_lt_width = inside (goal.at.texel-n-requires c).Then-is_texel }
+texel-n-requires c = record { sized = c.requires.sized; inside = inside (goal.at.texel-n-requires c).Then-is_texel }
 
 pub returns-then-is_texel : goal.returns-then-is_texel
 unfolding protects_lower lower_with

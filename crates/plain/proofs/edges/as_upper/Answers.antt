@@ -10,7 +10,7 @@ inside : (c : Then-is_texel) → let a = c.args in (a.nx < a.b.width) × (a.ny <
 inside c = is_inside _ _ _ _ (sym c.is_texel.ensures ∙ c.if-is_texel.true)
 
 pub texel-a-requires : goal.texel-a-requires
-texel-a-requires c = record { sized = c.requires.sized; x_lt_width = inside c }
+texel-a-requires c = record { sized = c.requires.sized; inside = inside c }
 
 pub returns-then-is_texel : goal.returns-then-is_texel
 unfolding protects_upper upper_with

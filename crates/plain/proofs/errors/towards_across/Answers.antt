@@ -9,13 +9,13 @@ inside : (c : Then-is_texel) → let a = c.args in (a.nx < a.b.width) × (a.ny <
 inside c = is_inside _ _ _ _ (sym c.is_texel.ensures ∙ c.if-is_texel.true)
 
 pub texel-r-requires : goal.texel-r-requires
-texel-r-requires c = record { sized = c.requires.sized; x_lt_width = ((inside (goal.at.texel-r-requires c).Then-is_texel).0, c.requires.x_lt_width.1) }
+texel-r-requires c = record { sized = c.requires.sized; inside = ((inside (goal.at.texel-r-requires c).Then-is_texel).0, c.requires.inside.1) }
 
 pub texel-c-requires : goal.texel-c-requires
-texel-c-requires c = record { sized = c.requires.sized; x_lt_width = (c.requires.x_lt_width.0, (inside (goal.at.texel-c-requires c).Then-is_texel).1) }
+texel-c-requires c = record { sized = c.requires.sized; inside = (c.requires.inside.0, (inside (goal.at.texel-c-requires c).Then-is_texel).1) }
 
 pub texel-d-requires : goal.texel-d-requires
-texel-d-requires c = record { sized = c.requires.sized; x_lt_width = inside (goal.at.texel-d-requires c).Then-is_texel }
+texel-d-requires c = record { sized = c.requires.sized; inside = inside (goal.at.texel-d-requires c).Then-is_texel }
 
 pub returns-then-is_texel : goal.returns-then-is_texel
 unfolding towards_across

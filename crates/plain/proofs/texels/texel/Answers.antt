@@ -6,10 +6,10 @@ use Rattle.plain.proofs.texels.texel.Goals as goal
 use Rattle.plain.proofs.texels.texel.Goals.{Start}
 
 at : (c : Start) → Place c.args.b.width c.args.b.channels c.args.x c.args.y (length c.args.xs.now)
-at c = placed _ c.args.b.height _ _ _ _ c.requires.x_lt_width.0 c.requires.x_lt_width.1 c.requires.sized.some c.requires.sized.long
+at c = placed _ c.args.b.height _ _ _ _ c.requires.inside.0 c.requires.inside.1 c.requires.sized.some c.requires.sized.long
 
 small : (c : Start) → c.args.y * c.args.b.width + c.args.x < 16777216
-small c = cell_small _ c.args.b.height _ _ c.requires.x_lt_width.0 c.requires.x_lt_width.1 c.requires.sized.wide c.requires.sized.high
+small c = cell_small _ c.args.b.height _ _ c.requires.inside.0 c.requires.inside.1 c.requires.sized.wide c.requires.sized.high
 
 pub returns : goal.returns
 unfolding texel

@@ -4,12 +4,12 @@ use Rattle.reading.proofs.decode.decode_outline.Goals as goal
 
 pub contour_colours-last-requires : goal.contour_colours-last-requires
 contour_colours-last-requires c =
-    let r = decoding_room c.requires.outlined c.loop-i.invariant c.loop-i-test.true c.requires.n_in_bounds.0 c.requires.n_in_bounds.1 c.field_at-f.ensures in
+    let r = decoding_room c.requires.outlined c.loop-i.invariant c.loop-i-test.true c.requires.room.0 c.requires.room.1 c.field_at-f.ensures in
     (r.0, r.1)
 
 pub contour_coords-at-requires : goal.contour_coords-at-requires
 contour_coords-at-requires c =
-    let r = decoding_room c.requires.outlined c.loop-i.invariant c.loop-i-test.true c.requires.n_in_bounds.0 c.requires.n_in_bounds.1 c.field_at-f.ensures in
+    let r = decoding_room c.requires.outlined c.loop-i.invariant c.loop-i-test.true c.requires.room.0 c.requires.room.1 c.field_at-f.ensures in
     (r.0, r.2)
 
 pub loop-i-preserved : goal.loop-i-preserved

@@ -23,7 +23,7 @@ samples_fit : (g : Over) (c : After-decode_samples-a g) → c.decode_samples-a.r
 samples_fit g c = le_trans (samples_few g c) c.requires.lent.samples
 
 cells_few : (g : Over) (c : After-be16-2 g) → c.be16.result * c.be16-2.result ≤ length c.args.stencil.now
-cells_few g c = le_trans (whole_cells c.requires.whole c.be16.ensures.0 c.be16-2.ensures.0 c.requires.in_bounds.1) c.requires.lent.cells
+cells_few g c = le_trans (whole_cells c.requires.whole c.be16.ensures.0 c.be16-2.ensures.0 c.requires.room.1) c.requires.lent.cells
 
 cells_fit : (g : Over) (c : After-clear-c g) → c.clear-c.result ≤ length c.args.stencil.now
 cells_fit g c = omega (arith, c.clear-c.ensures.1, cells_few g (goal.at.After-clear-c g c).After-be16-2)
@@ -81,7 +81,7 @@ slice_bounds-run-end-10 g c = front_length c.decode_outline.ensures.ends (outlin
 
 pub run-requires : goal.run-requires
 run-requires g c =
-    (c.requires.in_bounds.0, omega (arith, front_length c.decode_samples-a.ensures.0 (samples_fit g (goal.at.run-requires g c).After-decode_samples-a), samples_few g (goal.at.run-requires g c).After-decode_samples-a), omega (arith, c.requires.whole.headed))
+    (c.requires.room.0, omega (arith, front_length c.decode_samples-a.ensures.0 (samples_fit g (goal.at.run-requires g c).After-decode_samples-a), samples_few g (goal.at.run-requires g c).After-decode_samples-a), omega (arith, c.requires.whole.headed))
 
 pub returns : goal.returns
 returns g c =

@@ -39,7 +39,7 @@ pub put_accepted-requires : goal.put_accepted-requires
 put_accepted-requires g c =
     let i = case g (goal.at.put_accepted-requires g c).After-settings c.settings.result zeros in
     let p = c.judge.ensures in
-    let r = roomy _ i _ _ _ _ (c.in-Accepted.ensures.answers) c.requires.1 p.leaves (front c.keep-n.ensures (keeps g (goal.at.put_accepted-requires g c).After-keep-n)) in record { width_nonzero = r.sizes; height_in_bounds = (r.cells, r.samples, c.requires.0) }
+    let r = roomy _ i _ _ _ _ (c.in-Accepted.ensures.answers) c.requires.1 p.leaves (front c.keep-n.ensures (keeps g (goal.at.put_accepted-requires g c).After-keep-n)) in record { sizes = r.sizes; room = (r.cells, r.samples, c.requires.0) }
 
 pub returns-in-Accepted : goal.returns-in-Accepted
 returns-in-Accepted g c =

@@ -32,7 +32,7 @@ put_rows-texels-requires c =
 pub put_texels-requires : goal.put_texels-requires
 put_texels-requires c =
     let b = c.args.b in
-    let r = written_room (b.width * b.height + b.height) (26 * (b.width * b.height)) c.put_rows-texels.ensures (rows_length b.width b.height c.args.st.now) (omega (arith, counts_room (goal.at.put_texels-requires c).After-put_counts-rows)) in record { height_in_bounds = (r, c.requires.height_in_bounds.0); channels_in_bounds = (c.requires.height_in_bounds.1, c.requires.width_nonzero.1, c.requires.width_nonzero.0, omega arith) }
+    let r = written_room (b.width * b.height + b.height) (26 * (b.width * b.height)) c.put_rows-texels.ensures (rows_length b.width b.height c.args.st.now) (omega (arith, counts_room (goal.at.put_texels-requires c).After-put_counts-rows)) in record { room = (r, c.requires.room.0); texels = (c.requires.room.1, c.requires.sizes.1, c.requires.sizes.0, omega arith) }
 
 pub returns : goal.returns
 unfolding accepted_with

@@ -27,8 +27,8 @@ median_is c = let d = c.args in rw (add-zero (d.k * d.b.channels)) c.median-m.en
 
 pub put_texel-requires : goal.put_texel-requires
 put_texel-requires c =
-    let z = cell_short c.args.k c.args.b.width c.requires.channels_in_bounds.2 in
-    (c.requires.at_in_bounds.0, z.0, z.1, subst (λ (t : Middle). t.channel < 3) (sym (median_is (goal.at.put_texel-requires c).After-median-m)) (texel_channel_below _))
+    let z = cell_short c.args.k c.args.b.width c.requires.texels.2 in
+    (c.requires.room.0, z.0, z.1, subst (λ (t : Middle). t.channel < 3) (sym (median_is (goal.at.put_texel-requires c).After-median-m)) (texel_channel_below _))
 
 pub returns-then-is_error : goal.returns-then-is_error
 returns-then-is_error c =

@@ -11,7 +11,7 @@ pub loop-k-init : goal.loop-k-init
 loop-k-init c = (omega arith, refl, omega arith, joined_none _ _ _)
 
 pub put_flagged-next-requires : goal.put_flagged-next-requires
-put_flagged-next-requires c = record { at_in_bounds = (omega arith, omega arith); channels_in_bounds = (omega (arith, row_within c.args.b.channels c.loop-k-test.true), c.requires.channels_in_bounds.2, omega arith) }
+put_flagged-next-requires c = record { room = (omega arith, omega arith); texels = (omega (arith, row_within c.args.b.channels c.loop-k-test.true), c.requires.texels.2, omega arith) }
 
 pub loop-k-preserved : goal.loop-k-preserved
 loop-k-preserved c =
