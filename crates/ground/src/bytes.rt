@@ -54,6 +54,7 @@ pub fn float_of_bits32(n: u32) -> f32
     f32::from_bits(n)
 }
 
+// The same of 64 bits: docs/PROMISES.md names both, and a trait for the two types would be longer than they are.
 pub fn float_of_bits64(n: u64) -> f64
     ensures { result ≡ of_bits binary64 n }
 {
@@ -70,6 +71,7 @@ pub fn bits_of_float32(x: f32) -> u32
     if x.is_nan() { 2143289344 } else { x.to_bits() }
 }
 
+// The floats of four bytes and of eight: docs/PROMISES.md names both.
 pub fn f32_at(s: &[u8], at: usize) -> f32
     ensures { result ≡ Bytes.f32_at s.now at }
 {
