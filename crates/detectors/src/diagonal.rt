@@ -17,7 +17,7 @@ use numbers::equation_solver::Roots;
 use numbers::{equation_solver, rounding, scalar};
 use ranges::classifier::Classifier;
 use ranges::config::Settings;
-use ranges::{classifier, config, constants};
+use ranges::constants;
 
 // The least and the largest of a pair's differences at which it is judged without its roots; the largest of the two in the middle together.
 const LEAST: f32 = 0.0078125;
@@ -115,24 +115,13 @@ fn ample(d: f32) -> bool
 
 // None of a pair's three differences is below zero, and each is of a size at which no root is inside then.
 fn rises(da: f32, dbc: f32, dd: f32) -> bool
-    ensures { result ≡ true → some inside (Diagonal.quadratic_roots da dbc dd) ≡ false }
+    ensures { result ≡ Inner.rising da dbc dd }
 {
     ample(da)
         & (ample(dd)
             & ((dbc >= 0.0)
                 & ((dbc <= MOST_MIDDLE)
                     & (((dbc == 0.0) | (dbc >= LEAST)) | ((da >= LEAST) & (dd >= LEAST))))))
-}
-
-// The same with none above zero.
-fn falls(da: f32, dbc: f32, dd: f32) -> bool
-    ensures { result ≡ true → some inside (Diagonal.quadratic_roots da dbc dd) ≡ false }
-{
-    ample(-da)
-        & (ample(-dd)
-            & ((dbc <= 0.0)
-                & ((dbc >= -MOST_MIDDLE)
-                    & (((dbc == 0.0) | (dbc <= -LEAST)) | ((da <= -LEAST) & (dd <= -LEAST))))))
 }
 
 // The roots of a pair's difference, a quadratic in t, by the root without branches.
@@ -150,9 +139,9 @@ fn moved_end(k: Classifier, am: f32, dm: f32, em: f32, e: f64, t: f64, xm: f32) 
     ensures { result ≡ Diagonal.moved_end k.span k.protected am dm em e t xm }
 {
     if e > t {
-        classifier::range_test(k, 0.0, e, t, am, em, xm)
+        k.range_test(0.0, e, t, am, em, xm)
     } else {
-        classifier::range_test(k, e, 1.0, t, em, dm, xm)
+        k.range_test(e, 1.0, t, em, dm, xm)
     }
 }
 
@@ -183,7 +172,7 @@ fn root_tests(
 ) -> bool
     ensures { result ≡ root_verdict k.span k.protected am dm m.now t xm e f }
 {
-    classifier::range_test(k, 0.0, 1.0, t, am, dm, xm)
+    k.range_test(0.0, 1.0, t, am, dm, xm)
         || (turning_test(k, am, dm, m, t, xm, e) || turning_test(k, am, dm, m, t, xm, f))
 }
 
@@ -243,7 +232,7 @@ fn roots_tried(m: &[[f32; 3]; 4], p: usize, doubt: u8) -> Roots
     let da = difference_in(m, 0, p);
     let dbc = middle_difference(m, p);
     let dd = difference_in(m, 3, p);
-    if rises(da, dbc, dd) | falls(da, dbc, dd) {
+    if rises(da, dbc, dd) | rises(-da, -dbc, -dd) {
         return Roots::None;
     }
     pair_roots(da, dbc, dd)
@@ -277,7 +266,7 @@ pub fn has_guarded_artifact(
     ensures { result ≡ verdict (any 3 (Orders.doubted_pair doubt (Config.diagonal_span s) protected am dm m)) (spent 3 (Orders.doubted_pair doubt (Config.diagonal_span s) protected am dm m) (Orders.doubted_tests doubt (Config.diagonal_span s) protected am dm m)) }
 {
     let k = Classifier {
-        span: config::diagonal_span(s),
+        span: s.diagonal_span(),
         protected,
     };
     some_pair(k, am, dm, &m, doubt)
@@ -287,8 +276,7 @@ pub fn has_guarded_artifact(
 pub fn has_diagonal_artifact(s: Settings, protected: bool, am: f32, m: [[f32; 3]; 4]) -> Verdict
     ensures { result ≡ verdict (Diagonal.has_diagonal_artifact (Config.diagonal_span s) protected am m) (Diagonal.diagonal_tests (Config.diagonal_span s) protected am m) }
 {
-    let far = texel::median(m[3]);
-    let dm = far.value;
+    let dm = texel::median(m[3]).value;
     if texel::guard(am, dm) {
         return has_guarded_artifact(s, protected, am, dm, m, 7);
     }

@@ -12,7 +12,6 @@ use crate::verdict::Verdict;
 use crate::{pairs, texel};
 use ranges::classifier::Classifier;
 use ranges::config::Settings;
-use ranges::{classifier, config};
 
 // Where a difference that is da at a and db at b is zero between them.
 fn crossing(da: f32, db: f32) -> f64
@@ -50,7 +49,7 @@ fn has_linear_artifact_inner(
     let t = crossing(da, db);
     if pairs::inside(t) {
         let xm = pairs::interpolated_median_linear(a, b, t);
-        if classifier::range_test(k, 0.0, 1.0, t, am, bm, xm) {
+        if k.range_test(0.0, 1.0, t, am, bm, xm) {
             return before.then(Verdict::artifact(1));
         }
         return before.then(Verdict::clear(1));
@@ -87,11 +86,10 @@ pub fn has_linear_artifact(
 ) -> Verdict
     ensures { result ≡ verdict (Linear.has_linear_artifact (Config.side_span s upright) protected am a b) (Linear.linear_tests (Config.side_span s upright) protected am a b) }
 {
-    let m = texel::median(b);
-    let bm = m.value;
+    let bm = texel::median(b).value;
     if texel::guard(am, bm) {
         let k = Classifier {
-            span: config::side_span(s, upright),
+            span: s.side_span(upright),
             protected,
         };
         return some_pair(k, am, bm, a, b);

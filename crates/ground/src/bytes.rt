@@ -1,55 +1,47 @@
 // Big-endian numbers and floats in a slice of bytes; beyond its end every byte is 0.
-ghost use Rattle.std.specs.Prelude.{◌≡◌, ◌+◌, ◌≤◌, ◌<◌, get_or};
+ghost use Rattle.std.specs.Prelude.{◌≡◌, ℕ, ◌+◌, ◌<◌, get_or};
 ghost use Rattle.std.specs.Float.{binary32, binary64};
 ghost use Rattle.std.specs.Float.Ieee.{of_bits, to_bits};
 ghost use Rattle.ground.specs.Bytes as Bytes;
+
+use std::array;
 
 // The byte k places behind a place.
 pub fn byte_from(s: &[u8], at: usize, k: usize) -> u8
     ensures { result ≡ get_or s.now (at + k) 0 }
 {
-    if s.len() <= at {
-        return 0;
-    }
-    if s.len() - at <= k {
-        return 0;
-    }
-    s[at + k]
+    at.checked_add(k)
+        .and_then(|i| s.get(i))
+        .copied()
+        .unwrap_or(0)
 }
 
-fn pair(s: &[u8], at: usize, k: usize) -> u64
-    requires { k ≤ 6 }
-    ensures { (result ≡ Bytes.be16 s.now (at + k)) × (result < 65536) }
+// The N bytes from a place on.
+fn bytes_at<const N: usize>(s: &[u8], at: usize) -> [u8; N]
+    ensures { (k : ℕ) → k < N → get_or result k 0 ≡ get_or s.now (at + k) 0 }
 {
-    (byte_from(s, at, k) as u64) * 256 + (byte_from(s, at, k + 1) as u64)
-}
-
-fn quad(s: &[u8], at: usize, k: usize) -> u64
-    requires { k ≤ 4 }
-    ensures { (result ≡ Bytes.be32 s.now (at + k)) × (result < 4294967296) }
-{
-    pair(s, at, k) * 65536 + pair(s, at, k + 2)
+    array::from_fn(|k| byte_from(s, at, k))
 }
 
 // The number of two bytes.
 pub fn be16(s: &[u8], at: usize) -> usize
     ensures { (result ≡ Bytes.be16 s.now at) × (result < 65536) }
 {
-    pair(s, at, 0) as usize
+    usize::from(u16::from_be_bytes(bytes_at(s, at)))
 }
 
 // Of four.
 pub fn be32(s: &[u8], at: usize) -> u32
     ensures { result ≡ Bytes.be32 s.now at }
 {
-    quad(s, at, 0) as u32
+    u32::from_be_bytes(bytes_at(s, at))
 }
 
 // Of eight.
 pub fn be64(s: &[u8], at: usize) -> u64
     ensures { result ≡ Bytes.be64 s.now at }
 {
-    quad(s, at, 0) * 4294967296 + quad(s, at, 4)
+    u64::from_be_bytes(bytes_at(s, at))
 }
 
 // The float of any bit pattern: a NaN's gives NaN.
@@ -62,6 +54,7 @@ pub fn float_of_bits32(n: u32) -> f32
     f32::from_bits(n)
 }
 
+// The same of 64 bits: docs/PROMISES.md names both, and a trait for the two types would be longer than they are.
 pub fn float_of_bits64(n: u64) -> f64
     ensures { result ≡ of_bits binary64 n }
 {
@@ -75,12 +68,10 @@ pub fn float_of_bits64(n: u64) -> f64
 pub fn bits_of_float32(x: f32) -> u32
     ensures { result ≡ to_bits binary32 x }
 {
-    if x != x {
-        return 2143289344;
-    }
-    f32::to_bits(x)
+    if x.is_nan() { 2143289344 } else { x.to_bits() }
 }
 
+// The floats of four bytes and of eight: docs/PROMISES.md names both.
 pub fn f32_at(s: &[u8], at: usize) -> f32
     ensures { result ≡ Bytes.f32_at s.now at }
 {

@@ -114,7 +114,8 @@ pub fn solve_quadratic(a: f64, b: f64, c: f64) -> Roots
     at_most_one_root(a, b, d)
 }
 
-// The same, with a positive discriminant taken for a normal number: that of three finite values of f32 always is.
+// The same, with a positive discriminant taken for a normal number: that of three finite values of f32 always is. The steps are shared and not the sequence: as
+// an argument the root would need a clause for what it asks and one for what it gives.
 pub fn solve_normal_quadratic(a: f64, b: f64, c: f64) -> Roots
     ensures { listed result ≡ normal_roots_of a b c }
 {

@@ -12,7 +12,7 @@ pub struct Classifier {
     pub protected: bool,
 }
 
-// Both ends lie above the outline, and xm does not.
+// Both ends lie above the outline, and xm does not. This and the next are the definitions of these names: one function would take the order as an argument.
 fn falls_below(am: f32, bm: f32, xm: f32) -> bool
     ensures { result ≡ falls_below am bm xm }
 {
@@ -57,9 +57,11 @@ fn in_range(span: f64, at: f64, bt: f64, xt: f64, am: f32, bm: f32, xm: f32) -> 
     within(x, a, (xt - at) * span) & within(x, b, (bt - xt) * span)
 }
 
-// A candidate is an artifact unless it lies in range.
-pub fn range_test(k: Classifier, at: f64, bt: f64, xt: f64, am: f32, bm: f32, xm: f32) -> bool
-    ensures { result ≡ range_test k.span k.protected at bt xt am bm xm }
-{
-    candidate(k.protected, am, bm, xm) && !in_range(k.span, at, bt, xt, am, bm, xm)
+impl Classifier {
+    // A candidate is an artifact unless it lies in range.
+    pub fn range_test(self, at: f64, bt: f64, xt: f64, am: f32, bm: f32, xm: f32) -> bool
+        ensures { result ≡ range_test self.span self.protected at bt xt am bm xm }
+    {
+        candidate(self.protected, am, bm, xm) && !in_range(self.span, at, bt, xt, am, bm, xm)
+    }
 }

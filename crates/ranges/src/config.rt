@@ -11,7 +11,28 @@ pub struct Settings {
     pub diagonal: f64,
 }
 
-// No correction; every artifact; only where no edge or corner is affected; only at edges.
+impl Settings {
+    // The span of a side neighbour, in the row or upright in the column.
+    pub fn side_span(self, upright: bool) -> f64
+        ensures { result ≡ Config.side_span self upright }
+    {
+        if upright {
+            self.ratio * self.vertical
+        } else {
+            self.ratio * self.horizontal
+        }
+    }
+
+    // The span of a diagonal one.
+    pub fn diagonal_span(self) -> f64
+        ensures { result ≡ Config.diagonal_span self }
+    {
+        self.ratio * self.diagonal
+    }
+}
+
+// The modes, as the numbers that C hands over: check 4 refuses any other. They are no correction; every artifact; only where no edge or corner is affected;
+// only at edges.
 pub const DISABLED: u8 = 0;
 
 pub const INDISCRIMINATE: u8 = 1;
@@ -19,21 +40,3 @@ pub const INDISCRIMINATE: u8 = 1;
 pub const EDGE_PRIORITY: u8 = 2;
 
 pub const EDGE_ONLY: u8 = 3;
-
-// The span of a side neighbour, in the row or upright in the column.
-pub fn side_span(s: Settings, upright: bool) -> f64
-    ensures { result ≡ Config.side_span s upright }
-{
-    if upright {
-        s.ratio * s.vertical
-    } else {
-        s.ratio * s.horizontal
-    }
-}
-
-// The span of a diagonal one.
-pub fn diagonal_span(s: Settings) -> f64
-    ensures { result ≡ Config.diagonal_span s }
-{
-    s.ratio * s.diagonal
-}

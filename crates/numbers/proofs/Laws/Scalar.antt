@@ -224,7 +224,7 @@ median_order f a b c p q r =
     let bca : median_of a b c ≡ median_of b c a = cab ∙ turn f c a b r p q in
     (cab ∙ swap f c a b r p q, swap f a b c p q r, bca, cab, bca ∙ swap f b c a q r p)
 
--- Each such value has one bit pattern (`one-pattern` of Laws/Rank.antt), so the patterns are the same.
+-- Each such value has one bit pattern (`one_pattern` of Laws/Rank.antt), so the patterns are the same.
 pub median_order_bits : (f : Format) (a b c : Float) → Number f a → Number f b → Number f c → InEveryOrder (λ x y z. to_bits f (median_of x y z)) a b c
 median_order_bits f a b c p q r =
     let k = median_order f a b c p q r in

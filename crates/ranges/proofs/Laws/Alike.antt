@@ -1,12 +1,12 @@
 -- Each public function's promise determines its answer: any two answers that it permits for the same arguments are the same. Assumes nothing.
 -- `Post` is a function's promise as the checker makes it of the `ensures` in the source. No public function has a `requires`, and no argument is lent, so the answer is all that a call leaves behind.
 use Rattle.ground.proofs.Laws.Alike.{Alike, alike}
-use Rattle.ranges.proofs.config.side_span.Kinds as side_span_kinds
-use Rattle.ranges.proofs.config.side_span.Reads as side_span
-use Rattle.ranges.proofs.config.diagonal_span.Kinds as diagonal_span_kinds
-use Rattle.ranges.proofs.config.diagonal_span.Reads as diagonal_span
-use Rattle.ranges.proofs.classifier.range_test.Kinds as range_test_kinds
-use Rattle.ranges.proofs.classifier.range_test.Reads as range_test
+use Rattle.ranges.proofs.config.Settings.side_span.Kinds as side_span_kinds
+use Rattle.ranges.proofs.config.Settings.side_span.Reads as side_span
+use Rattle.ranges.proofs.config.Settings.diagonal_span.Kinds as diagonal_span_kinds
+use Rattle.ranges.proofs.config.Settings.diagonal_span.Reads as diagonal_span
+use Rattle.ranges.proofs.classifier.Classifier.range_test.Kinds as range_test_kinds
+use Rattle.ranges.proofs.classifier.Classifier.range_test.Reads as range_test
 
 -- The span of a side neighbour.
 pub side_span_alike : Alike 0 side_span_kinds.ps side_span_kinds.r side_span.Post

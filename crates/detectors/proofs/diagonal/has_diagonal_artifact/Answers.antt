@@ -13,7 +13,7 @@ all m = record { first = λ e. absurd (omega (arith, e)); second = λ e. absurd 
 
 pub returns-then-guard : goal.returns-then-guard
 returns-then-guard c =
-    c.has_guarded_artifact.ensures ∙ doubted_all 7 _ (all _) _ _ _ _ ∙ tested _ _ _ _ _ (ap (λ (m : Middle). m.value) c.median-far.ensures) (sym c.guard.ensures ∙ c.if-guard.true)
+    c.has_guarded_artifact.ensures ∙ doubted_all 7 _ (all _) _ _ _ _ ∙ tested _ _ _ _ _ (ap (λ (m : Middle). m.value) c.median-dm.ensures) (sym c.guard.ensures ∙ c.if-guard.true)
 
 pub returns : goal.returns
-returns c = untested _ _ _ _ _ (ap (λ (m : Middle). m.value) c.median-far.ensures) (sym c.guard.ensures ∙ c.if-guard.false)
+returns c = untested _ _ _ _ _ (ap (λ (m : Middle). m.value) c.median-dm.ensures) (sym c.guard.ensures ∙ c.if-guard.false)

@@ -1,11 +1,8 @@
 -- `detectors::diagonal::rises` meets its contract. Assumes nothing.
-use Rattle.std.proofs.Common.{T, sym, subst}
 use lib.Ieee.{of_bits}
-use Rattle.detectors.proofs.diagonal.Signs.{rising}
+use Rattle.detectors.specs.Inner.{rising}
 use Rattle.detectors.proofs.diagonal.rises.Goals as goal
 
 pub returns : goal.returns
-unfolding of_bits
-returns c =
-    let g = c.before.before.well_formed in
-    rw (c.ample-2.ensures, c.before.ample.ensures) (rising _ _ _ (subst T (sym g.0.1) tt) (subst T (sym g.1.0.1) tt) (subst T (sym g.1.1.0.1) tt))
+unfolding rising of_bits
+returns c = rw (c.ample-2.ensures, c.ample.ensures)

@@ -1,9 +1,11 @@
 -- `detectors::diagonal::roots_tried` meets its contract: a pair that is not in doubt is not tried, and none has a root inside whose differences are of one sign. Assumes nothing.
 use Rattle.std.proofs.Common.{◌≡◌, Bool, true, false, ◌||◌, sym, refl, ◌∙◌, inl, inr}
 use borrow.Author.Tests.{not-true, not-false}
+use Rattle.ground.proofs.Laws.Bools.{holds}
 use Rattle.detectors.specs.Diagonal.{pair_roots}
 use Rattle.detectors.specs.Discriminant.{normal_pair_roots}
 use Rattle.detectors.specs.Orders.{doubted}
+use Rattle.detectors.proofs.diagonal.Signs.{none_rising, none_falling}
 use Rattle.detectors.proofs.diagonal.roots_tried.Goals as goal
 use Rattle.detectors.proofs.diagonal.roots_tried.Goals.{Else-not-in_doubt}
 
@@ -13,24 +15,19 @@ either true b x f g h = f refl
 either false b x f g h = g h
 
 pub returns-then-not-in_doubt : goal.returns-then-not-in_doubt
-returns-then-not-in_doubt c = inr (sym c.before.in_doubt.ensures ∙ not-true _ c.if-not-in_doubt.true-raw, refl)
+returns-then-not-in_doubt c = inr (sym c.in_doubt.ensures ∙ not-true _ c.if-not-in_doubt.true-raw, refl)
 
 -- past the first test the pair is in doubt
-named : (c : Else-not-in_doubt) → doubted c.before.before.args.doubt c.before.before.args.p ≡ true
-named c = sym c.before.in_doubt.ensures ∙ not-false _ c.if-not-in_doubt.false-raw
+named : (c : Else-not-in_doubt) → doubted c.args.doubt c.args.p ≡ true
+named c = sym c.in_doubt.ensures ∙ not-false _ c.if-not-in_doubt.false-raw
 
-pub returns-then-rises-falls : goal.returns-then-rises-falls
+pub returns-then-rises : goal.returns-then-rises
 unfolding pair_roots
-returns-then-rises-falls c =
-    let f = c.before in
-    let r = f.before in
-    let dd = r.before in
-    let dbc = dd.before in
-    inl (named dbc.before.before, inr (refl, rw (dd.difference_in-dd.ensures, dbc.middle_difference-dbc.ensures, dbc.before.difference_in-da.ensures) at (either _ _ _ r.rises.ensures f.falls.ensures c.if-rises-falls.true)))
+returns-then-rises c =
+    let none = either _ _ _ (λ e. none_rising _ _ _ (holds _ c.difference_in-da.type_inv) (holds _ c.middle_difference-dbc.type_inv) (holds _ c.difference_in-dd.type_inv) (sym c.rises.ensures ∙ e)) (λ e. none_falling _ _ _ (holds _ c.difference_in-da.type_inv) (holds _ c.middle_difference-dbc.type_inv) (holds _ c.difference_in-dd.type_inv) (sym c.rises-2.ensures ∙ e)) c.if-rises.true in
+    inl (named (goal.at.returns-then-rises c).Else-not-in_doubt, inr (refl, rw (c.difference_in-dd.ensures, c.middle_difference-dbc.ensures, c.difference_in-da.ensures) at none))
 
 pub returns : goal.returns
 unfolding normal_pair_roots
 returns c =
-    let dd = c.before.before.before.before in
-    let dbc = dd.before in
-    inl (named dbc.before.before, inl (rw (dd.difference_in-dd.ensures, dbc.middle_difference-dbc.ensures, dbc.before.difference_in-da.ensures) at c.pair_roots.ensures))
+    inl (named (goal.at.returns c).Else-not-in_doubt, inl (rw (c.difference_in-dd.ensures, c.middle_difference-dbc.ensures, c.difference_in-da.ensures) at c.pair_roots.ensures))

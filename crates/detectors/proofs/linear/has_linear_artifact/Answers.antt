@@ -8,8 +8,8 @@ use Rattle.detectors.proofs.linear.has_linear_artifact.Goals as goal
 pub returns-then-guard : goal.returns-then-guard
 unfolding has_linear_artifact linear_pairs linear_tests linear_pairs_tests
 returns-then-guard c =
-    rw (← ap (λ (m : Middle). m.value) c.median-m.ensures, ← c.side_span.ensures) (c.some_pair.ensures ∙ guarded_on _ _ _ (sym c.guard.ensures ∙ c.if-guard.true))
+    rw (← ap (λ (m : Middle). m.value) c.median-bm.ensures, ← c.side_span.ensures) (c.some_pair.ensures ∙ guarded_on _ _ _ (sym c.guard.ensures ∙ c.if-guard.true))
 
 pub returns : goal.returns
 unfolding has_linear_artifact linear_pairs linear_tests linear_pairs_tests
-returns c = rw (← ap (λ (m : Middle). m.value) c.median-m.ensures) (guarded_off _ _ _ (sym c.guard.ensures ∙ c.if-guard.false))
+returns c = rw (← ap (λ (m : Middle). m.value) c.median-bm.ensures) (guarded_off _ _ _ (sym c.guard.ensures ∙ c.if-guard.false))

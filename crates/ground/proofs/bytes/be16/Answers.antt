@@ -1,9 +1,11 @@
 -- `ground::bytes::be16` meets its contract. Assumes nothing.
-use mathlib.Core.Path.{◌∙◌, ap}
-use Prim.Native.Nat.{ℕ}
-use native.Mathlib.Nat.{add-zero}
+use Rattle.std.proofs.Common.{lit<, add-zero, arith}
 use Rattle.ground.specs.Bytes.{be16}
 use Rattle.ground.proofs.bytes.be16.Goals as goal
 
 pub returns : goal.returns
-returns c = (c.pair.ensures.0 ∙ ap (λ (k : ℕ). be16 c.before.before.args.s.now k) (add-zero c.before.before.args.at), c.pair.ensures.1)
+unfolding be16
+returns c =
+    let e0 = rw add-zero at (c.bytes_at.ensures 0 (lit< tt)) in
+    let e1 = c.bytes_at.ensures 1 (lit< tt) in
+    (omega (arith, c.from.ensures, c.from_be_bytes.ensures, e0, e1), omega (arith, c.from.ensures, c.from_be_bytes.type_inv))

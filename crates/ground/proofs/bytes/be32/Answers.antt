@@ -1,9 +1,13 @@
 -- `ground::bytes::be32` meets its contract. Assumes nothing.
-use mathlib.Core.Path.{◌∙◌, ap}
-use Prim.Native.Nat.{ℕ}
-use native.Mathlib.Nat.{add-zero}
-use Rattle.ground.specs.Bytes.{be32}
+use Rattle.std.proofs.Common.{lit<, add-zero, add_assoc, arith}
+use Rattle.ground.specs.Bytes.{be32, be16}
 use Rattle.ground.proofs.bytes.be32.Goals as goal
 
 pub returns : goal.returns
-returns c = c.quad.ensures.0 ∙ ap (λ (k : ℕ). be32 c.before.before.args.s.now k) (add-zero c.before.before.args.at)
+unfolding be32 be16
+returns c =
+    let e0 = rw add-zero at (c.bytes_at.ensures 0 (lit< tt)) in
+    let e1 = c.bytes_at.ensures 1 (lit< tt) in
+    let e2 = c.bytes_at.ensures 2 (lit< tt) in
+    let e3 = c.bytes_at.ensures 3 (lit< tt) in
+    rw (add_assoc c.args.at 2 1) (omega (arith, c.from_be_bytes.ensures, e0, e1, e2, e3))

@@ -1,14 +1,9 @@
 -- `ground::bytes::bits_of_float32` meets its contract. Assumes nothing.
-use mathlib.Core.Path.{sym, subst}
-use lib.Dec.{T}
-use lib.Ieee.Compare.{differs_from_itself}
+use mathlib.Core.Path.{sym, ◌∙◌}
 use lib.Ieee.{to_bits}
-use Rattle.ground.proofs.Laws.Nan.{no_nan}
+use Rattle.ground.proofs.Laws.Nan.{ne_self, is_nan_law}
 use Rattle.ground.proofs.bytes.bits_of_float32.Goals as goal
 
-pub returns-then-x : goal.returns-then-x
+pub returns-then-is_nan : goal.returns-then-is_nan
 unfolding to_bits
-returns-then-x c = rw (differs_from_itself c.before.args.x (subst T (sym c.if-x.true) tt))
-
-pub float_to_bits-result : goal.float_to_bits-result
-float_to_bits-result c = no_nan c.before.args.x c.if-x.false
+returns-then-is_nan c = rw (is_nan_law c.args.x (ne_self c.args.x ∙ sym c.is_nan.ensures.value ∙ c.if-is_nan.true))
