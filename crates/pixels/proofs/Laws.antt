@@ -2,4 +2,5 @@
 pub mod Byte
 pub mod Sample
 pub mod Through
+pub mod Refusal
 pub mod Alike

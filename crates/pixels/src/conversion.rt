@@ -4,10 +4,11 @@ ghost use Rattle.std.specs.Float.Ieee.{is_nan};
 ghost use Rattle.pixels.specs.Byte.{byte_of, sample_of};
 ghost use Rattle.pixels.specs.Checks as Checks;
 ghost use Rattle.pixels.specs.Bytes as Bytes;
+ghost use Rattle.pixels.specs.Refusal.{number_in, place_in};
 ghost use Rattle.pixels.specs.Inner.{hold_of};
 
+use crate::refusal::Refusal;
 use inputs::checks;
-use inputs::checks::Refusal;
 
 // The value held to 0..1.
 fn hold(v: f32) -> f32
@@ -34,27 +35,17 @@ fn byte_to_float(k: u8) -> f32
     (k as f32) / 255.0
 }
 
-// The first of checks 40 and 6 that fails, with its place.
-fn refusal(samples: &[f32], n: usize) -> Refusal
-    ensures numbers { result.number ≡ Checks.refusal_number samples.now n }
-    ensures places { result.place ≡ Checks.refusal_place samples.now n }
+// The first of checks 40 and 6 that fails.
+fn check(samples: &[f32], n: usize) -> Result<(), Refusal>
+    ensures numbers { number_in result ≡ Checks.refusal_number samples.now n }
+    ensures places { place_in result ≡ Checks.refusal_place samples.now n }
 {
     if n != samples.len() {
-        return Refusal {
-            number: 40,
-            place: 0,
-        };
+        return Err(Refusal::Length);
     }
-    let p = checks::samples_place(samples);
-    if p < samples.len() {
-        return Refusal {
-            number: 6,
-            place: p,
-        };
-    }
-    Refusal {
-        number: 0,
-        place: 0,
+    match checks::first_bad_sample(samples) {
+        Some(p) => Err(Refusal::Sample(p)),
+        None => Ok(()),
     }
 }
 
@@ -78,35 +69,26 @@ fn write_samples(bytes: &[u8], samples: &mut [f32])
     }
 }
 
-// Each sample as the byte nearest to 255 times its value, held to 0..1 and at a tie the even one: the number of the first check that fails and its place, 0 and 0
-// where both pass.
-pub fn samples_to_bytes(samples: &[f32], bytes: &mut [u8]) -> Refusal
-    ensures numbers { result.number ≡ Checks.refusal_number samples.now (length bytes.old) }
-    ensures places { result.place ≡ Checks.refusal_place samples.now (length bytes.old) }
+// Each sample as the byte nearest to 255 times its value, held to 0..1 and at a tie the even one, or the first check that fails.
+pub fn samples_to_bytes(samples: &[f32], bytes: &mut [u8]) -> Result<(), Refusal>
+    ensures numbers { number_in result ≡ Checks.refusal_number samples.now (length bytes.old) }
+    ensures places { place_in result ≡ Checks.refusal_place samples.now (length bytes.old) }
     ensures writes { bytes.new ≡ Bytes.bytes_after samples.now bytes.old }
 {
-    let f = refusal(samples, bytes.len());
-    if f.number == 0 {
-        write_bytes(samples, bytes);
-    }
-    f
+    check(samples, bytes.len())?;
+    write_bytes(samples, bytes);
+    Ok(())
 }
 
-// Each byte k as the sample nearest to k / 255: the number of the check that fails, 0 where it passes, and the place 0.
-pub fn bytes_to_samples(bytes: &[u8], samples: &mut [f32]) -> Refusal
-    ensures numbers { result.number ≡ Checks.length_refusal (length bytes.now) (length samples.old) }
-    ensures places { result.place ≡ 0 }
+// Each byte k as the sample nearest to k / 255, or the check that fails, which has no place.
+pub fn bytes_to_samples(bytes: &[u8], samples: &mut [f32]) -> Result<(), Refusal>
+    ensures numbers { number_in result ≡ Checks.length_refusal (length bytes.now) (length samples.old) }
+    ensures places { place_in result ≡ 0 }
     ensures writes { samples.new ≡ Bytes.samples_after bytes.now samples.old }
 {
     if samples.len() != bytes.len() {
-        return Refusal {
-            number: 40,
-            place: 0,
-        };
+        return Err(Refusal::Length);
     }
     write_samples(bytes, samples);
-    Refusal {
-        number: 0,
-        place: 0,
-    }
+    Ok(())
 }

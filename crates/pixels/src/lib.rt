@@ -2,3 +2,4 @@
 #![tactic(auto)]
 
 pub mod conversion;
+pub mod refusal;

@@ -7,4 +7,5 @@ pub mod Sides
 pub mod Again
 pub mod Beyond
 pub mod Figures
+pub mod Refusal
 pub mod Alike

@@ -2,17 +2,11 @@
 ghost use Rattle.std.specs.Prelude.{◌≡◌};
 ghost use Rattle.signs.specs.Checks as Checks;
 ghost use Rattle.signs.specs.Checks.{input};
+ghost use Rattle.signs.specs.Refusal.{number_in, place_in};
 
+use crate::refusal::Refusal;
 use inputs::checks;
-use inputs::checks::Refusal;
 use inputs::sizes::Bitmap;
-
-// A number and its place.
-fn refused(number: u8, place: usize) -> Refusal
-    ensures { (result.number ≡ number) × (result.place ≡ place) }
-{
-    Refusal { number, place }
-}
 
 // Check 1.
 fn bad_channels(ch: usize) -> bool
@@ -21,20 +15,21 @@ fn bad_channels(ch: usize) -> bool
     ch != 1 && checks::bad_channels(ch)
 }
 
-// The first of checks 1 to 3 that fails, of a bitmap with n samples; 0 where all pass.
-fn size_refusal(b: Bitmap, n: usize) -> u8
-    ensures { result ≡ Checks.size_refusal b.width b.height b.channels n }
+// The first of checks 1 to 3 that fails, of a bitmap with n samples.
+fn check_size(b: Bitmap, n: usize) -> Result<(), Refusal>
+    ensures numbers { number_in result ≡ Checks.size_refusal b.width b.height b.channels n }
+    ensures places { place_in result ≡ 0 }
 {
     if bad_channels(b.channels) {
-        return 1;
+        return Err(Refusal::Channels);
     }
     if checks::bad_size(b) {
-        return 2;
+        return Err(Refusal::Size);
     }
     if n != b.width * b.height * b.channels {
-        return 3;
+        return Err(Refusal::SampleCount);
     }
-    0
+    Ok(())
 }
 
 // Some byte of the filled map is above 1. All are looked at, and no test waits for another.
@@ -55,28 +50,30 @@ fn bad_filled(filled: &[u8], n: usize) -> bool
     filled.len() != n || some_above(filled)
 }
 
-// The first of all checks that fails, with its place; 0 and 0 where all pass.
-pub fn refusal(b: Bitmap, samples: &[f32], zero: f32, filled: &[u8], matches: &[i8]) -> Refusal
-    ensures numbers { result.number ≡ Checks.refusal_number (input b.width b.height b.channels samples.now zero filled.now matches.now) }
-    ensures places { result.place ≡ Checks.refusal_place (input b.width b.height b.channels samples.now zero filled.now matches.now) }
+// The first of all checks that fails.
+pub fn check(
+    b: Bitmap,
+    samples: &[f32],
+    zero: f32,
+    filled: &[u8],
+    matches: &[i8],
+) -> Result<(), Refusal>
+    ensures numbers { number_in result ≡ Checks.refusal_number (input b.width b.height b.channels samples.now zero filled.now matches.now) }
+    ensures places { place_in result ≡ Checks.refusal_place (input b.width b.height b.channels samples.now zero filled.now matches.now) }
 {
-    let n = size_refusal(b, samples.len());
-    if n != 0 {
-        return refused(n, 0);
-    }
-    let p = checks::samples_place(samples);
-    if p < samples.len() {
-        return refused(6, p);
+    check_size(b, samples.len())?;
+    if let Some(p) = checks::first_bad_sample(samples) {
+        return Err(Refusal::Sample(p));
     }
     if checks::bad_sample(zero) {
-        return refused(10, 0);
+        return Err(Refusal::Zero);
     }
     let area = b.width * b.height;
     if bad_filled(filled, area) {
-        return refused(11, 0);
+        return Err(Refusal::Filled);
     }
     if matches.len() != area {
-        return refused(12, 0);
+        return Err(Refusal::Matches);
     }
-    refused(0, 0)
+    Ok(())
 }

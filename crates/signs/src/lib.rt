@@ -3,3 +3,4 @@
 
 pub mod checks;
 pub mod rasterization;
+pub mod refusal;

@@ -7,11 +7,12 @@ ghost use Rattle.ground.specs.Lists.{tab};
 ghost use Rattle.signs.specs.Flip as Flip;
 ghost use Rattle.signs.specs.Checks as Checks;
 ghost use Rattle.signs.specs.Checks.{input};
+ghost use Rattle.signs.specs.Refusal.{number_in, place_in};
 ghost use Rattle.signs.specs.Signs as Signs;
 ghost use Rattle.signs.specs.Inner.{two_of, flipped_at, turns_at, Mapped, Numbers};
 
 use crate::checks;
-use inputs::checks::Refusal;
+use crate::refusal::Refusal;
 use inputs::sizes;
 use inputs::sizes::Bitmap;
 
@@ -198,7 +199,7 @@ fn correct(b: Bitmap, xs: &mut [f32], zero: f32, filled: &[u8], matches: &mut [i
     }
 }
 
-// The correction of the signs of a bitmap's values, in place: the number of the first check that fails and its place, 0 and 0 where all pass.
+// The correction of the signs of a bitmap's values, in place, or the first check that fails.
 pub fn distance_sign_correction(
     width: usize,
     height: usize,
@@ -207,9 +208,9 @@ pub fn distance_sign_correction(
     zero: f32,
     filled: &[u8],
     matches: &mut [i8],
-) -> Refusal
-    ensures numbers { result.number ≡ Checks.refusal_number (input width height channels samples.old zero filled.now matches.old) }
-    ensures places { result.place ≡ Checks.refusal_place (input width height channels samples.old zero filled.now matches.old) }
+) -> Result<(), Refusal>
+    ensures numbers { number_in result ≡ Checks.refusal_number (input width height channels samples.old zero filled.now matches.old) }
+    ensures places { place_in result ≡ Checks.refusal_place (input width height channels samples.old zero filled.now matches.old) }
     ensures writes { samples.new ≡ Signs.samples_after (input width height channels samples.old zero filled.now matches.old) }
     ensures leaves { matches.new ≡ Signs.matches_after (input width height channels samples.old zero filled.now matches.old) }
 {
@@ -218,9 +219,7 @@ pub fn distance_sign_correction(
         height,
         channels,
     };
-    let f = checks::refusal(b, samples, zero, filled, matches);
-    if f.number == 0 {
-        correct(b, samples, zero, filled, matches);
-    }
-    f
+    checks::check(b, samples, zero, filled, matches)?;
+    correct(b, samples, zero, filled, matches);
+    Ok(())
 }

@@ -1,11 +1,12 @@
 -- `pixels::conversion::samples_to_bytes` meets its contract: the checks, then the bytes. Assumes nothing.
+use mathlib.Core.Path.{refl}
+use Rattle.pixels.proofs.Laws.Refusal.{refuses}
 use Rattle.pixels.proofs.conversion.Answers.{bytes_accepted, bytes_refused}
 use Rattle.pixels.proofs.conversion.samples_to_bytes.Goals as goal
 
-pub returns-then-f-eq0 : goal.returns-then-f-eq0
-returns-then-f-eq0 c =
-    let a = c.args in record { numbers = c.refusal-f.ensures.numbers; places = c.refusal-f.ensures.places; writes = bytes_accepted a.samples.now a.bytes.now _ c.refusal-f.ensures.numbers c.if-f-eq0.true c.write_bytes.ensures }
+pub returns-in_err-check-clause-writes : goal.returns-in_err-check-clause-writes
+returns-in_err-check-clause-writes c = bytes_refused c.args.samples.now c.args.bytes.now c.in_err-check.ensures.numbers (refuses _)
 
-pub returns-else-f-eq0 : goal.returns-else-f-eq0
-returns-else-f-eq0 c =
-    let a = c.args in record { numbers = c.refusal-f.ensures.numbers; places = c.refusal-f.ensures.places; writes = bytes_refused a.samples.now a.bytes.now c.refusal-f.ensures.numbers c.if-f-eq0.false }
+pub returns-clause-writes : goal.returns-clause-writes
+returns-clause-writes c =
+    bytes_accepted c.args.samples.now c.args.bytes.now _ c.in_ok-check.ensures.numbers refl c.write_bytes.ensures
