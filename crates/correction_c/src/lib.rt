@@ -17,7 +17,6 @@ ghost use Rattle.pixels.specs.Bytes as Bytes;
 ghost use Rattle.correction_c.specs.Call as Call;
 ghost use Rattle.correction_c.specs.Call.{called};
 
-use correction::pass::Answer;
 use correction::{pass, sheet, view};
 use detectors::texel;
 use inputs::sizes::Bitmap;
@@ -67,21 +66,21 @@ pub extern "C" fn rungtwine_error_correction(
     match pass::msdf_error_correction(
         width, height, channels, samples, stencil, room, mode, s, colours, coords, ends,
     ) {
-        Answer::Accepted(c, t) => {
+        Ok(c) => {
             *place = 0;
-            *protected = c.protected;
-            *error = c.error;
-            *corner = c.corner;
-            *tests = t;
+            *protected = c.counts.protected;
+            *error = c.counts.error;
+            *corner = c.counts.corner;
+            *tests = c.tests;
             0
         }
-        Answer::Refused(n, p) => {
-            *place = p;
+        Err(r) => {
+            *place = r.place();
             *protected = 0;
             *error = 0;
             *corner = 0;
             *tests = 0;
-            n
+            r.number()
         }
     }
 }
@@ -126,19 +125,19 @@ pub extern "C" fn rungtwine_plain_error_correction(
     match plain::pass::plain_error_correction(
         width, height, channels, samples, stencil, room, mode, s, colours, coords, ends,
     ) {
-        plain::pass::Answer::Accepted(c) => {
+        Ok(c) => {
             *place = 0;
             *protected = c.protected;
             *error = c.error;
             *corner = c.corner;
             0
         }
-        plain::pass::Answer::Refused(n, p) => {
-            *place = p;
+        Err(r) => {
+            *place = r.place();
             *protected = 0;
             *error = 0;
             *corner = 0;
-            n
+            r.number()
         }
     }
 }
@@ -181,23 +180,23 @@ pub extern "C" fn rungtwine_sheet_error_correction(
         width, height, channels, samples, stencil, room, cells, modes, settings, colours, coords,
         ends,
     ) {
-        sheet::Answer::Accepted(c, t) => {
+        Ok(c) => {
             *cell = 0;
             *place = 0;
-            *protected = c.protected;
-            *error = c.error;
-            *corner = c.corner;
-            *tests = t;
+            *protected = c.counts.protected;
+            *error = c.counts.error;
+            *corner = c.counts.corner;
+            *tests = c.tests;
             0
         }
-        sheet::Answer::Refused(n, c, p) => {
-            *cell = c;
-            *place = p;
+        Err(r) => {
+            *cell = r.cell();
+            *place = r.place();
             *protected = 0;
             *error = 0;
             *corner = 0;
             *tests = 0;
-            n
+            r.number()
         }
     }
 }
@@ -229,12 +228,20 @@ pub extern "C" fn rungtwine_sheet_check(
         height,
         channels,
     };
-    let f = sheet::check(
+    match sheet::check(
         b, samples, stencil, room, cells, modes, settings, colours, coords, ends,
-    );
-    *cell = f.cell;
-    *place = f.place;
-    f.number
+    ) {
+        Ok(()) => {
+            *cell = 0;
+            *place = 0;
+            0
+        }
+        Err(r) => {
+            *cell = r.cell();
+            *place = r.place();
+            r.number()
+        }
+    }
 }
 
 // The correction of signs, in place. Answers the number of the first check that fails, 0 where all pass, and writes its place.
@@ -254,11 +261,18 @@ pub extern "C" fn rungtwine_sign_correction(
     ensures writes { samples.new ≡ Signs.samples_after (field width height channels samples.old zero filled.now matches.old) }
     ensures leaves { matches.new ≡ Signs.matches_after (field width height channels samples.old zero filled.now matches.old) }
 {
-    let f = rasterization::distance_sign_correction(
+    match rasterization::distance_sign_correction(
         width, height, channels, samples, zero, filled, matches,
-    );
-    *place = f.place;
-    f.number
+    ) {
+        Ok(()) => {
+            *place = 0;
+            0
+        }
+        Err(r) => {
+            *place = r.place();
+            r.number()
+        }
+    }
 }
 
 // Samples to bytes. Answers the number of the first check that fails, 0 where both pass, and writes its place.
@@ -272,9 +286,16 @@ pub extern "C" fn rungtwine_samples_to_bytes(
     ensures places { place.new ≡ Outputs.refusal_place samples.now (length bytes.old) }
     ensures writes { bytes.new ≡ Bytes.bytes_after samples.now bytes.old }
 {
-    let f = conversion::samples_to_bytes(samples, bytes);
-    *place = f.place;
-    f.number
+    match conversion::samples_to_bytes(samples, bytes) {
+        Ok(()) => {
+            *place = 0;
+            0
+        }
+        Err(r) => {
+            *place = r.place();
+            r.number()
+        }
+    }
 }
 
 // Bytes to samples. Answers the number of the check that fails, 0 where it passes, and writes its place, which is 0.
@@ -288,9 +309,16 @@ pub extern "C" fn rungtwine_bytes_to_samples(
     ensures places { place.new ≡ 0 }
     ensures writes { samples.new ≡ Bytes.samples_after bytes.now samples.old }
 {
-    let f = conversion::bytes_to_samples(bytes, samples);
-    *place = f.place;
-    f.number
+    match conversion::bytes_to_samples(bytes, samples) {
+        Ok(()) => {
+            *place = 0;
+            0
+        }
+        Err(r) => {
+            *place = r.place();
+            r.number()
+        }
+    }
 }
 
 // Leaves in texel what the view lends: an exported function returns no reference.
