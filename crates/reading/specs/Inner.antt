@@ -17,6 +17,7 @@ use Rattle.reading.specs.Answer.{printed, written, printed_plainly, written_plai
 use Rattle.reading.specs.declared.engines.Judged.{Judged}
 use Rattle.reading.specs.declared.engines.Judged.TheVariants.{Accepted, Refused}
 use Rattle.reading.specs.declared.reader.Field.{Field}
+use Rattle.reading.specs.declared.text.Page.{Page}
 
 -- what a field reader tells of the field at a place: its tag, 0 where there is none, its length where that is there, and where its contents end where they are there
 pub record Told (s : List ℕ) (at : ℕ) (f : Field) : Type 0 where
@@ -97,6 +98,13 @@ pub record Decoded (s : List ℕ) (k n : ℕ) (cs₀ cs : List ℕ) (ps₀ ps : 
   pub colours : Written cs₀ 0 (colours_of s) n cs
   pub coords : Written ps₀ 0 (coords_of s) (2 * n) ps
   pub ends : Written es₀ 0 (ends_of s) k es
+
+-- ---- a page: a lent slice, written from the front on
+
+-- the text is written on the page p, of which q is what became
+pub record Put (p : Page) (text : List ℕ) (q : Page) : Type 0 where
+  pub same : q.out.ghost_name ≡ p.out.ghost_name
+  pub written : Written p.out.now p.at text q.at q.out.now
 
 -- ---- either engine: the plain one, or the first
 
