@@ -16,17 +16,18 @@ use Rattle.correction.specs.Bitmap.{cell_texel}
 use Rattle.correction.specs.Pass.{answer, pass_stencil, pass_tests, test_count}
 use Rattle.correction.proofs.Laws.Tests.{test_count_fits}
 use Rattle.inputs.specs.Stencil.{counts_of}
-use Rattle.correction.specs.declared.pass.Answer as First
-use Rattle.correction.specs.declared.pass.Answer.TheVariants as first
-use Rattle.plain.specs.declared.pass.Answer as Plain
-use Rattle.plain.specs.declared.pass.Answer.TheVariants as plain
-use Rattle.plain.specs.Answer.{plain_answer, untested}
+use Rattle.inputs.specs.declared.refusal.Refusal.{Refusal}
+use Rattle.inputs.specs.declared.refusal.Refusal.TheVariants.{Channels}
+use Rattle.inputs.specs.Refusal.{number, place, refusal_with}
+use Rattle.correction.specs.Pass.{Answer}
+use Rattle.correction.proofs.Laws.Answer.{refusal_told}
+use Rattle.plain.specs.Answer.{Plain, plain_answer, untested}
 use Rattle.reading.specs.Answer.{case_of, answer_text, answer_plainly, printed, printed_plainly}
 use Rattle.reading.specs.Case.{row_samples, samples_of}
 use Rattle.reading.specs.Grammar.{breach, width, height, channels, row_at, row_size}
 use Rattle.reading.specs.Inner.{counts_line, of_pass, of_plain, judged, judged_text, printed_by}
 use Rattle.reading.specs.Text.{bad_text, refused_text, cells_text, accepted_text, accepted_plainly}
-use Rattle.reading.specs.declared.engines.Judged.TheVariants.{Accepted, Refused}
+use Rattle.std.specs.Prelude.{Ok, Err}
 use Rattle.reading.proofs.run.Answered.{sized, stencil_length, refused_text_law}
 use Rattle.reading.proofs.decode.Decoded.{row_length}
 use Rattle.reading.proofs.Laws.Bounds.{breach_short, breach_le, refusal_number_le, refusal_place_le, ends_le, colours_le}
@@ -41,15 +42,15 @@ printed_bad true s n = simp (ne_eqb (breach s) 65537 n)
 printed_bad false s n = simp (ne_eqb (breach s) 65537 n)
 
 -- the text of either engine's answer
-pass_text : (i : Input) (a : First.Answer) → judged_text i (of_pass a) ≡ answer_text i a
+pass_text : (i : Input) (a : Answer) → judged_text i (of_pass a) ≡ answer_text i a
 unfolding judged_text of_pass answer_text accepted_text counts_line
-pass_text i (first.Accepted c t) = refl
-pass_text i (first.Refused n p) = refl
+pass_text i (Ok c) = refl
+pass_text i (Err r) = refl
 
-plain_text : (i : Input) (a : Plain.Answer) → judged_text i (of_plain a) ≡ answer_plainly i a
+plain_text : (i : Input) (a : Plain) → judged_text i (of_plain a) ≡ answer_plainly i a
 unfolding judged_text of_plain answer_plainly accepted_plainly counts_line
-plain_text i (plain.Accepted c) = refl
-plain_text i (plain.Refused n p) = refl
+plain_text i (Ok c) = refl
+plain_text i (Err r) = refl
 
 -- without a breach the engine's answer is printed
 pub printed_case : (plain : Bool) (s : List ℕ) → breach s ≡ 65537 → judged_text (case_of s) (judged plain (case_of s)) ≡ printed_by plain s
@@ -58,19 +59,19 @@ printed_case true s e = simp (eq-eqb (breach s) 65537 e) (plain_text (case_of s)
 printed_case false s e = simp (eq-eqb (breach s) 65537 e) (pass_text (case_of s) (answer (case_of s)))
 
 -- no channels are refused by check 1
-channelless : (i : Input) (ch : ℕ) → i.channels ≡ ch → ch ≡ 0 → first.Refused 1 0 ≡ answer i
+channelless : (i : Input) (ch : ℕ) → i.channels ≡ ch → ch ≡ 0 → Err Channels ≡ answer i
 unfolding answer accepted refusal_number refusal_place place_of outline_place first_failing bad_channels
 channelless i ch d e = rw (d, e)
 
 -- by either engine
-refuses : (plain : Bool) (i : Input) (n p : ℕ) → first.Refused n p ≡ answer i → Refused n p ≡ judged plain i
+refuses : (plain : Bool) (i : Input) (r : Refusal) → Err r ≡ answer i → Err r ≡ judged plain i
 unfolding judged plain_answer untested of_plain of_pass
-refuses true i n p e = ap (λ a. of_plain (untested a)) e
-refuses false i n p e = ap of_pass e
+refuses true i r e = ap (λ a. of_plain (untested a)) e
+refuses false i r e = ap of_pass e
 
 -- no channels are refused
 pub no_channels : (plain : Bool) (s : List ℕ) → channels s ≡ 0 → refused_text 1 0 ≡ judged_text (case_of s) (judged plain (case_of s))
-no_channels plain s e = refused_text_law plain (case_of s) 1 0 (refuses plain (case_of s) 1 0 (channelless (case_of s) (channels s) refl e))
+no_channels plain s e = refused_text_law plain (case_of s) Channels (refuses plain (case_of s) Channels (channelless (case_of s) (channels s) refl e))
 
 -- a number that is not 0
 pub some : (n : ℕ) → (n ≡ 0 → ⊥) → 0 < n
@@ -90,7 +91,7 @@ unfolding test_count
 tests_fit i a = subst (λ (b : Bool). cond b (pass_tests i) 0 ≤ 1409286144) a (test_count_fits i)
 
 -- an accepted case: its sides, its channels and its counts are at most 4,096, and so are its cells
-accepted_fits : (i : Input) (t : Option ℕ) → accepted i ≡ true → length i.samples ≤ 12288 → (length (cells_text (counts_of (pass_stencil i))) ≤ 85 → length (counts_line (counts_of (pass_stencil i)) t) ≤ 113) → length (judged_text i (Accepted (counts_of (pass_stencil i)) t)) ≤ 131072
+accepted_fits : (i : Input) (t : Option ℕ) → accepted i ≡ true → length i.samples ≤ 12288 → (length (cells_text (counts_of (pass_stencil i))) ≤ 85 → length (counts_line (counts_of (pass_stencil i)) t) ≤ 113) → length (judged_text i (Ok (record { counts = counts_of (pass_stencil i); tests = t }))) ≤ 131072
 unfolding judged_text
 accepted_fits i t a l f =
     let z = sized i a in
@@ -101,17 +102,19 @@ accepted_fits i t a l f =
     omega (arith, accepted_length i.width i.height i.channels (counts_line (counts_of st) t) st (cell_texel i.samples i.channels) (omega (arith, z.narrow)) (omega (arith, z.high)) (omega (arith, z.shallow)) c (omega arith), z.high)
 
 -- a refused one: the number of its check is at most 60, and its place at most 12,288
-refused_fits : (i : Input) → length i.samples ≤ 12288 → length i.ends ≤ 12288 → length i.colours ≤ 12288 → length (judged_text i (Refused (refusal_number i) (refusal_place i))) ≤ 131072
+refused_fits : (i : Input) → accepted i ≡ false → length i.samples ≤ 12288 → length i.ends ≤ 12288 → length i.colours ≤ 12288 → length (judged_text i (Err (refusal_with (refusal_number i) (refusal_place i)))) ≤ 131072
 unfolding judged_text
-refused_fits i l m n = omega (arith, refused_length (refusal_number i) (refusal_place i) (omega (arith, refusal_number_le i)) (omega (arith, refusal_place_le i 12288 (omega arith) l m n)))
+refused_fits i a l m n =
+    let t = refusal_told i a in
+    omega (arith, refused_length (number (refusal_with (refusal_number i) (refusal_place i))) (place (refusal_with (refusal_number i) (refusal_place i))) (omega (arith, t.0, refusal_number_le i)) (omega (arith, t.1, refusal_place_le i 12288 (omega arith) l m n)))
 
 -- an answer of either engine
-fits_go : (plain : Bool) (i : Input) (t : Bool) → accepted i ≡ t → length i.samples ≤ 12288 → length i.ends ≤ 12288 → length i.colours ≤ 12288 → length (judged_text i (cond plain (of_plain (untested (cond t (first.Accepted (counts_of (pass_stencil i)) (pass_tests i)) (first.Refused (refusal_number i) (refusal_place i))))) (of_pass (cond t (first.Accepted (counts_of (pass_stencil i)) (pass_tests i)) (first.Refused (refusal_number i) (refusal_place i)))))) ≤ 131072
+fits_go : (plain : Bool) (i : Input) (t : Bool) → accepted i ≡ t → length i.samples ≤ 12288 → length i.ends ≤ 12288 → length i.colours ≤ 12288 → length (judged_text i (cond plain (of_plain (untested (cond t (Ok (record { counts = counts_of (pass_stencil i); tests = pass_tests i })) (Err (refusal_with (refusal_number i) (refusal_place i)))))) (of_pass (cond t (Ok (record { counts = counts_of (pass_stencil i); tests = pass_tests i })) (Err (refusal_with (refusal_number i) (refusal_place i))))))) ≤ 131072
 unfolding untested of_plain of_pass
 fits_go true i true a l m n = accepted_fits i None a l (uncounted_length (counts_of (pass_stencil i)))
 fits_go false i true a l m n = accepted_fits i (Some (pass_tests i)) a l (λ h. counted_length (counts_of (pass_stencil i)) (pass_tests i) h (omega (arith, tests_fit i a)))
-fits_go true i false a l m n = refused_fits i l m n
-fits_go false i false a l m n = refused_fits i l m n
+fits_go true i false a l m n = refused_fits i a l m n
+fits_go false i false a l m n = refused_fits i a l m n
 
 answer_fits : (plain : Bool) (i : Input) → length i.samples ≤ 12288 → length i.ends ≤ 12288 → length i.colours ≤ 12288 → length (judged_text i (judged plain i)) ≤ 131072
 unfolding judged plain_answer answer

@@ -1,17 +1,14 @@
 -- What the program prints for an input: the grammar, the pass and the text put together. Definitions only.
-use Rattle.std.specs.Prelude.{ℕ, ◌*◌, cond, List, [], eqb, leb, Float}
+use Rattle.std.specs.Prelude.{ℕ, ◌*◌, cond, List, [], eqb, leb, Ok, Err, Float}
 use Rattle.std.specs.Float.{binary32}
 use Rattle.numbers.specs.Constants.{zero_of}
 use Rattle.ground.specs.Lists.{tab}
 use Rattle.ranges.specs.declared.config.Settings.{Settings}
-use Rattle.correction.specs.declared.pass.Answer.{Answer}
-use Rattle.correction.specs.declared.pass.Answer.TheVariants.{Accepted, Refused}
-use Rattle.plain.specs.declared.pass.Answer as Plain
-use Rattle.plain.specs.declared.pass.Answer.TheVariants as plain
+use Rattle.inputs.specs.Refusal.{number, place}
 use Rattle.inputs.specs.Checks.{Input, input}
 use Rattle.correction.specs.Bitmap.{cell_texel}
-use Rattle.correction.specs.Pass.{answer, pass_stencil}
-use Rattle.plain.specs.Answer.{plain_answer}
+use Rattle.correction.specs.Pass.{Answer, answer, pass_stencil}
+use Rattle.plain.specs.Answer.{Plain, plain_answer}
 use Rattle.reading.specs.Grammar.{fine, width, height, channels, breach}
 use Rattle.reading.specs.Case.{mode_of, ratio_of, horizontal_of, vertical_of, diagonal_of, colours_of, coords_of, ends_of, samples_of}
 use Rattle.reading.specs.Text.{bad_text, refused_text, accepted_text, accepted_plainly}
@@ -30,8 +27,8 @@ case_of s =
 
 -- the text of the pass's answer; each median is judged on the samples that came in, before the collapse
 unfoldable pub answer_text : Input → Answer → List ℕ
-answer_text i (Accepted c t) = accepted_text i.width i.height i.channels c t (pass_stencil i) (cell_texel i.samples i.channels)
-answer_text i (Refused n place) = refused_text n place
+answer_text i (Ok c) = accepted_text i.width i.height i.channels c.counts c.tests (pass_stencil i) (cell_texel i.samples i.channels)
+answer_text i (Err r) = refused_text (number r) (place r)
 
 -- all that is printed
 unfoldable pub printed : List ℕ → List ℕ
@@ -44,9 +41,9 @@ written n s = cond (leb 131072 n) (printed s) []
 -- ---- the plain program: the plain engine in place of the pass
 
 -- the text of the plain engine's answer; each median is judged on the samples that came in
-unfoldable pub answer_plainly : Input → Plain.Answer → List ℕ
-answer_plainly i (plain.Accepted c) = accepted_plainly i.width i.height i.channels c (pass_stencil i) (cell_texel i.samples i.channels)
-answer_plainly i (plain.Refused n place) = refused_text n place
+unfoldable pub answer_plainly : Input → Plain → List ℕ
+answer_plainly i (Ok c) = accepted_plainly i.width i.height i.channels c (pass_stencil i) (cell_texel i.samples i.channels)
+answer_plainly i (Err r) = refused_text (number r) (place r)
 
 -- all that the plain program prints
 unfoldable pub printed_plainly : List ℕ → List ℕ

@@ -1,21 +1,19 @@
 -- What the inner functions ask of each other; no public promise rests on it. Definitions only.
-use Rattle.std.specs.Prelude.{◌≡◌, ℕ, ◌+◌, ◌-◌, ◌*◌, ◌≤◌, ◌<◌, Bool, cond, List, length, get_or, Float, Option, Some, None, Result, MatchResult}
+use Rattle.std.specs.Prelude.{◌≡◌, ℕ, ◌+◌, ◌-◌, ◌*◌, ◌≤◌, ◌<◌, Bool, cond, List, length, get_or, Float, Option, Some, None, Result, Ok, Err, MatchResult}
 use Rattle.ground.specs.Write.{Written}
 use Rattle.inputs.specs.Checks.{Input}
 use Rattle.inputs.specs.declared.stencil.Counts.{Counts}
 use Rattle.correction.specs.Bitmap.{cell_texel}
-use Rattle.correction.specs.Pass.{answer, pass_stencil}
-use Rattle.correction.specs.declared.pass.Answer as First
-use Rattle.correction.specs.declared.pass.Answer.TheVariants as first
-use Rattle.plain.specs.Answer.{plain_answer}
-use Rattle.plain.specs.declared.pass.Answer as Plain
-use Rattle.plain.specs.declared.pass.Answer.TheVariants as plain
+use Rattle.inputs.specs.declared.refusal.Refusal.{Refusal}
+use Rattle.inputs.specs.Refusal.{number, place}
+use Rattle.correction.specs.declared.pass.Corrected.{Corrected}
+use Rattle.correction.specs.Pass.{Answer, answer, pass_stencil}
+use Rattle.plain.specs.Answer.{Plain, plain_answer}
 use Rattle.reading.specs.Grammar.{fine, length_at, start, before, contours_from, contours, row_size, size_breach, field_breach, outline_breach, rows_breach, end_at, width, height, channels}
 use Rattle.reading.specs.Case.{colours_of, coords_of, ends_of}
 use Rattle.reading.specs.Text.{refused_text, counts_text, counts_plainly, accepted_with}
 use Rattle.reading.specs.Answer.{printed, written, printed_plainly, written_plainly}
 use Rattle.reading.specs.declared.engines.Judged.{Judged}
-use Rattle.reading.specs.declared.engines.Judged.TheVariants.{Accepted, Refused}
 use Rattle.reading.specs.declared.reader.Field.{Field}
 use Rattle.reading.specs.declared.text.Page.{Page}
 
@@ -113,23 +111,30 @@ unfoldable pub counts_line : Counts → Option ℕ → List ℕ
 counts_line c (Some t) = counts_text c t
 counts_line c None = counts_plainly c
 
--- an answer of the first engine, the pass, and one of the plain engine
-unfoldable pub of_pass : First.Answer → Judged
-of_pass (first.Accepted c t) = Accepted c (Some t)
-of_pass (first.Refused n p) = Refused n p
+-- what an engine counts: with the range tests, and without them
+abbrev pub with_tests : Corrected → Judged
+with_tests c = record { counts = c.counts; tests = Some c.tests }
 
-unfoldable pub of_plain : Plain.Answer → Judged
-of_plain (plain.Accepted c) = Accepted c None
-of_plain (plain.Refused n p) = Refused n p
+abbrev pub without_tests : Counts → Judged
+without_tests c = record { counts = c; tests = None }
+
+-- an answer of either engine in one form
+unfoldable pub of_pass : Answer → Result Judged Refusal
+of_pass (Ok c) = Ok (with_tests c)
+of_pass (Err r) = Err r
+
+unfoldable pub of_plain : Plain → Result Judged Refusal
+of_plain (Ok c) = Ok (without_tests c)
+of_plain (Err r) = Err r
 
 -- what the engine answers
-unfoldable pub judged : Bool → Input → Judged
+unfoldable pub judged : Bool → Input → Result Judged Refusal
 judged plainly i = cond plainly (of_plain (plain_answer i)) (of_pass (answer i))
 
 -- its text
-unfoldable pub judged_text : Input → Judged → List ℕ
-judged_text i (Accepted c t) = accepted_with i.width i.height i.channels (counts_line c t) (pass_stencil i) (cell_texel i.samples i.channels)
-judged_text i (Refused n p) = refused_text n p
+unfoldable pub judged_text : Input → Result Judged Refusal → List ℕ
+judged_text i (Ok j) = accepted_with i.width i.height i.channels (counts_line j.counts j.tests) (pass_stencil i) (cell_texel i.samples i.channels)
+judged_text i (Err r) = refused_text (number r) (place r)
 
 -- all that is printed with it, and what is written into a slice of n bytes
 unfoldable pub printed_by : Bool → List ℕ → List ℕ

@@ -5,38 +5,40 @@ ghost use Rattle.correction.specs.Pass as Pass;
 ghost use Rattle.reading.specs.Inner as Inner;
 
 use correction::pass;
+use correction::pass::Corrected;
+use inputs::refusal::Refusal;
 use inputs::sizes::Bitmap;
 use inputs::stencil::Counts;
 use plain::pass as plain_pass;
 use ranges::config::Settings;
 
-// What either engine answers: the counts and the tests, where it counts them, or the number of the first check that fails and its place.
+// What either engine counts: the cells with each bit, and the range tests where it counts them.
 #[derive(Clone, Copy)]
-pub enum Judged {
-    Accepted(Counts, Option<usize>),
-    Refused(u8, usize),
+pub struct Judged {
+    pub counts: Counts,
+    pub tests: Option<usize>,
 }
 
-// An answer of the pass, which counts its tests.
-impl From<pass::Answer> for Judged {
-    ghost from_gives = { λ a r. r ≡ Inner.of_pass a };
+// The pass counts its tests.
+impl From<Corrected> for Judged {
+    ghost from_gives = { λ c r. r ≡ Inner.with_tests c };
 
-    fn from(a: pass::Answer) -> Judged {
-        match a {
-            pass::Answer::Accepted(c, t) => Judged::Accepted(c, Some(t)),
-            pass::Answer::Refused(n, p) => Judged::Refused(n, p),
+    fn from(c: Corrected) -> Judged {
+        Judged {
+            counts: c.counts,
+            tests: Some(c.tests),
         }
     }
 }
 
-// An answer of the plain engine, which does not.
-impl From<plain_pass::Answer> for Judged {
-    ghost from_gives = { λ a r. r ≡ Inner.of_plain a };
+// The plain engine does not.
+impl From<Counts> for Judged {
+    ghost from_gives = { λ c r. r ≡ Inner.without_tests c };
 
-    fn from(a: plain_pass::Answer) -> Judged {
-        match a {
-            plain_pass::Answer::Accepted(c) => Judged::Accepted(c, None),
-            plain_pass::Answer::Refused(n, p) => Judged::Refused(n, p),
+    fn from(c: Counts) -> Judged {
+        Judged {
+            counts: c,
+            tests: None,
         }
     }
 }
@@ -56,7 +58,7 @@ pub trait Engine {
         colours: &[u8],
         coords: &[f64],
         ends: &[usize],
-    ) -> Judged
+    ) -> Result<Judged, Refusal>
         ensures answers { result ≡ Inner.judged plainly (input b.width b.height b.channels samples.old stencil.old room.old mode s colours.now coords.now ends.now) }
         ensures leaves { stencil.new ≡ Pass.stencil_after (input b.width b.height b.channels samples.old stencil.old room.old mode s colours.now coords.now ends.now) };
 }
@@ -77,10 +79,10 @@ impl Engine for First {
         colours: &[u8],
         coords: &[f64],
         ends: &[usize],
-    ) -> Judged {
-        Judged::from(pass::msdf_error_correction(
+    ) -> Result<Judged, Refusal> {
+        Ok(Judged::from(pass::msdf_error_correction(
             b.width, b.height, b.channels, samples, stencil, room, mode, s, colours, coords, ends,
-        ))
+        )?))
     }
 }
 
@@ -100,9 +102,9 @@ impl Engine for Plain {
         colours: &[u8],
         coords: &[f64],
         ends: &[usize],
-    ) -> Judged {
-        Judged::from(plain_pass::plain_error_correction(
+    ) -> Result<Judged, Refusal> {
+        Ok(Judged::from(plain_pass::plain_error_correction(
             b.width, b.height, b.channels, samples, stencil, room, mode, s, colours, coords, ends,
-        ))
+        )?))
     }
 }

@@ -8,7 +8,7 @@ ghost use Rattle.reading.specs.Case.{mode_of};
 ghost use Rattle.reading.specs.Grammar.{channels};
 ghost use Rattle.reading.specs.Inner as Inner;
 
-use crate::engines::{Engine, Judged};
+use crate::engines::Engine;
 use crate::fields::Layout;
 use crate::{decode, text};
 use ground::bytes;
@@ -64,8 +64,8 @@ fn run<E: Engine>(
         coords,
         ends,
     ) {
-        Judged::Accepted(c, t) => text::put_accepted(out, b, c, t, stencil, &kept[..n]),
-        Judged::Refused(n, p) => text::put_refused(out, n as usize, p),
+        Ok(j) => text::put_accepted(out, b, j.counts, j.tests, stencil, &kept[..n]),
+        Err(r) => text::put_refused(out, r.number() as usize, r.place()),
     }
 }
 

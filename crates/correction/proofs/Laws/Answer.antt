@@ -1,6 +1,7 @@
 -- The answer of the pass is fixed by its case, its number, its place, its counts and its tests. Assumes nothing.
 --     parts_fix         two answers with the same case and the same six numbers are the same
 --     answer_answers    the answer that is defined has those of its input
+--     refusal_told      what refuses an input says its number and its place
 --     answers_fix       and whatever has them is that answer
 use mathlib.Core.Path.{◌≡◌, refl, sym, ◌∙◌, ap, subst}
 use mathlib.Core.Bool.{Bool, true, false, cond, true≢false}
@@ -52,6 +53,11 @@ numbers_told i =
     (either i _ 9 _ (inr (refl, refl))
     (inl refl))))))))))
 
+-- so what refuses an input says its number and its place
+pub refusal_told : (i : Input) → accepted i ≡ false → (number (refusal_with (refusal_number i) (refusal_place i)) ≡ refusal_number i) × (place (refusal_with (refusal_number i) (refusal_place i)) ≡ refusal_place i)
+unfolding accepted refusal_place
+refusal_told i p = elim (numbers_told i) [ inl z ↦ absurd (true≢false (sym (eq-eqb _ _ z) ∙ p)) | inr w ↦ w ]
+
 -- by whether the input is accepted
 by_case : (i : Input) (b : Bool) → accepted i ≡ b → Answers i (cond b (Ok (record { counts = counts_of (pass_stencil i); tests = pass_tests i })) (Err (refusal_with (refusal_number i) (refusal_place i))))
 unfolding accepted refusal_place is_accepted number_of place_in protected_in errors_in corners_in tests_in protected_cells error_cells corner_cells test_count
@@ -59,8 +65,7 @@ by_case i true p =
     let z = eqb-true (refusal_number i) 0 p in
     record { accepts = sym p; number = sym z; place = no_place i z; protected = ap (λ (b : Bool). cond b (protected_count (pass_stencil i)) 0) (sym p); errors = ap (λ (b : Bool). cond b (error_count (pass_stencil i)) 0) (sym p); corners = ap (λ (b : Bool). cond b (corner_count (pass_stencil i)) 0) (sym p); tests = ap (λ (b : Bool). cond b (pass_tests i) 0) (sym p) }
 by_case i false p =
-    let w : (number (refusal_with (refusal_number i) (refusal_place i)) ≡ refusal_number i) × (place (refusal_with (refusal_number i) (refusal_place i)) ≡ refusal_place i) =
-    elim (numbers_told i) [ inl z ↦ absurd (true≢false (sym (eq-eqb _ _ z) ∙ p)) | inr w ↦ w ] in
+    let w = refusal_told i p in
     record { accepts = sym p; number = w.0; place = w.1; protected = ap (λ (b : Bool). cond b (protected_count (pass_stencil i)) 0) (sym p); errors = ap (λ (b : Bool). cond b (error_count (pass_stencil i)) 0) (sym p); corners = ap (λ (b : Bool). cond b (corner_count (pass_stencil i)) 0) (sym p); tests = ap (λ (b : Bool). cond b (pass_tests i) 0) (sym p) }
 
 -- The answer that is defined accepts where no check fails, and has the number, the place, the counts and the tests of its input.

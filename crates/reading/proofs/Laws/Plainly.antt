@@ -13,8 +13,9 @@ use Rattle.inputs.specs.Checks.{Input, accepted, refusal_number, refusal_place}
 use Rattle.inputs.specs.Stencil.{counts_of}
 use Rattle.correction.specs.Bitmap.{cell_texel}
 use Rattle.correction.specs.Pass.{answer, pass_stencil, pass_tests}
-use Rattle.correction.specs.declared.pass.Answer.{Answer}
-use Rattle.correction.specs.declared.pass.Answer.TheVariants.{Accepted, Refused}
+use Rattle.correction.specs.Pass.{Answer}
+use Rattle.std.specs.Prelude.{Ok, Err}
+use Rattle.inputs.specs.Refusal.{refusal_with}
 use Rattle.plain.specs.Answer.{plain_answer, untested}
 use Rattle.reading.specs.Grammar.{fine, breach}
 use Rattle.reading.specs.Text.{bad_text, size_text, cells_text, tests_text, counts_text, counts_plainly, rows_text, flagged_text, accepted_with, accepted_text, accepted_plainly}
@@ -37,7 +38,7 @@ after_tests i = (10 ∷ []) ++ rest i
 -- ---- by whether the case is accepted
 
 abbrev answer_by : Input → Bool → Answer
-answer_by i t = cond t (Accepted (counts_of (pass_stencil i)) (pass_tests i)) (Refused (refusal_number i) (refusal_place i))
+answer_by i t = cond t (Ok (record { counts = counts_of (pass_stencil i); tests = pass_tests i })) (Err (refusal_with (refusal_number i) (refusal_place i)))
 
 spread : (a b c d e : List ℕ) → a ++ ((b ++ (c ++ d)) ++ e) ≡ (a ++ b) ++ (c ++ (d ++ e))
 spread a b c d e = simp append_assoc

@@ -1,5 +1,4 @@
 -- What an accepted case leaves in the stencil, and the samples that it was given, are what is printed of it. Assumes nothing.
-use Rattle.std.specs.Prelude.{Option}
 use mathlib.Core.Bool.{Bool, true, false, cond}
 use mathlib.Core.List.{List}
 use mathlib.Core.Path.{◌≡◌, refl, sym, ap, ◌∙◌}
@@ -16,14 +15,16 @@ use Rattle.inputs.proofs.Laws.Checks.{sizes, passed}
 use Rattle.correction.specs.Bitmap.{cell_texel}
 use Rattle.correction.specs.Pass.{pass_stencil, answer, stencil_after}
 use Rattle.correction.proofs.Laws.Leaves as Leaves
-use Rattle.correction.specs.declared.pass.Answer.TheVariants as first
-use Rattle.inputs.specs.declared.stencil.Counts.{Counts}
 use Rattle.plain.specs.Answer.{plain_answer, untested}
 use Rattle.reading.specs.Inner.{counts_line, of_pass, of_plain, judged, judged_text}
 use Rattle.reading.specs.Answer.{lent_room}
 use Rattle.reading.proofs.Copied.{repeated}
 use Rattle.reading.specs.Text.{accepted_with, refused_text}
-use Rattle.reading.specs.declared.engines.Judged.TheVariants.{Accepted, Refused}
+use Rattle.std.specs.Prelude.{Ok, Err}
+use Rattle.inputs.specs.declared.refusal.Refusal.{Refusal}
+use Rattle.inputs.specs.Refusal.{number, place}
+use Rattle.correction.specs.declared.pass.Corrected.{Corrected}
+use Rattle.reading.specs.declared.engines.Judged.{Judged}
 
 -- ---- what acceptance says of the sizes
 
@@ -45,16 +46,16 @@ sized i a =
 
 -- ---- the answer
 
-accepted_go : (plain b : Bool) (c d : Counts) (t : Option ℕ) (u n p : ℕ) → Accepted c t ≡ cond plain (of_plain (untested (cond b (first.Accepted d u) (first.Refused n p)))) (of_pass (cond b (first.Accepted d u) (first.Refused n p))) → b ≡ true
+accepted_go : (plain b : Bool) (c : Judged) (d : Corrected) (r : Refusal) → Ok c ≡ cond plain (of_plain (untested (cond b (Ok d) (Err r)))) (of_pass (cond b (Ok d) (Err r))) → b ≡ true
 unfolding untested of_plain of_pass
-accepted_go plain true c d t u n p e = refl
-accepted_go true false c d t u n p e = absurd (let z : ◌≡◌ {A = ℕ} 0 1 = cc in omega arith)
-accepted_go false false c d t u n p e = absurd (let z : ◌≡◌ {A = ℕ} 0 1 = cc in omega arith)
+accepted_go plain true c d r e = refl
+accepted_go true false c d r e = absurd (let z : ◌≡◌ {A = ℕ} 0 1 = cc in omega arith)
+accepted_go false false c d r e = absurd (let z : ◌≡◌ {A = ℕ} 0 1 = cc in omega arith)
 
 -- an answer that counts is one of acceptance
-pub was_accepted : (plain : Bool) (i : Input) (c : Counts) (t : Option ℕ) → Accepted c t ≡ judged plain i → accepted i ≡ true
+pub was_accepted : (plain : Bool) (i : Input) (c : Judged) → Ok c ≡ judged plain i → accepted i ≡ true
 unfolding judged plain_answer answer
-was_accepted plain i c t e = accepted_go plain (accepted i) c _ t _ _ _ e
+was_accepted plain i c e = accepted_go plain (accepted i) c _ _ e
 
 module _ (i : Input) (a : accepted i ≡ true) where
   -- what an accepted pass leaves in the stencil
@@ -69,9 +70,9 @@ module _ (i : Input) (a : accepted i ≡ true) where
 -- ---- the text
 
 -- what is printed from the stencil that an accepted pass leaves and the samples that it was given
-pub accepted_text_law : (plain : Bool) (i : Input) (c : Counts) (t : Option ℕ) (st : List ℕ) (xs : List Float) → Accepted c t ≡ judged plain i → st ≡ stencil_after i → xs ≡ i.samples → accepted_with i.width i.height i.channels (counts_line c t) st (cell_texel xs i.channels) ≡ judged_text i (judged plain i)
+pub accepted_text_law : (plain : Bool) (i : Input) (c : Judged) (st : List ℕ) (xs : List Float) → Ok c ≡ judged plain i → st ≡ stencil_after i → xs ≡ i.samples → accepted_with i.width i.height i.channels (counts_line c.counts c.tests) st (cell_texel xs i.channels) ≡ judged_text i (judged plain i)
 unfolding judged_text
-accepted_text_law plain i c t st xs e p q = rw (p, q, stencil_left i (was_accepted plain i c t e)) (ap (judged_text i) e)
+accepted_text_law plain i c st xs e p q = rw (p, q, stencil_left i (was_accepted plain i c e)) (ap (judged_text i) e)
 
 -- there is room for it
 pub record Roomy (i : Input) (st : List ℕ) (xs : List Float) : Type 0 where
@@ -80,9 +81,9 @@ pub record Roomy (i : Input) (st : List ℕ) (xs : List Float) : Type 0 where
   pub samples : i.width * i.height * i.channels ≤ length xs
 
 -- the stencil and the samples are long enough to be printed
-pub roomy : (plain : Bool) (i : Input) (c : Counts) (t : Option ℕ) (st : List ℕ) (xs : List Float) → Accepted c t ≡ judged plain i → length i.samples ≤ 12288 → st ≡ stencil_after i → xs ≡ i.samples → Roomy i st xs
-roomy plain i c t st xs e few p q =
-    let a = was_accepted plain i c t e in
+pub roomy : (plain : Bool) (i : Input) (c : Judged) (st : List ℕ) (xs : List Float) → Ok c ≡ judged plain i → length i.samples ≤ 12288 → st ≡ stencil_after i → xs ≡ i.samples → Roomy i st xs
+roomy plain i c st xs e few p q =
+    let a = was_accepted plain i c e in
     let z = sized i a in
     record {
       sizes = (z.wide, z.deep, z.high, omega (arith, z.samples, mul-le-mul_left (i.width * i.height) z.deep));
@@ -91,9 +92,9 @@ roomy plain i c t st xs e few p q =
     }
 
 -- what is printed of a refusal
-pub refused_text_law : (plain : Bool) (i : Input) (n p : ℕ) → Refused n p ≡ judged plain i → refused_text n p ≡ judged_text i (judged plain i)
+pub refused_text_law : (plain : Bool) (i : Input) (r : Refusal) → Err r ≡ judged plain i → refused_text (number r) (place r) ≡ judged_text i (judged plain i)
 unfolding judged_text
-refused_text_law plain i n p e = ap (judged_text i) e
+refused_text_law plain i r e = ap (judged_text i) e
 
 -- ---- the room
 

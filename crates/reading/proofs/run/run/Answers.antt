@@ -10,6 +10,7 @@ use Rattle.ground.proofs.Laws.Write.{written_as, front, front_length}
 use Rattle.ranges.specs.declared.config.Settings.{Settings}
 use Rattle.inputs.specs.Checks.{Input, input}
 use Rattle.reading.specs.Case.{mode_of}
+use Rattle.reading.specs.Text.{refused_text}
 use Rattle.reading.proofs.run.Answered.{accepted_text_law, refused_text_law, roomy, printed_as}
 use Rattle.reading.proofs.run.run.Given.{Over}
 use Rattle.reading.proofs.run.run.Goals as goal
@@ -39,19 +40,19 @@ pub put_accepted-requires : goal.put_accepted-requires
 put_accepted-requires g c =
     let i = case g (goal.at.put_accepted-requires g c).After-settings c.settings.result zeros in
     let p = c.judge.ensures in
-    let r = roomy _ i _ _ _ _ (c.in-Accepted.ensures.answers) c.requires.1 p.leaves (front c.keep-n.ensures (keeps g (goal.at.put_accepted-requires g c).After-keep-n)) in record { sizes = r.sizes; room = (r.cells, r.samples, c.requires.0) }
+    let r = roomy _ i _ _ _ (c.in-Ok.ensures.answers) c.requires.1 p.leaves (front c.keep-n.ensures (keeps g (goal.at.put_accepted-requires g c).After-keep-n)) in record { sizes = r.sizes; room = (r.cells, r.samples, c.requires.0) }
 
-pub returns-in-Accepted : goal.returns-in-Accepted
-returns-in-Accepted g c =
-    let f = case g (goal.at.returns-in-Accepted g c).After-settings in
+pub returns-in-Ok : goal.returns-in-Ok
+returns-in-Ok g c =
+    let f = case g (goal.at.returns-in-Ok g c).After-settings in
     let i = f c.settings.result zeros in
     let p = c.judge.ensures in
-    let e = accepted_text_law _ i _ _ _ _ (c.in-Accepted.ensures.answers) p.leaves (front c.keep-n.ensures (keeps g (goal.at.returns-in-Accepted g c).After-keep-n)) in
+    let e = accepted_text_law _ i _ _ _ (c.in-Ok.ensures.answers) p.leaves (front c.keep-n.ensures (keeps g (goal.at.returns-in-Ok g c).After-keep-n)) in
     written_as _ (e ∙ printed_as g.E.Engine.plainly f c.settings.ensures) c.put_accepted.ensures
 
-pub returns-in-Refused : goal.returns-in-Refused
-returns-in-Refused g c =
-    let f = case g (goal.at.returns-in-Refused g c).After-settings in
+pub returns-in-Err : goal.returns-in-Err
+returns-in-Err g c =
+    let f = case g (goal.at.returns-in-Err g c).After-settings in
     let i = f c.settings.result zeros in
-    let e = refused_text_law _ i _ _ (c.in-Refused.ensures.answers) in
-    written_as _ (e ∙ printed_as g.E.Engine.plainly f c.settings.ensures) c.put_refused.ensures
+    let e = refused_text_law _ i _ (c.in-Err.ensures.answers) in
+    written_as _ ((λ j. refused_text (c.number.ensures j) (c.place.ensures j)) ∙ e ∙ printed_as g.E.Engine.plainly f c.settings.ensures) c.put_refused.ensures
