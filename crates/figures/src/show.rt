@@ -1,22 +1,26 @@
 // How a figure is printed: its name, the answer, the rows from the bottom, and the samples of flagged texels as bits.
-use correction::pass::Answer;
+use correction::pass::Corrected;
 use ground::bytes;
+use inputs::refusal::Refusal;
 use inputs::sizes::Bitmap;
 use std::{fmt, io};
 
 // The number, the place, the three counts and the number of range tests.
 #[derive(Clone, Copy)]
-struct Answered(Answer);
+struct Answered(Result<Corrected, Refusal>);
 
 impl fmt::Display for Answered {
     fn fmt<W: fmt::Write>(&self, f: &mut fmt::Formatter<W>) -> fmt::Result {
         match self.0 {
-            Answer::Accepted(c, t) => write!(
+            Ok(c) => write!(
                 f,
-                " 0 0 {} {} {} {t}",
-                c.protected, c.error, c.corner
+                " 0 0 {} {} {} {}",
+                c.counts.protected, c.counts.error, c.counts.corner, c.tests
             ),
-            Answer::Refused(n, p) => write!(f, " {n} {p} 0 0 0 0"),
+            Err(r) => {
+                let (number, place) = (r.number(), r.place());
+                write!(f, " {number} {place} 0 0 0 0")
+            }
         }
     }
 }
@@ -92,7 +96,7 @@ impl<'a> fmt::Display for Samples<'a> {
 pub fn line(
     rt: &impl Print,
     name: &str,
-    a: Answer,
+    a: Result<Corrected, Refusal>,
     stencil: &[u8],
     samples: &[f32],
     b: Bitmap,

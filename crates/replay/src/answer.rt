@@ -1,8 +1,9 @@
 // What the pass answers and leaves, held to the list.
 ghost use Rattle.std.specs.Prelude.{◌+◌, ◌*◌, ◌<◌, length};
 
-use correction::pass::Answer;
+use correction::pass::Corrected;
 use ground::bytes;
+use inputs::refusal::Refusal;
 
 // The list's number of range tests.
 pub fn tests(list: &[u8], at: usize) -> usize
@@ -12,7 +13,7 @@ pub fn tests(list: &[u8], at: usize) -> usize
 }
 
 // Refusal, place, the three counts and the number of range tests; what an answer lacks is 0.
-pub fn is_answer(list: &[u8], at: usize, a: Answer) -> bool
+pub fn is_answer(list: &[u8], at: usize, a: Result<Corrected, Refusal>) -> bool
     requires { at < 800000 }
 {
     let number = bytes::byte_from(list, at, 0);
@@ -22,17 +23,17 @@ pub fn is_answer(list: &[u8], at: usize, a: Answer) -> bool
     let corner = bytes::be64(list, at + 25);
     let tests = tests(list, at);
     match a {
-        Answer::Accepted(c, t) => {
+        Ok(c) => {
             number == 0
                 && place == 0
-                && protected == c.protected as u64
-                && error == c.error as u64
-                && corner == c.corner as u64
-                && tests == t
+                && protected == c.counts.protected as u64
+                && error == c.counts.error as u64
+                && corner == c.counts.corner as u64
+                && tests == c.tests
         }
-        Answer::Refused(n, p) => {
-            number == n
-                && place == p as u64
+        Err(r) => {
+            number == r.number()
+                && place == r.place() as u64
                 && protected == 0
                 && error == 0
                 && corner == 0

@@ -4,8 +4,9 @@ ghost use Rattle.replay.specs.Inner.{Roomy};
 
 use crate::{answer, number};
 use correction::pass;
-use correction::pass::Answer;
+use correction::pass::Corrected;
 use ground::bytes;
+use inputs::refusal::Refusal;
 use ranges::config::Settings;
 
 // Where a case begins, and how many samples, cells, colours, coordinates and ends it holds: one more than there is room for stands for all numbers that are larger.
@@ -151,7 +152,7 @@ pub trait Engine {
         colours: &[u8],
         coords: &[f64],
         ends: &[usize],
-    ) -> Answer;
+    ) -> Result<Corrected, Refusal>;
 }
 
 // The first engine, the pass.
@@ -171,7 +172,7 @@ impl Engine for First {
         colours: &[u8],
         coords: &[f64],
         ends: &[usize],
-    ) -> Answer {
+    ) -> Result<Corrected, Refusal> {
         pass::msdf_error_correction(
             width, height, channels, samples, cells, room, mode, s, colours, coords, ends,
         )
@@ -195,13 +196,14 @@ impl Engine for Plain {
         colours: &[u8],
         coords: &[f64],
         ends: &[usize],
-    ) -> Answer {
-        match plain::pass::plain_error_correction(
+    ) -> Result<Corrected, Refusal> {
+        let counts = plain::pass::plain_error_correction(
             width, height, channels, samples, cells, room, mode, s, colours, coords, ends,
-        ) {
-            plain::pass::Answer::Accepted(c) => Answer::Accepted(c, list_tests),
-            plain::pass::Answer::Refused(n, p) => Answer::Refused(n, p),
-        }
+        )?;
+        Ok(Corrected {
+            counts,
+            tests: list_tests,
+        })
     }
 }
 
@@ -214,7 +216,7 @@ fn correct<E: Engine>(
     colours: &[u8],
     coords: &[f64],
     ends: &[usize],
-) -> Answer {
+) -> Result<Corrected, Refusal> {
     let mut room = [1.0f32; 42];
     E::correct(
         answer::tests(list, c.answer_at()),
@@ -233,7 +235,7 @@ fn correct<E: Engine>(
 }
 
 // Whether an answer, the samples and the cells afterwards are the list's.
-fn is_right(list: &[u8], c: Case, a: Answer, samples: &[f32], cells: &[u8]) -> bool
+fn is_right(list: &[u8], c: Case, a: Result<Corrected, Refusal>, samples: &[f32], cells: &[u8]) -> bool
     requires { (length samples.now ≤ 64) × (length cells.now ≤ 64) }
 {
     let at = c.answer_at();
