@@ -11,6 +11,7 @@ use plain::pass as plain_pass;
 use ranges::config::Settings;
 
 // What either engine answers: the counts and the tests, where it counts them, or the number of the first check that fails and its place.
+// An enum of this crate, as the engines' own answers are enums: of `Result` there could be no `From` here.
 #[derive(Clone, Copy)]
 pub enum Judged {
     Accepted(Counts, Option<usize>),
