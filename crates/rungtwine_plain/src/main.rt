@@ -23,6 +23,7 @@ fn output_buffer() -> [u8; 131072]
 }
 
 // Reads an input, of which it takes as much as there is room for, and writes the answer.
+// `rungtwine` has the same of its own: what each program must not do is an edit of this text.
 fn run<R: Read, W: Write>(from: &mut R, to: &mut W) -> io::Result<()>
     ensures { OnOk result (IfSome (R.remaining from.old) (λ xs. Appends (W.contents to.old) (W.contents to.new) (written_plainly 131072 (take 65537 xs)))) }
 {
