@@ -59,7 +59,7 @@ fn two_of(a: bool, b: bool, c: bool) -> bool
     (a & b) | ((a | b) & c)
 }
 
-// The match of three channels: their median lies where two of them lie.
+// The match of three channels: their median lies where two of them lie. It is a number, since C is lent the map.
 fn match_of(zero: f32, filled: bool, a: f32, b: f32, c: f32) -> i8
     requires { T (not (is_nan zero)) × T (not (is_nan a)) × T (not (is_nan b)) × T (not (is_nan c)) }
     ensures { result ≡ Signs.match_of zero filled (median_of a b c) }
