@@ -91,7 +91,7 @@ fn bad_length(v: f64) -> bool
     !(v >= 0.0 && v <= constants::LIMIT_WIDE)
 }
 
-// Check 5, at the first that is bad.
+// Check 5, at the first that is bad. The mode is a number, since C hands over any.
 pub fn check_settings(mode: u8, s: Settings) -> Result<(), ContentRefusal>
     ensures numbers { content_number_in result ≡ cond (Checks.bad_settings mode s) 5 0 }
     ensures places { content_place_in result ≡ cond (Checks.bad_settings mode s) (Checks.settings_place mode s) 0 }
@@ -202,7 +202,7 @@ fn check_ends(ends: &[usize], n: usize) -> Result<(), ContentRefusal>
     Ok(())
 }
 
-// A coordinate that is NaN, infinite or of size above the limit.
+// A coordinate that is NaN, infinite or of size above the limit. A trait for both widths would be longer than this and the sample's test.
 fn bad_coordinate(v: f64) -> bool
     ensures { result ≡ Checks.oversize binary64 v }
 {
@@ -241,7 +241,7 @@ fn check_segments(colours: &[u8], coords: &[f64]) -> Result<(), ContentRefusal>
     }
 }
 
-// The first of checks 7 to 9 that fails.
+// The first of checks 7 to 9 that fails. The outlines are three lists, since C hands over these.
 pub fn check_outline(colours: &[u8], coords: &[f64], ends: &[usize]) -> Result<(), ContentRefusal>
     ensures numbers { content_number_in result ≡ Checks.outline_refusal colours.now coords.now ends.now }
     ensures places { content_place_in result ≡ Checks.outline_place colours.now coords.now ends.now (content_number_in result) }

@@ -10,7 +10,7 @@ pub struct Bitmap {
 }
 
 // A window of a sheet: its sizes, the number of its first cell in the sheet, and how many cells a row of the sheet has.
-// A bitmap alone is the window that is the whole.
+// A bitmap alone is the window that is the whole. The sizes are fields of its own, since the definitions of windows read them there.
 #[derive(Clone, Copy)]
 pub struct Window {
     pub width: usize,

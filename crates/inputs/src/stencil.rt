@@ -11,7 +11,7 @@ pub struct Counts {
     pub corner: usize,
 }
 
-// The bits' values.
+// The bits' values: numbers, since C is lent the bytes and reads them by these.
 pub const ERROR: u8 = 1;
 
 pub const PROTECTED: u8 = 2;
@@ -21,6 +21,7 @@ pub const CORNER: u8 = 4;
 // What stands above the three bits while errors are found is a texel's order, counted in this.
 pub const ORDER: u8 = 8;
 
+// Whether a byte has a bit. There is a function for each, since the definitions and docs/PROMISES.md name each.
 pub fn is_error(v: u8) -> bool
     ensures { result ≡ Stencil.is_error v }
 {

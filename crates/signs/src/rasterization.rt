@@ -41,13 +41,13 @@ fn corrected(zero: f32, filled: bool, v: f32) -> f32
     }
 }
 
-// Channel c of every texel by its own comparison.
-fn correct_alone(xs: &mut [f32], ch: usize, c: usize, zero: f32, filled: &[u8])
-    requires { (length xs.old ≡ length filled.now * ch) × (c < ch) × (length xs.old ≤ 67108864) }
-    ensures { xs.new ≡ Signs.flipped_where zero (λ j. eqb (j % ch) c && Flip.is_amiss zero (Signs.filled_at filled.now (j / ch)) (get_or xs.old j nan)) xs.old }
+// Channel C of every texel, of CH channels, by its own comparison.
+fn correct_alone<const CH: usize, const C: usize>(xs: &mut [f32], zero: f32, filled: &[u8])
+    requires { (length xs.old ≡ length filled.now * CH) × (C < CH) × (length xs.old ≤ 67108864) }
+    ensures { xs.new ≡ Signs.flipped_where zero (λ j. eqb (j % CH) C && Flip.is_amiss zero (Signs.filled_at filled.now (j / CH)) (get_or xs.old j nan)) xs.old }
 {
     for (k, byte) in filled.iter().enumerate() {
-        let at = k * ch + c;
+        let at = k * CH + C;
         xs[at] = corrected(zero, *byte == 1, xs[at]);
     }
 }
@@ -59,7 +59,7 @@ fn two_of(a: bool, b: bool, c: bool) -> bool
     (a & b) | ((a | b) & c)
 }
 
-// The match of three channels: their median lies where two of them lie.
+// The match of three channels: their median lies where two of them lie. It is a number, since C is lent the map.
 fn match_of(zero: f32, filled: bool, a: f32, b: f32, c: f32) -> i8
     requires { T (not (is_nan zero)) × T (not (is_nan a)) × T (not (is_nan b)) × T (not (is_nan c)) }
     ensures { result ≡ Signs.match_of zero filled (median_of a b c) }
@@ -72,28 +72,28 @@ fn match_of(zero: f32, filled: bool, a: f32, b: f32, c: f32) -> i8
     if above == filled { 1 } else { -1 }
 }
 
-// The match of every texel.
-fn write_matches(matches: &mut [i8], xs: &[f32], ch: usize, zero: f32, filled: &[u8])
-    requires sizes { (length xs.now ≡ length filled.now * ch) × (3 ≤ ch) × (length xs.now ≤ 67108864) × (length matches.old ≡ length filled.now) }
+// The match of every texel, of CH channels: a number that is known beforehand lets the loop take several texels at once.
+fn write_matches<const CH: usize>(matches: &mut [i8], xs: &[f32], zero: f32, filled: &[u8])
+    requires sizes { (length xs.now ≡ length filled.now * CH) × (3 ≤ CH) × (length xs.now ≤ 67108864) × (length matches.old ≡ length filled.now) }
     requires numbers { T (not (is_nan zero)) × Numbers xs.now }
-    ensures { matches.new ≡ tab (length filled.now) (Signs.match_at xs.now ch zero filled.now) }
+    ensures { matches.new ≡ tab (length filled.now) (Signs.match_at xs.now CH zero filled.now) }
 {
     for (k, m) in matches.iter_mut().enumerate() {
-        let at = k * ch;
+        let at = k * CH;
         *m = match_of(zero, filled[k] == 1, xs[at], xs[at + 1], xs[at + 2]);
     }
 }
 
-// The same of three or four channels: a number that is known beforehand lets the loop take several texels at once.
+// The same of three or four channels.
 fn match_texels(matches: &mut [i8], xs: &[f32], ch: usize, zero: f32, filled: &[u8])
     requires sizes { (length xs.now ≡ length filled.now * ch) × (3 ≤ ch) × (ch ≤ 4) × (length xs.now ≤ 67108864) × (length matches.old ≡ length filled.now) }
     requires numbers { T (not (is_nan zero)) × Numbers xs.now }
     ensures { matches.new ≡ tab (length filled.now) (Signs.match_at xs.now ch zero filled.now) }
 {
     if ch == 3 {
-        write_matches(matches, xs, 3, zero, filled);
+        write_matches::<3>(matches, xs, zero, filled);
     } else {
-        write_matches(matches, xs, 4, zero, filled);
+        write_matches::<4>(matches, xs, zero, filled);
     }
 }
 
@@ -189,13 +189,13 @@ fn correct(b: Bitmap, xs: &mut [f32], zero: f32, filled: &[u8], matches: &mut [i
 {
     if b.channels == 1 {
         clear_matches(matches);
-        correct_alone(xs, 1, 0, zero, filled);
+        correct_alone::<1, 0>(xs, zero, filled);
         return;
     }
     match_texels(matches, xs, b.channels, zero, filled);
     flip_texels(xs, matches, b, zero);
     if b.channels == 4 {
-        correct_alone(xs, 4, 3, zero, filled);
+        correct_alone::<4, 3>(xs, zero, filled);
     }
 }
 

@@ -34,18 +34,18 @@ unfolding filled_at
 asked zero ch c filled xs k {v} l e = ap (λ (b : Bool). flipped_if zero b v) (ap (is_amiss zero (eqb (get_or filled k 0) 1)) e ∙ sym (own zero ch c filled xs k l))
 
 pub loop-k-preserved : goal.loop-k-preserved
-loop-k-preserved c =
+loop-k-preserved g c =
     let l = c.loop-k in
     let a = c.args in
     let xs = a.xs.now in
-    let here : l.k * a.ch + a.c < length l.xs = omega (arith, l.invariant.len, c.requires.0, digits_lt c.loop-k-test.true c.requires.1) in
-    alone_next a.zero (goes a.zero a.ch a.c a.filled.now xs) xs l.k a.ch a.c _ l.invariant c.requires.1 here
-    (c.corrected.ensures ∙ asked a.zero a.ch a.c a.filled.now xs l.k c.requires.1 (l.invariant.rest (l.k * a.ch + a.c) (omega arith)))
-    (other a.zero a.ch a.c a.filled.now xs l.k)
+    let here : l.k * g.row.CH + g.row.C < length l.xs = omega (arith, l.invariant.len, c.requires.0, digits_lt c.loop-k-test.true c.requires.1) in
+    alone_next a.zero (goes a.zero g.row.CH g.row.C a.filled.now xs) xs l.k g.row.CH g.row.C _ l.invariant c.requires.1 here
+    (c.corrected.ensures ∙ asked a.zero g.row.CH g.row.C a.filled.now xs l.k c.requires.1 (l.invariant.rest (l.k * g.row.CH + g.row.C) (omega arith)))
+    (other a.zero g.row.CH g.row.C a.filled.now xs l.k)
 
 pub returns : goal.returns
-returns c =
+returns g c =
     let l = c.loop-k in
     let a = c.args in
     let e : l.k ≡ length a.filled.now = omega (arith, l.auto.k-end, c.loop-k-test.false) in
-    flipping_all a.zero _ a.xs.now l.invariant (subst (λ (n : ℕ). length a.xs.now ≤ n * a.ch) (sym e) (le_of_eq c.requires.0))
+    flipping_all a.zero _ a.xs.now l.invariant (subst (λ (n : ℕ). length a.xs.now ≤ n * g.row.CH) (sym e) (le_of_eq c.requires.0))

@@ -15,4 +15,4 @@ abbrev pub goes : Float → ℕ → ℕ → List ℕ → List Float → ℕ → 
 goes zero ch c filled xs j = eqb (j % ch) c && is_amiss zero (filled_at filled (j / ch)) (get_or xs j nan)
 
 abbrev pub invariant-loop-k : goal.invariant-loop-k
-invariant-loop-k l = Flipping l.zero (goes l.zero l.ch l.c l.filled l.initial.xs) l.initial.xs (l.k * l.ch) l.xs
+invariant-loop-k g l = Flipping l.zero (goes l.zero g.row.CH g.row.C l.filled l.initial.xs) l.initial.xs (l.k * g.row.CH) l.xs

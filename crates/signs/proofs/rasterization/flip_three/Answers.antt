@@ -1,11 +1,6 @@
 -- `signs::rasterization::flip_three` meets its contract. Assumes nothing.
-use native.Mathlib.Omega.{arith}
-use lib.ListN.{length-set}
 use Rattle.signs.specs.Inner.{flipped_at}
 use Rattle.signs.proofs.rasterization.flip_three.Goals as goal
-
-pub bounds-xs-at-5 : goal.bounds-xs-at-5
-bounds-xs-at-5 c = simp length-set (omega arith)
 
 pub returns : goal.returns
 unfolding flipped_at

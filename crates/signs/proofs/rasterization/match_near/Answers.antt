@@ -5,7 +5,7 @@ use native.Mathlib.Omega.{arith}
 use Rattle.inputs.proofs.Laws.Bounds.{Inside, inside}
 use Rattle.inputs.proofs.Laws.Places.{cell_lt, cell_small}
 use Rattle.signs.specs.Signs.{match_near}
-use Rattle.signs.proofs.rasterization.Votes.{read_fits, read_again}
+use Rattle.signs.proofs.rasterization.Votes.{read_again}
 use Rattle.signs.proofs.rasterization.match_near.Goals as goal
 use Rattle.signs.proofs.rasterization.match_near.Goals.{Then-in_bounds}
 
@@ -27,9 +27,6 @@ pub bounds-ms-ny : goal.bounds-ms-ny
 bounds-ms-ny c =
     let t = c.before in
     rw t.requires.long (cell_lt _ _ _ _ (at t).column (at t).row)
-
-pub overflow_cast-result : goal.overflow_cast-result
-overflow_cast-result c = read_fits _ (c.requires.held _)
 
 pub returns-then-in_bounds : goal.returns-then-in_bounds
 unfolding match_near

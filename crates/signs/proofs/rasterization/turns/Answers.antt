@@ -8,14 +8,10 @@ use lib.Signed.{lt_z}
 use borrow.Author.Tests.{ne_eqb}
 use mir.Syntax.{w8}
 use mir.Val.{to_z, of_z}
-use Rattle.inputs.proofs.Laws.Places.{cell_lt}
 use Rattle.signs.specs.Signs.{is_nought, turns, vote}
 use Rattle.signs.specs.Inner.{UpTo}
 use Rattle.signs.proofs.rasterization.Votes.{held8, held32, is_nought_law, vote_small}
 use Rattle.signs.proofs.rasterization.turns.Goals as goal
-
-pub bounds-ms-k : goal.bounds-ms-k
-bounds-ms-k c = let p = c.requires in rw (p.placed.0, p.mapped.long) (cell_lt _ _ _ _ p.placed.1 p.placed.2)
 
 -- a match whose bits are not 0 is not 0
 not_nought : (z : ℤ) → (of_z w8 z ≡ 0 → ⊥) → is_nought z ≡ false

@@ -5,4 +5,4 @@ use Rattle.signs.specs.Signs.{match_at}
 use Rattle.signs.proofs.rasterization.write_matches.Given as goal
 
 abbrev pub invariant-loop-k : goal.invariant-loop-k
-invariant-loop-k l = Filled (pos 0) (match_at l.xs l.ch l.zero l.filled) l.initial.matches l.k l.matches
+invariant-loop-k g l = Filled (pos 0) (match_at l.xs g.row.CH l.zero l.filled) l.initial.matches l.k l.matches
