@@ -200,7 +200,12 @@ fn overlaps_earlier(cells: &[usize], c: usize) -> bool
     ensures { result ≡ Sheet.overlaps_earlier cells.now c }
 {
     let a = area_at(cells, c);
-    (0..c).any(|d| overlap(area_at(cells, d), a))
+    for d in 0..c {
+        if overlap(area_at(cells, d), a) {
+            return true;
+        }
+    }
+    false
 }
 
 // Check 52: its first cell. All pairs of cells are compared, and no texels.
