@@ -16,8 +16,8 @@ ghost use Rattle.plain.specs.Inner as Inner;
 use crate::{checks, collapse, corners, edges, errors};
 use inputs::refusal::Refusal;
 use inputs::sizes::Bitmap;
+use inputs::stencil;
 use inputs::stencil::Counts;
-use inputs::{room, stencil};
 use ranges::config;
 use ranges::config::Settings;
 
@@ -54,7 +54,7 @@ fn mark(stencil: &mut [u8], b: Bitmap, mode: u8, colours: &[u8], coords: &[f64],
     requires outlined { Outlined colours.now coords.now ends.now }
     ensures { stencil.new ≡ tab (length stencil.old) (λ k. (if nat_eq mode edge_priority && corners_protect (contours colours.now coords.now ends.now) (k % b.width) (k / b.width) then 4 else 0)) }
 {
-    stencil::fill(stencil, 0);
+    stencil.fill(0);
     if mode == config::EDGE_PRIORITY {
         corners::mark_corners(stencil, b, colours, coords, ends);
     }
@@ -113,7 +113,7 @@ fn correct(
     mark(stencil, b, mode, colours, coords, ends);
     gather(stencil, xs, b, mode, s);
     collapse::collapse(stencil, xs, b.channels);
-    room::clear(room);
+    room.fill(0.0);
 }
 
 // The error correction of a bitmap, in place.

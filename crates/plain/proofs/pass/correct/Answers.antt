@@ -5,6 +5,7 @@ use Rattle.ground.specs.Lists.{tab}
 use Rattle.ground.proofs.Laws.Fill.{tab_length}
 use Rattle.inputs.specs.Checks.{Input, input}
 use Rattle.inputs.specs.Inner.{Sized, Celled}
+use Rattle.inputs.proofs.Laws.Filled.{replicate_tab}
 use Rattle.plain.proofs.pass.Whole.{done, collapsible}
 use Rattle.plain.proofs.pass.correct.Goals as goal
 use Rattle.plain.proofs.pass.correct.Goals.{Start}
@@ -31,4 +32,4 @@ collapse-requires c =
 
 pub returns : goal.returns
 returns c =
-    let d = done (given (goal.at.returns c).Start) c.requires.sized c.requires.stencil_len _ _ c.mark.ensures c.gather.ensures _ c.collapse.ensures in record { leaves = d.0; writes = d.1; clears = c.clear.ensures }
+    let d = done (given (goal.at.returns c).Start) c.requires.sized c.requires.stencil_len _ _ c.mark.ensures c.gather.ensures _ c.collapse.ensures in record { leaves = d.0; writes = d.1; clears = c.fill.ensures.after (λ y e. e) ∙ replicate_tab _ _ }
