@@ -1,6 +1,10 @@
 -- What the inner functions ask of each other and leave for each other. No public function's promise rests on this page. Definitions only.
 use Rattle.std.specs.Prelude.{◌≡◌, ℕ, zero, suc, ◌+◌, ◌-◌, ◌*◌, ◌≤◌, Bool, cond, not, ◌&&◌, ◌||◌, List, [], ◌∷◌, ℤ, pos, negsuc, ◌==◌, nat_lt, Float}
+use Rattle.std.specs.Prelude.{ltb, Result, Err}
 use Rattle.std.specs.Float.{binary64}
+use Rattle.inputs.specs.declared.refusal.ContentRefusal.{ContentRefusal}
+use Rattle.inputs.specs.declared.refusal.Refusal.{Refusal}
+use Rattle.inputs.specs.declared.refusal.Refusal.TheVariants.{Content}
 use Rattle.numbers.specs.Constants.{zero_of, one_of}
 use Rattle.ranges.specs.Classifier.{range_test}
 use Rattle.ranges.specs.Config.{disabled, edge_priority, edge_only}
@@ -86,3 +90,7 @@ pub record Collapsible (ch n m : ℕ) : Type 0 where
   pub few : ch ≤ 4
   pub cells : m ≤ 16777216
   pub long : n ≡ m * ch
+
+-- what a check answers that refuses at the first place that is bad, where there is one below n, and else says what the rest say
+abbrev pub At : ℕ → ℕ → (ℕ → ContentRefusal) → Result Unit Refusal → Result Unit Refusal → Type 0
+At n place kind rest r = r ≡ cond (ltb place n) (Err (Content (kind place))) rest

@@ -4,6 +4,9 @@ ghost use Rattle.std.specs.Float.{binary32, binary64};
 ghost use Rattle.inputs.specs.Checks as Checks;
 ghost use Rattle.inputs.specs.Checks.{input};
 ghost use Rattle.inputs.specs.Refusal.{number_in, place_in};
+ghost use Rattle.inputs.specs.declared.refusal.ContentRefusal.TheVariants.{Setting, Sample, Segment};
+ghost use Rattle.inputs.specs.declared.refusal.Refusal.TheVariants.{Content};
+ghost use Rattle.plain.specs.Inner.{At};
 
 use inputs::refusal::{ContentRefusal, Refusal};
 use inputs::sizes::Bitmap;
@@ -17,11 +20,15 @@ fn refused(bad: bool, here: Refusal, rest: Result<(), Refusal>) -> Result<(), Re
     if bad { Err(here) } else { rest }
 }
 
-// A place where a test holds, else another.
-fn place_of(bad: bool, here: usize, rest: usize) -> usize
-    ensures { result ≡ (if bad then here else rest) }
+// The same of checks 5 to 9.
+fn refused_content(
+    bad: bool,
+    here: ContentRefusal,
+    rest: Result<(), Refusal>,
+) -> Result<(), Refusal>
+    ensures { result ≡ (if bad then Err (Content here) else rest) }
 {
-    if bad { here } else { rest }
+    refused(bad, Refusal::Content(here), rest)
 }
 
 // Check 1: channels not 3 or 4.
@@ -75,15 +82,19 @@ fn bad_length(v: f64) -> bool
     !((v >= 0.0) & (v <= constants::LIMIT_WIDE))
 }
 
-// Check 5: the place of the first that is bad; 5 where none is.
-fn settings_place(mode: u8, s: Settings) -> usize
-    ensures { result ≡ Checks.settings_place mode s }
+// Check 5, at the first that is bad, then the rest.
+fn check_settings(mode: u8, s: Settings, rest: Result<(), Refusal>) -> Result<(), Refusal>
+    ensures { At 5 (Checks.settings_place mode s) Setting rest result }
 {
-    let diagonal = place_of(bad_length(s.diagonal), 4, 5);
-    let vertical = place_of(bad_length(s.vertical), 3, diagonal);
-    let horizontal = place_of(bad_length(s.horizontal), 2, vertical);
-    let ratio = place_of(bad_length(s.ratio), 1, horizontal);
-    place_of(mode > 3, 0, ratio)
+    let diagonal = refused_content(bad_length(s.diagonal), ContentRefusal::Setting(4), rest);
+    let vertical = refused_content(bad_length(s.vertical), ContentRefusal::Setting(3), diagonal);
+    let horizontal = refused_content(
+        bad_length(s.horizontal),
+        ContentRefusal::Setting(2),
+        vertical,
+    );
+    let ratio = refused_content(bad_length(s.ratio), ContentRefusal::Setting(1), horizontal);
+    refused_content(mode > 3, ContentRefusal::Setting(0), ratio)
 }
 
 // A sample that is NaN, infinite or of size above the limit.
@@ -93,15 +104,15 @@ fn bad_sample(v: f32) -> bool
     !((v >= -constants::LIMIT) & (v <= constants::LIMIT))
 }
 
-// Check 6: the place of the first bad sample; their number where none is.
-fn samples_place(xs: &[f32]) -> usize
-    ensures { result ≡ Checks.samples_place xs.now }
+// Check 6, at the first bad sample, then the rest.
+fn check_samples(xs: &[f32], rest: Result<(), Refusal>) -> Result<(), Refusal>
+    ensures { At (length xs.now) (Checks.samples_place xs.now) Sample rest result }
 {
-    let mut place = xs.len();
+    let mut found = rest;
     for j in (0..xs.len()).rev() {
-        place = place_of(bad_sample(xs[j]), j, place);
+        found = refused_content(bad_sample(xs[j]), ContentRefusal::Sample(j), found);
     }
-    place
+    found
 }
 
 // Check 7, of so many colours and coordinates.
@@ -131,23 +142,18 @@ fn bad_end(ends: &[usize], n: usize, i: usize) -> bool
     (end < end_before(ends, i)) | (end > n)
 }
 
-// Check 8: the place of the first bad end; their number where none is.
-fn ends_place(ends: &[usize], n: usize) -> usize
-    ensures { result ≡ Checks.ends_place ends.now n }
+// Check 8, at the first bad end, or behind the last where that is not the segment count; then the rest.
+fn check_ends(ends: &[usize], n: usize, rest: Result<(), Refusal>) -> Result<(), Refusal>
+    ensures numbers { number_in result ≡ (if Checks.bad_ends ends.now n then 8 else number_in rest) }
+    ensures places { place_in result ≡ (if Checks.bad_ends ends.now n then Checks.ends_place ends.now n else place_in rest) }
 {
-    let mut place = ends.len();
-    for i in (0..ends.len()).rev() {
-        place = place_of(bad_end(ends, n, i), i, place);
+    let k = ends.len();
+    let last = end_before(ends, k);
+    let mut found = refused_content(last != n, ContentRefusal::End(k), rest);
+    for i in (0..k).rev() {
+        found = refused_content(bad_end(ends, n, i), ContentRefusal::End(i), found);
     }
-    place
-}
-
-// Check 8, where `place` is that of the first bad end: there is one, or the last end is not the segment count.
-fn bad_ends(ends: &[usize], n: usize, place: usize) -> bool
-    requires { place ≡ Checks.ends_place ends.now n }
-    ensures { result ≡ Checks.bad_ends ends.now n }
-{
-    (place < ends.len()) | (end_before(ends, ends.len()) != n)
+    found
 }
 
 // A coordinate that is NaN, infinite or of size above the limit.
@@ -167,16 +173,20 @@ fn bad_segment(colours: &[u8], coords: &[f64], i: usize) -> bool
     (colours[i] > 7) | (x | y)
 }
 
-// Check 9: the place of the first bad segment; their number where none is.
-fn segments_place(colours: &[u8], coords: &[f64]) -> usize
+// Check 9, at the first bad segment, then the rest.
+fn check_segments(colours: &[u8], coords: &[f64], rest: Result<(), Refusal>) -> Result<(), Refusal>
     requires { (length coords.now ≡ 2 * length colours.now) × (length colours.now ≤ 65536) }
-    ensures { result ≡ Checks.segments_place colours.now coords.now }
+    ensures { At (length colours.now) (Checks.segments_place colours.now coords.now) Segment rest result }
 {
-    let mut place = colours.len();
+    let mut found = rest;
     for i in (0..colours.len()).rev() {
-        place = place_of(bad_segment(colours, coords, i), i, place);
+        found = refused_content(
+            bad_segment(colours, coords, i),
+            ContentRefusal::Segment(i),
+            found,
+        );
     }
-    place
+    found
 }
 
 // Checks 7 to 9.
@@ -187,15 +197,8 @@ fn check_outline(colours: &[u8], coords: &[f64], ends: &[usize]) -> Result<(), R
     if bad_outlines(colours.len(), coords.len()) {
         return Err(Refusal::Content(ContentRefusal::OutlineLengths));
     }
-    let n = colours.len();
-    let e = ends_place(ends, n);
-    let p = segments_place(colours, coords);
-    let segments = refused(p < n, Refusal::Content(ContentRefusal::Segment(p)), Ok(()));
-    refused(
-        bad_ends(ends, n, e),
-        Refusal::Content(ContentRefusal::End(e)),
-        segments,
-    )
+    let segments = check_segments(colours, coords, Ok(()));
+    check_ends(ends, colours.len(), segments)
 }
 
 // All checks, 60 between 4 and 5; the first failure answers.
@@ -213,15 +216,9 @@ pub fn check(
     ensures numbers { number_in result ≡ Checks.refusal_number (input b.width b.height b.channels xs.now stencil.now room.now mode s colours.now coords.now ends.now) }
     ensures places { place_in result ≡ Checks.refusal_place (input b.width b.height b.channels xs.now stencil.now room.now mode s colours.now coords.now ends.now) }
 {
-    let p = settings_place(mode, s);
-    let q = samples_place(xs);
     let outline = check_outline(colours, coords, ends);
-    let samples = refused(
-        q < xs.len(),
-        Refusal::Content(ContentRefusal::Sample(q)),
-        outline,
-    );
-    let settings = refused(p < 5, Refusal::Content(ContentRefusal::Setting(p)), samples);
+    let samples = check_samples(xs, outline);
+    let settings = check_settings(mode, s, samples);
     let lent = refused(bad_room(b.width, room.len()), Refusal::Room, settings);
     check_size(b, xs.len(), stencil.len()).and(lent)
 }
