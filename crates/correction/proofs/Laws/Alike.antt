@@ -1,13 +1,19 @@
 -- Each public function's promise permits one answer, and one state of each slice that it writes: two that it permits for the same arguments are the same.
 -- `Post κs a z e` is the promise as it is read from the source: of the arguments a, the result z and the arguments at exit e. Assumes nothing.
 use mathlib.Core.Path.{◌≡◌}
-use Rattle.ground.proofs.Laws.Alike.{alike}
+use Rattle.ground.proofs.Laws.Alike.{Alike, alike}
 use Rattle.correction.proofs.Laws.Answer.{answers_alike}
 use Rattle.correction.proofs.Laws.Failure.{results_alike}
 use Rattle.correction.proofs.pass.msdf_error_correction.Reads as entry
 use Rattle.correction.proofs.view.texel_view.Reads as view
 use Rattle.correction.proofs.sheet.msdf_sheet_error_correction.Reads as sheets
 use Rattle.correction.proofs.sheet.check.Reads as checks
+use Rattle.correction.proofs.refusal.Refusal.number.Kinds as number_kinds
+use Rattle.correction.proofs.refusal.Refusal.number.Reads as number
+use Rattle.correction.proofs.refusal.Refusal.cell.Kinds as cell_kinds
+use Rattle.correction.proofs.refusal.Refusal.cell.Reads as cell
+use Rattle.correction.proofs.refusal.Refusal.place.Kinds as place_kinds
+use Rattle.correction.proofs.refusal.Refusal.place.Reads as place
 
 -- Two answers of the pass are the same,
 pub pass_answers_alike : (κs : _) (a : _) (z z' : _) (e e' : _) → entry.Post κs a z e → entry.Post κs a z' e' → z ≡ z'
@@ -52,3 +58,13 @@ sheet_rooms_alike κs a z z' e e' p q = alike p.1.1.1 q.1.1.1
 -- and two answers of its checks alone, which write nothing.
 pub sheet_checks_alike : (κs : _) (a : _) (z z' : _) (e e' : _) → checks.Post κs a z e → checks.Post κs a z' e' → z ≡ z'
 sheet_checks_alike κs a z z' e e' p q = results_alike z z' (alike p q)
+
+-- What a sheet's refusal says.
+pub number_alike : Alike 0 number_kinds.ps number_kinds.r number.Post
+number_alike κs a r s e f = alike
+
+pub cell_alike : Alike 0 cell_kinds.ps cell_kinds.r cell.Post
+cell_alike κs a r s e f = alike
+
+pub place_alike : Alike 0 place_kinds.ps place_kinds.r place.Post
+place_alike κs a r s e f = alike

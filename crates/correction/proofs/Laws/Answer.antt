@@ -16,7 +16,7 @@ use Rattle.inputs.specs.Checks.{Input, accepted, refusal_number, place_of, outli
 use Rattle.correction.specs.Pass.{Answer, pass_stencil, pass_tests, is_accepted, number_of, place_in, protected_in, errors_in, corners_in, tests_in, protected_cells, error_cells, corner_cells, test_count, Answers, answer}
 use Rattle.inputs.specs.Stencil.{protected_count, error_count, corner_count, counts_of}
 
--- An answer is fixed by whether it accepts, its number, its place, its three counts and its tests. Without the first, a refusal with the number 0, which no input gets, would pass for an acceptance.
+-- An answer is fixed by whether it accepts, its number, its place, its three counts and its tests.
 pub parts_fix : (r r' : Answer) → is_accepted r ≡ is_accepted r' → number_of r ≡ number_of r' → place_in r ≡ place_in r' → protected_in r ≡ protected_in r' → errors_in r ≡ errors_in r' → corners_in r ≡ corners_in r' → tests_in r ≡ tests_in r' → r ≡ r'
 unfolding is_accepted number_of place_in protected_in errors_in corners_in tests_in
 parts_fix (Ok c) (Ok c') a n p q e k m = λ i. Ok (record { counts = record { protected = q i; error = e i; corner = k i }; tests = m i })

@@ -1,6 +1,16 @@
 -- Each public function's promise determines its answer: any two answers that it permits for the same arguments are the same. Assumes nothing.
--- `Post` is a function's promise as the checker makes it of the `ensures` in the source. No public function has a `requires`, and no argument is lent, so the answer is all that a call leaves behind.
+-- `Post` is a function's promise as the checker makes it of the `ensures` in the source. No argument is lent, so the answer is all that a call leaves behind.
 use Rattle.ground.proofs.Laws.Alike.{Alike, alike}
+use Rattle.detectors.proofs.verdict.Verdict.clear.Kinds as clear_kinds
+use Rattle.detectors.proofs.verdict.Verdict.clear.Reads as clear
+use Rattle.detectors.proofs.verdict.Verdict.artifact.Kinds as artifact_kinds
+use Rattle.detectors.proofs.verdict.Verdict.artifact.Reads as artifact
+use Rattle.detectors.proofs.verdict.Verdict.is_artifact.Kinds as is_artifact_kinds
+use Rattle.detectors.proofs.verdict.Verdict.is_artifact.Reads as is_artifact
+use Rattle.detectors.proofs.verdict.Verdict.tests.Kinds as tests_kinds
+use Rattle.detectors.proofs.verdict.Verdict.tests.Reads as tests
+use Rattle.detectors.proofs.verdict.Verdict.then.Kinds as then_kinds
+use Rattle.detectors.proofs.verdict.Verdict.then.Reads as then
 use Rattle.detectors.proofs.texel.median.Kinds as median_kinds
 use Rattle.detectors.proofs.texel.median.Reads as median
 use Rattle.detectors.proofs.texel.guard.Kinds as guard_kinds
@@ -21,6 +31,22 @@ use Rattle.detectors.proofs.edge.away.Kinds as away_kinds
 use Rattle.detectors.proofs.edge.away.Reads as away
 use Rattle.detectors.proofs.edge.pair_protects.Kinds as pair_protects_kinds
 use Rattle.detectors.proofs.edge.pair_protects.Reads as pair_protects
+
+-- A verdict: made, read, and added to.
+pub clear_alike : Alike 0 clear_kinds.ps clear_kinds.r clear.Post
+clear_alike κs a r s e f = alike
+
+pub artifact_alike : Alike 0 artifact_kinds.ps artifact_kinds.r artifact.Post
+artifact_alike κs a r s e f = alike
+
+pub is_artifact_alike : Alike 0 is_artifact_kinds.ps is_artifact_kinds.r is_artifact.Post
+is_artifact_alike κs a r s e f = alike
+
+pub tests_alike : Alike 0 tests_kinds.ps tests_kinds.r tests.Post
+tests_alike κs a r s e f = alike
+
+pub then_alike : Alike 0 then_kinds.ps then_kinds.r then.Post
+then_alike κs a r s e f = alike
 
 -- The median of a texel.
 pub median_alike : Alike 0 median_kinds.ps median_kinds.r median.Post

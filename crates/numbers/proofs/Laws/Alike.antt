@@ -30,6 +30,8 @@ use Rattle.numbers.proofs.square_root.normal_root.Kinds as normal_root_kinds
 use Rattle.numbers.proofs.square_root.normal_root.Reads as normal_root
 use Rattle.numbers.proofs.square_root.sqrt.Kinds as sqrt_kinds
 use Rattle.numbers.proofs.square_root.sqrt.Reads as sqrt
+use Rattle.numbers.proofs.equation_solver.Roots.or_zero.Kinds as or_zero_kinds
+use Rattle.numbers.proofs.equation_solver.Roots.or_zero.Reads as or_zero
 use Rattle.numbers.proofs.equation_solver.solve_quadratic.Kinds as solve_quadratic_kinds
 use Rattle.numbers.proofs.equation_solver.solve_quadratic.Reads as solve_quadratic
 use Rattle.numbers.proofs.equation_solver.solve_normal_quadratic.Kinds as solve_normal_quadratic_kinds
@@ -77,3 +79,6 @@ solve_quadratic_alike κs a r s e f = roots_alike (roots_of a.0 a.1.0 a.1.1.0) r
 
 pub solve_normal_quadratic_alike : Alike 0 solve_normal_quadratic_kinds.ps solve_normal_quadratic_kinds.r solve_normal_quadratic.Post
 solve_normal_quadratic_alike κs a r s e f = roots_alike (normal_roots_of a.0 a.1.0 a.1.1.0) r s
+
+pub or_zero_alike : Alike 0 or_zero_kinds.ps or_zero_kinds.r or_zero.Post
+or_zero_alike κs a r s e f = alike
