@@ -1,2 +1,3 @@
 pub mod Answer
 pub mod Inner
+pub mod Read

@@ -1,15 +1,14 @@
 // Pairs of texels that an edge crosses, and which of the two they protect. In a pair a is the lower texel, in a row the left, and b the other.
 ghost use Rattle.std.specs.Prelude.{◌≡◌, ◌<◌};
-ghost use Rattle.inputs.specs.Inner.{Sized};
 ghost use Rattle.ranges.specs.Config as Config;
 ghost use Rattle.detectors.specs.Texel.{texel_median};
 ghost use Rattle.detectors.specs.Edge as Edge;
-ghost use Rattle.correction.specs.Bitmap.{texel};
 ghost use Rattle.correction.specs.Edges as Edges;
 ghost use Rattle.plain.specs.Inner as Inner;
+ghost use Rattle.plain.specs.Read.{read};
 
+use crate::texels::Texel;
 use crate::{linear, texels};
-use inputs::sizes::Bitmap;
 use numbers::{rounding, scalar};
 use ranges::config::Settings;
 use ranges::constants;
@@ -47,70 +46,60 @@ fn pair_protects(r: f32, a: [f32; 3], b: [f32; 3], c: [f32; 3]) -> bool
 }
 
 // Texel x, y as the lower one of a pair with nx, ny, where that is a texel.
-fn as_lower(xs: &[f32], b: Bitmap, r: f32, x: usize, y: usize, nx: usize, ny: usize) -> bool
-    requires sized { Sized b.width b.height b.channels xs.now }
-    requires inside { (x < b.width) × (y < b.height) }
-    ensures { result ≡ Inner.lower_with (texel xs.now b.width b.channels) b.width b.height r x y nx ny }
+fn as_lower(t: &Texel, r: f32, nx: usize, ny: usize) -> bool
+    ensures { result ≡ Inner.lower_with (read t.now.of) t.now.of.bitmap.width t.now.of.bitmap.height r t.now.x t.now.y nx ny }
 {
-    if texels::is_texel(b, nx, ny) {
-        let a = texels::texel(xs, b, x, y);
-        let n = texels::texel(xs, b, nx, ny);
+    if t.of.is_texel(nx, ny) {
+        let a = t.channels();
+        let n = t.of.texel(nx, ny);
         return pair_protects(r, a, n, a);
     }
     false
 }
 
 // Texel x, y as the other one.
-fn as_upper(xs: &[f32], b: Bitmap, r: f32, x: usize, y: usize, nx: usize, ny: usize) -> bool
-    requires sized { Sized b.width b.height b.channels xs.now }
-    requires inside { (x < b.width) × (y < b.height) }
-    ensures { result ≡ Inner.upper_with (texel xs.now b.width b.channels) b.width b.height r x y nx ny }
+fn as_upper(t: &Texel, r: f32, nx: usize, ny: usize) -> bool
+    ensures { result ≡ Inner.upper_with (read t.now.of) t.now.of.bitmap.width t.now.of.bitmap.height r t.now.x t.now.y nx ny }
 {
-    if texels::is_texel(b, nx, ny) {
-        let a = texels::texel(xs, b, nx, ny);
-        let n = texels::texel(xs, b, x, y);
+    if t.of.is_texel(nx, ny) {
+        let a = t.of.texel(nx, ny);
+        let n = t.channels();
         return pair_protects(r, a, n, n);
     }
     false
 }
 
 // The pairs in which it is the lower one: with the right, the upper, the upper right and the upper left texel.
-fn some_lower(xs: &[f32], b: Bitmap, s: Settings, x: usize, y: usize) -> bool
-    requires sized { Sized b.width b.height b.channels xs.now }
-    requires inside { (x < b.width) × (y < b.height) }
-    ensures { result ≡ Edges.some_lower (texel xs.now b.width b.channels) b.width b.height (Config.radius s.horizontal) (Config.radius s.vertical) (Config.radius s.diagonal) x y }
+fn some_lower(t: &Texel, s: Settings) -> bool
+    ensures { result ≡ Edges.some_lower (read t.now.of) t.now.of.bitmap.width t.now.of.bitmap.height (Config.radius s.horizontal) (Config.radius s.vertical) (Config.radius s.diagonal) t.now.x t.now.y }
 {
     let across = radius(s.diagonal);
-    let right = as_lower(xs, b, radius(s.horizontal), x, y, x + 1, y);
-    let upper = as_lower(xs, b, radius(s.vertical), x, y, x, y + 1);
-    let upper_right = as_lower(xs, b, across, x, y, x + 1, y + 1);
-    let upper_left = as_lower(xs, b, across, x, y, texels::previous(x), y + 1);
+    let right = as_lower(t, radius(s.horizontal), t.x + 1, t.y);
+    let upper = as_lower(t, radius(s.vertical), t.x, t.y + 1);
+    let upper_right = as_lower(t, across, t.x + 1, t.y + 1);
+    let upper_left = as_lower(t, across, texels::previous(t.x), t.y + 1);
     right | upper | upper_right | upper_left
 }
 
 // The pairs in which it is the other one: with the left, the lower, the lower left and the lower right texel.
-fn some_upper(xs: &[f32], b: Bitmap, s: Settings, x: usize, y: usize) -> bool
-    requires sized { Sized b.width b.height b.channels xs.now }
-    requires inside { (x < b.width) × (y < b.height) }
-    ensures { result ≡ Edges.some_upper (texel xs.now b.width b.channels) b.width b.height (Config.radius s.horizontal) (Config.radius s.vertical) (Config.radius s.diagonal) x y }
+fn some_upper(t: &Texel, s: Settings) -> bool
+    ensures { result ≡ Edges.some_upper (read t.now.of) t.now.of.bitmap.width t.now.of.bitmap.height (Config.radius s.horizontal) (Config.radius s.vertical) (Config.radius s.diagonal) t.now.x t.now.y }
 {
     let across = radius(s.diagonal);
-    let left = texels::previous(x);
-    let below = texels::previous(y);
-    let side = as_upper(xs, b, radius(s.horizontal), x, y, left, y);
-    let lower = as_upper(xs, b, radius(s.vertical), x, y, x, below);
-    let lower_left = as_upper(xs, b, across, x, y, left, below);
-    let lower_right = as_upper(xs, b, across, x, y, x + 1, below);
+    let left = texels::previous(t.x);
+    let below = texels::previous(t.y);
+    let side = as_upper(t, radius(s.horizontal), left, t.y);
+    let lower = as_upper(t, radius(s.vertical), t.x, below);
+    let lower_left = as_upper(t, across, left, below);
+    let lower_right = as_upper(t, across, t.x + 1, below);
     side | lower | lower_left | lower_right
 }
 
 // Some pair protects it.
-pub fn is_at_edge(xs: &[f32], b: Bitmap, s: Settings, x: usize, y: usize) -> bool
-    requires sized { Sized b.width b.height b.channels xs.now }
-    requires inside { (x < b.width) × (y < b.height) }
-    ensures { result ≡ Edges.edges_protect (texel xs.now b.width b.channels) b.width b.height s x y }
+pub fn is_at_edge(t: &Texel, s: Settings) -> bool
+    ensures { result ≡ Edges.edges_protect (read t.now.of) t.now.of.bitmap.width t.now.of.bitmap.height s t.now.x t.now.y }
 {
-    let lower = some_lower(xs, b, s, x, y);
-    let upper = some_upper(xs, b, s, x, y);
+    let lower = some_lower(t, s);
+    let upper = some_upper(t, s);
     lower | upper
 }

@@ -1,68 +1,45 @@
 // Texel x, y against all eight neighbours.
 ghost use Rattle.std.specs.Prelude.{◌≡◌, ◌<◌, true, false};
-ghost use Rattle.inputs.specs.Inner.{Sized};
 ghost use Rattle.ranges.specs.Config.{side_span, diagonal_span};
 ghost use Rattle.detectors.specs.Texel.{texel_median};
-ghost use Rattle.correction.specs.Bitmap.{texel};
 ghost use Rattle.correction.specs.Errors as Errors;
 ghost use Rattle.plain.specs.Inner as Inner;
+ghost use Rattle.plain.specs.Read.{read};
 
+use crate::texels::Texel;
 use crate::{diagonal, linear, texels};
-use inputs::sizes::Bitmap;
 use ranges::classifier::Classifier;
 use ranges::config::Settings;
 
 // The texel nx, ny beside it, where there is one.
-fn towards_side(
-    xs: &[f32],
-    b: Bitmap,
-    k: Classifier,
-    x: usize,
-    y: usize,
-    nx: usize,
-    ny: usize,
-) -> bool
-    requires sized { Sized b.width b.height b.channels xs.now }
-    requires inside { (x < b.width) × (y < b.height) }
-    ensures { result ≡ Inner.towards_side (texel xs.now b.width b.channels) b.width b.height k.span k.protected x y nx ny }
+fn towards_side(t: &Texel, k: Classifier, nx: usize, ny: usize) -> bool
+    ensures { result ≡ Inner.towards_side (read t.now.of) t.now.of.bitmap.width t.now.of.bitmap.height k.span k.protected t.now.x t.now.y nx ny }
 {
-    if texels::is_texel(b, nx, ny) {
-        let a = texels::texel(xs, b, x, y);
-        let n = texels::texel(xs, b, nx, ny);
+    if t.of.is_texel(nx, ny) {
+        let a = t.channels();
+        let n = t.of.texel(nx, ny);
         return linear::side_artifact(k, a, n);
     }
     false
 }
 
 // The texel nx, ny across, where there is one.
-fn towards_across(
-    xs: &[f32],
-    b: Bitmap,
-    k: Classifier,
-    x: usize,
-    y: usize,
-    nx: usize,
-    ny: usize,
-) -> bool
-    requires sized { Sized b.width b.height b.channels xs.now }
-    requires inside { (x < b.width) × (y < b.height) }
-    ensures { result ≡ Inner.towards_across (texel xs.now b.width b.channels) b.width b.height k.span k.protected x y nx ny }
+fn towards_across(t: &Texel, k: Classifier, nx: usize, ny: usize) -> bool
+    ensures { result ≡ Inner.towards_across (read t.now.of) t.now.of.bitmap.width t.now.of.bitmap.height k.span k.protected t.now.x t.now.y nx ny }
 {
-    if texels::is_texel(b, nx, ny) {
-        let a = texels::texel(xs, b, x, y);
-        let r = texels::texel(xs, b, nx, y);
-        let c = texels::texel(xs, b, x, ny);
-        let d = texels::texel(xs, b, nx, ny);
+    if t.of.is_texel(nx, ny) {
+        let a = t.channels();
+        let r = t.of.texel(nx, t.y);
+        let c = t.of.texel(t.x, ny);
+        let d = t.of.texel(nx, ny);
         return diagonal::across_artifact(k, [a, r, c, d]);
     }
     false
 }
 
 // The four texels beside it.
-fn some_side(xs: &[f32], b: Bitmap, s: Settings, protected: bool, x: usize, y: usize) -> bool
-    requires sized { Sized b.width b.height b.channels xs.now }
-    requires inside { (x < b.width) × (y < b.height) }
-    ensures { result ≡ Errors.some_side (texel xs.now b.width b.channels) b.width b.height (side_span s false) (side_span s true) protected (texel_median (texel xs.now b.width b.channels x y)) (texel xs.now b.width b.channels x y) x y }
+fn some_side(t: &Texel, s: Settings, protected: bool) -> bool
+    ensures { result ≡ Errors.some_side (read t.now.of) t.now.of.bitmap.width t.now.of.bitmap.height (side_span s false) (side_span s true) protected (texel_median (read t.now.of t.now.x t.now.y)) (read t.now.of t.now.x t.now.y) t.now.x t.now.y }
 {
     let row = Classifier {
         span: s.ratio * s.horizontal,
@@ -72,41 +49,37 @@ fn some_side(xs: &[f32], b: Bitmap, s: Settings, protected: bool, x: usize, y: u
         span: s.ratio * s.vertical,
         protected,
     };
-    let left = towards_side(xs, b, row, x, y, texels::previous(x), y);
-    let below = towards_side(xs, b, column, x, y, x, texels::previous(y));
-    let right = towards_side(xs, b, row, x, y, x + 1, y);
-    let above = towards_side(xs, b, column, x, y, x, y + 1);
+    let left = towards_side(t, row, texels::previous(t.x), t.y);
+    let below = towards_side(t, column, t.x, texels::previous(t.y));
+    let right = towards_side(t, row, t.x + 1, t.y);
+    let above = towards_side(t, column, t.x, t.y + 1);
     left | below | right | above
 }
 
 // The four texels across.
-fn some_across(xs: &[f32], b: Bitmap, s: Settings, protected: bool, x: usize, y: usize) -> bool
-    requires sized { Sized b.width b.height b.channels xs.now }
-    requires inside { (x < b.width) × (y < b.height) }
-    ensures { result ≡ Errors.some_diagonal (texel xs.now b.width b.channels) b.width b.height (diagonal_span s) protected (texel_median (texel xs.now b.width b.channels x y)) (texel xs.now b.width b.channels x y) x y }
+fn some_across(t: &Texel, s: Settings, protected: bool) -> bool
+    ensures { result ≡ Errors.some_diagonal (read t.now.of) t.now.of.bitmap.width t.now.of.bitmap.height (diagonal_span s) protected (texel_median (read t.now.of t.now.x t.now.y)) (read t.now.of t.now.x t.now.y) t.now.x t.now.y }
 {
     let k = Classifier {
         span: s.ratio * s.diagonal,
         protected,
     };
-    let left = texels::previous(x);
-    let below = texels::previous(y);
-    let right = x + 1;
-    let above = y + 1;
-    let lower_left = towards_across(xs, b, k, x, y, left, below);
-    let lower_right = towards_across(xs, b, k, x, y, right, below);
-    let upper_left = towards_across(xs, b, k, x, y, left, above);
-    let upper_right = towards_across(xs, b, k, x, y, right, above);
+    let left = texels::previous(t.x);
+    let below = texels::previous(t.y);
+    let right = t.x + 1;
+    let above = t.y + 1;
+    let lower_left = towards_across(t, k, left, below);
+    let lower_right = towards_across(t, k, right, below);
+    let upper_left = towards_across(t, k, left, above);
+    let upper_right = towards_across(t, k, right, above);
     lower_left | lower_right | upper_left | upper_right
 }
 
 // All eight.
-pub fn has_artifact(xs: &[f32], b: Bitmap, s: Settings, protected: bool, x: usize, y: usize) -> bool
-    requires sized { Sized b.width b.height b.channels xs.now }
-    requires inside { (x < b.width) × (y < b.height) }
-    ensures { result ≡ Errors.has_artifact (texel xs.now b.width b.channels) b.width b.height s protected x y }
+pub fn has_artifact(t: &Texel, s: Settings, protected: bool) -> bool
+    ensures { result ≡ Errors.has_artifact (read t.now.of) t.now.of.bitmap.width t.now.of.bitmap.height s protected t.now.x t.now.y }
 {
-    let sides = some_side(xs, b, s, protected, x, y);
-    let across = some_across(xs, b, s, protected, x, y);
+    let sides = some_side(t, s, protected);
+    let across = some_across(t, s, protected);
     sides | across
 }

@@ -6,13 +6,14 @@ ghost use Rattle.ground.specs.Lists.{tab};
 ghost use Rattle.inputs.specs.Checks.{input};
 ghost use Rattle.inputs.specs.Inner.{Sized, Celled, Outlined};
 ghost use Rattle.inputs.specs.Stencil as Stencil;
-ghost use Rattle.correction.specs.Bitmap.{texel};
 ghost use Rattle.ranges.specs.Config.{edge_priority};
 ghost use Rattle.correction.specs.Corners.{contours, corners_protect};
 ghost use Rattle.correction.specs.Pass as Pass;
 ghost use Rattle.plain.specs.Answer.{plain_answer};
 ghost use Rattle.plain.specs.Inner as Inner;
+ghost use Rattle.plain.specs.Read.{read};
 
+use crate::texels::{Texel, Texels};
 use crate::{checks, collapse, corners, edges, errors};
 use inputs::refusal::Refusal;
 use inputs::sizes::Bitmap;
@@ -35,15 +36,13 @@ fn byte(corner: bool, protected: bool, error: bool) -> u8
     bit(corner, stencil::CORNER) + bit(protected, stencil::PROTECTED) + bit(error, stencil::ERROR)
 }
 
-// The byte of texel x, y, where `corner` says whether a corner protects it.
-fn byte_at(xs: &[f32], b: Bitmap, mode: u8, s: Settings, corner: bool, x: usize, y: usize) -> u8
-    requires sized { Sized b.width b.height b.channels xs.now }
-    requires inside { (x < b.width) × (y < b.height) }
-    ensures { result ≡ Inner.byte_by (texel xs.now b.width b.channels) b.width b.height mode s corner x y }
+// The byte of a texel, where `corner` says whether a corner protects it.
+fn byte_at(t: &Texel, mode: u8, s: Settings, corner: bool) -> u8
+    ensures { result ≡ Inner.byte_by (read t.now.of) t.now.of.bitmap.width t.now.of.bitmap.height mode s corner t.now.x t.now.y }
 {
-    let edge = edges::is_at_edge(xs, b, s, x, y);
+    let edge = edges::is_at_edge(t, s);
     let protected = (mode == config::EDGE_ONLY) | (mode == config::EDGE_PRIORITY) & (corner | edge);
-    let artifact = errors::has_artifact(xs, b, s, protected, x, y);
+    let artifact = errors::has_artifact(t, s, protected);
     let error = !(mode == config::DISABLED) & artifact;
     byte(corner, protected, error)
 }
@@ -61,14 +60,18 @@ fn mark(stencil: &mut [u8], b: Bitmap, mode: u8, colours: &[u8], coords: &[f64],
 }
 
 // Works out the byte of every cell, one that a corner marked keeps its bit.
-fn gather(stencil: &mut [u8], xs: &[f32], b: Bitmap, mode: u8, s: Settings)
-    requires sized { Sized b.width b.height b.channels xs.now }
-    requires stencil_len { length stencil.old ≡ b.height * b.width }
-    ensures { stencil.new ≡ tab (length stencil.old) (λ k. Inner.byte_by (texel xs.now b.width b.channels) b.width b.height mode s (slice_index stencil.old k == 4) (k % b.width) (k / b.width)) }
+fn gather(stencil: &mut [u8], all: &Texels, mode: u8, s: Settings)
+    requires { length stencil.old ≡ all.now.bitmap.height * all.now.bitmap.width }
+    ensures { stencil.new ≡ tab (length stencil.old) (λ k. Inner.byte_by (read all.now) all.now.bitmap.width all.now.bitmap.height mode s (slice_index stencil.old k == 4) (k % all.now.bitmap.width) (k / all.now.bitmap.width)) }
 {
     for (k, cell) in stencil.iter_mut().enumerate() {
         let corner = *cell == stencil::CORNER;
-        *cell = byte_at(xs, b, mode, s, corner, k % b.width, k / b.width);
+        let texel = Texel {
+            of: *all,
+            x: k % all.bitmap.width,
+            y: k / all.bitmap.width,
+        };
+        *cell = byte_at(&texel, mode, s, corner);
     }
 }
 
@@ -111,7 +114,11 @@ fn correct(
     ensures clears { room.new ≡ tab (length room.old) (λ k. zero_of binary32) }
 {
     mark(stencil, b, mode, colours, coords, ends);
-    gather(stencil, xs, b, mode, s);
+    let all = Texels {
+        samples: xs,
+        bitmap: b,
+    };
+    gather(stencil, &all, mode, s);
     collapse::collapse(stencil, xs, b.channels);
     room.fill(0.0);
 }

@@ -13,19 +13,46 @@ pub fn previous(x: usize) -> usize
     if x == 0 { 4096 } else { x - 1 }
 }
 
-// Column x and row y are those of a texel.
-pub fn is_texel(b: Bitmap, x: usize, y: usize) -> bool
-    ensures { result ≡ Inner.is_texel b.width b.height x y }
-{
-    (x < b.width) & (y < b.height)
+// A bitmap that is read: its samples and its sizes, which fit each other.
+#[derive(Clone, Copy)]
+pub struct Texels<'a> {
+    pub samples: &'a [f32],
+    pub bitmap: Bitmap,
+    ghost sized: { Sized bitmap.width bitmap.height bitmap.channels samples.now },
 }
 
-// The first three channels of texel x, y.
-pub fn texel(xs: &[f32], b: Bitmap, x: usize, y: usize) -> [f32; 3]
-    requires sized { Sized b.width b.height b.channels xs.now }
-    requires inside { (x < b.width) × (y < b.height) }
-    ensures { result ≡ Rules.texel xs.now b.width b.channels x y }
-{
-    let at = (y * b.width + x) * b.channels;
-    [xs[at], xs[at + 1], xs[at + 2]]
+impl<'a> Texels<'a> {
+    // Column x and row y are those of a texel.
+    pub fn is_texel(&self, x: usize, y: usize) -> bool
+        ensures { result ≡ Inner.is_texel self.now.bitmap.width self.now.bitmap.height x y }
+    {
+        (x < self.bitmap.width) & (y < self.bitmap.height)
+    }
+
+    // The first three channels of texel x, y.
+    pub fn texel(&self, x: usize, y: usize) -> [f32; 3]
+        requires { (x < self.now.bitmap.width) × (y < self.now.bitmap.height) }
+        ensures { result ≡ Rules.texel self.now.samples.now self.now.bitmap.width self.now.bitmap.channels x y }
+    {
+        let at = (y * self.bitmap.width + x) * self.bitmap.channels;
+        [self.samples[at], self.samples[at + 1], self.samples[at + 2]]
+    }
+}
+
+// A texel of one: its column and its row.
+#[derive(Clone, Copy)]
+pub struct Texel<'a> {
+    pub of: Texels<'a>,
+    pub x: usize,
+    pub y: usize,
+    ghost inside: { (x < of.bitmap.width) × (y < of.bitmap.height) },
+}
+
+impl<'a> Texel<'a> {
+    // Its first three channels.
+    pub fn channels(&self) -> [f32; 3]
+        ensures { result ≡ Rules.texel self.now.of.samples.now self.now.of.bitmap.width self.now.of.bitmap.channels self.now.x self.now.y }
+    {
+        self.of.texel(self.x, self.y)
+    }
 }

@@ -5,5 +5,5 @@ use Rattle.plain.proofs.edges.some_lower.Goals as goal
 
 pub returns : goal.returns
 returns c =
-    four_lower _ _ _ _ _ c.requires.sized.wide c.requires.sized.high c.requires.inside.0 c.requires.inside.1 c.previous.ensures refl _ _ _
+    four_lower _ _ _ _ _ c.args.t.now.of.sized.wide c.args.t.now.of.sized.high c.args.t.now.inside.0 c.args.t.now.inside.1 c.previous.ensures refl _ _ _
     (rw c.radius.ensures at c.as_lower-right.ensures) (rw c.radius-2.ensures at c.as_lower-upper.ensures) (rw c.radius-across.ensures at c.as_lower-upper_right.ensures) (rw c.radius-across.ensures at c.as_lower-upper_left.ensures)

@@ -24,7 +24,7 @@ pub mark-requires : goal.mark-requires
 mark-requires c = record { celled = celled c.requires.sized c.requires.stencil_len; outlined = c.requires.outlined }
 
 pub gather-requires : goal.gather-requires
-gather-requires c = record { sized = c.requires.sized; stencil_len = as_long _ _ c.mark.ensures ∙ c.requires.stencil_len }
+gather-requires c = as_long _ _ c.mark.ensures ∙ c.requires.stencil_len
 
 pub collapse-requires : goal.collapse-requires
 collapse-requires c =

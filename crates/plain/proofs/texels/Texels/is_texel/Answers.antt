@@ -1,7 +1,7 @@
--- `plain::texels::is_texel` meets its contract. Assumes nothing.
+-- `plain::texels::Texels::is_texel` meets its contract. Assumes nothing.
 use Rattle.std.proofs.Common.{refl}
 use Rattle.plain.specs.Inner.{is_texel}
-use Rattle.plain.proofs.texels.is_texel.Goals as goal
+use Rattle.plain.proofs.texels.Texels.is_texel.Goals as goal
 
 pub returns : goal.returns
 unfolding is_texel
