@@ -8,6 +8,7 @@ ghost use Rattle.correction.specs.Cells.{AreaInside, AreasInside, Found, cell_at
 
 use crate::refusal::Refusal;
 use inputs::checks;
+use inputs::outline::Outline;
 use inputs::sizes::{Bitmap, Window};
 use ranges::config::Settings;
 
@@ -45,6 +46,24 @@ pub struct Cell {
     pub colours: Run,
     pub coords: Run,
     pub ends: Run,
+}
+
+impl Cell {
+    // What its runs take of the sheet's outlines.
+    pub fn outline<'a>(self, all: Outline<'a>) -> Outline<'a>
+        requires colours { self.colours.from + self.colours.count ≤ length all.colours.now }
+        requires coords { self.coords.from + self.coords.count ≤ length all.coords.now }
+        requires ends { self.ends.from + self.ends.count ≤ length all.ends.now }
+        ensures colours { result.colours.now ≡ Sheet.taken self.colours all.entry.colours.now }
+        ensures coords { result.coords.now ≡ Sheet.taken self.coords all.entry.coords.now }
+        ensures ends { result.ends.now ≡ Sheet.taken self.ends all.entry.ends.now }
+    {
+        Outline {
+            colours: self.colours.of(all.colours),
+            coords: self.coords.of(all.coords),
+            ends: self.ends.of(all.ends),
+        }
+    }
 }
 
 // The lengths of what is handed over.
@@ -224,27 +243,21 @@ fn bad_run(r: Run, n: usize) -> bool
     beyond(r.from, r.count, n)
 }
 
-// Check 53, of cell c, where the lists have so many colours, coordinates and ends.
-fn bad_runs(cells: &[usize], c: usize, colours: usize, coords: usize, ends: usize) -> bool
+// Check 53, of cell c.
+fn bad_runs(cells: &[usize], c: usize, all: Outline) -> bool
     requires { (10 * c + 10 ≤ length cells.now) × (c < 4096) }
-    ensures { result ≡ Sheet.bad_runs cells.now colours coords ends c }
+    ensures { result ≡ Sheet.bad_runs cells.now (length all.entry.colours.now) (length all.entry.coords.now) (length all.entry.ends.now) c }
 {
     let at = 10 * c;
-    bad_run(run_at(cells, at + 4), colours)
-        || bad_run(run_at(cells, at + 6), coords)
-        || bad_run(run_at(cells, at + 8), ends)
+    bad_run(run_at(cells, at + 4), all.colours.len())
+        || bad_run(run_at(cells, at + 6), all.coords.len())
+        || bad_run(run_at(cells, at + 8), all.ends.len())
 }
 
 // Its first cell.
-pub fn first_bad_run(
-    cells: &[usize],
-    n: usize,
-    colours: usize,
-    coords: usize,
-    ends: usize,
-) -> Option<usize>
+pub fn first_bad_run(cells: &[usize], n: usize, all: Outline) -> Option<usize>
     requires { (length cells.now ≡ 10 * n) × (n ≤ 4096) }
-    ensures { Found (Sheet.first_bad_run cells.now n colours coords ends) n result }
+    ensures { Found (Sheet.first_bad_run cells.now n (length all.entry.colours.now) (length all.entry.coords.now) (length all.entry.ends.now)) n result }
 {
-    (0..n).find(|&c| bad_runs(cells, c, colours, coords, ends))
+    (0..n).find(|&c| bad_runs(cells, c, all))
 }

@@ -3,11 +3,12 @@ ghost use Rattle.std.specs.Prelude.{◌≡◌, ◌+◌, ◌-◌, ◌*◌, ◌/�
 ghost use Rattle.correction.specs.Corners as Corners;
 ghost use Rattle.correction.specs.Inner.{at_corner, spot, clip};
 ghost use Rattle.correction.specs.Numbered.{corner_hits, contour_hits};
-ghost use Rattle.inputs.specs.Inner.{Stencilled, Outlined};
+ghost use Rattle.inputs.specs.Inner.{Stencilled};
 ghost use Rattle.inputs.specs.Window.{cut_cells, CellsPasted};
 ghost use Rattle.ground.specs.Lists.{painted};
 
 use crate::bitmap;
+use inputs::outline::Contours;
 use inputs::sizes::Window;
 use inputs::stencil;
 use numbers::rounding;
@@ -94,52 +95,37 @@ fn is_corner(a: u8, b: u8) -> bool
 }
 
 // Segment i of a contour, where it is a corner.
-fn protect_corner(
-    stencil: &mut [u8],
-    b: Window,
-    colours: &[u8],
-    coords: &[f64],
-    c: Contour,
-    i: usize,
-)
+fn protect_corner(stencil: &mut [u8], b: Window, contours: Contours, c: Contour, i: usize)
     requires stencilled { Stencilled b stencil.old }
-    requires coords_len { (length coords.now ≡ 2 * length colours.now) × (length colours.now ≤ 65536) }
-    requires from_le_i { (c.from ≤ i) × (i < c.end) × (c.end ≤ length colours.now) }
-    ensures { CellsPasted b stencil.old stencil.new (painted at_corner (λ k. corner_hits colours.now coords.now c.from c.end i (k % b.width) (k / b.width)) (cut_cells b stencil.old)) }
+    requires from_le_i { (c.from ≤ i) × (i < c.end) × (c.end ≤ length contours.outline.colours.now) }
+    ensures { CellsPasted b stencil.old stencil.new (painted at_corner (λ k. corner_hits contours.entry.outline.colours.now contours.entry.outline.coords.now c.from c.end i (k % b.width) (k / b.width)) (cut_cells b stencil.old)) }
 {
+    let o = contours.outline;
     let j = c.previous(i);
-    if is_corner(colours[j], colours[i]) {
-        mark_around(stencil, b, coords[2 * i], coords[2 * i + 1]);
+    if is_corner(o.colours[j], o.colours[i]) {
+        mark_around(stencil, b, o.coords[2 * i], o.coords[2 * i + 1]);
     }
 }
 
 // One contour.
-fn protect_contour(stencil: &mut [u8], b: Window, colours: &[u8], coords: &[f64], c: Contour)
+fn protect_contour(stencil: &mut [u8], b: Window, contours: Contours, c: Contour)
     requires stencilled { Stencilled b stencil.old }
-    requires coords_len { (length coords.now ≡ 2 * length colours.now) × (length colours.now ≤ 65536) }
-    requires from_le_end { (c.from ≤ c.end) × (c.end ≤ length colours.now) }
-    ensures { CellsPasted b stencil.old stencil.new (painted at_corner (λ k. contour_hits colours.now coords.now c.from c.end (k % b.width) (k / b.width)) (cut_cells b stencil.old)) }
+    requires from_le_end { (c.from ≤ c.end) × (c.end ≤ length contours.outline.colours.now) }
+    ensures { CellsPasted b stencil.old stencil.new (painted at_corner (λ k. contour_hits contours.entry.outline.colours.now contours.entry.outline.coords.now c.from c.end (k % b.width) (k / b.width)) (cut_cells b stencil.old)) }
 {
     for i in c.from..c.end {
-        protect_corner(stencil, b, colours, coords, c, i);
+        protect_corner(stencil, b, contours, c, i);
     }
 }
 
 // All contours; an empty one is skipped.
-pub fn protect_corners(
-    stencil: &mut [u8],
-    b: Window,
-    colours: &[u8],
-    coords: &[f64],
-    ends: &[usize],
-)
-    requires stencilled { Stencilled b stencil.old }
-    requires outlined { Outlined colours.now coords.now ends.now }
-    ensures { CellsPasted b stencil.old stencil.new (painted at_corner (λ k. Corners.corners_protect (Corners.contours colours.now coords.now ends.now) (k % b.width) (k / b.width)) (cut_cells b stencil.old)) }
+pub fn protect_corners(stencil: &mut [u8], b: Window, contours: Contours)
+    requires { Stencilled b stencil.old }
+    ensures { CellsPasted b stencil.old stencil.new (painted at_corner (λ k. Corners.corners_protect (Corners.contours contours.entry.outline.colours.now contours.entry.outline.coords.now contours.entry.outline.ends.now) (k % b.width) (k / b.width)) (cut_cells b stencil.old)) }
 {
     let mut from = 0usize;
-    for &end in ends {
-        protect_contour(stencil, b, colours, coords, Contour { from, end });
+    for &end in contours.outline.ends {
+        protect_contour(stencil, b, contours, Contour { from, end });
         from = end;
     }
 }

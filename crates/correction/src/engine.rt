@@ -1,11 +1,12 @@
 // The engine: protection, finding and collapsing on a window of a sheet. A bitmap alone is the window that is the whole.
 ghost use Rattle.std.specs.Prelude.{◌≡◌, ◌*◌, ◌≤◌, length};
 ghost use Rattle.correction.specs.Pass as Pass;
-ghost use Rattle.inputs.specs.Inner.{Sampled, Stencilled, Outlined};
+ghost use Rattle.inputs.specs.Inner.{Sampled, Stencilled};
 ghost use Rattle.inputs.specs.Window.{CellsPasted, SamplesPasted};
 ghost use Rattle.correction.specs.Inner.{Cleared, cut_out, shielded_cells};
 
 use crate::{collapse, corners, edges, errors, orders, window};
+use inputs::outline::Contours;
 use inputs::sizes::Window;
 use ranges::config;
 use ranges::config::Settings;
@@ -18,21 +19,18 @@ fn protect(
     b: Window,
     mode: u8,
     s: Settings,
-    colours: &[u8],
-    coords: &[f64],
-    ends: &[usize],
+    contours: Contours,
 )
     requires sampled { Sampled b xs.now × (2 * b.width ≤ length room.old) }
     requires stencilled { Stencilled b stencil.old × Cleared b stencil.old }
-    requires outlined { Outlined colours.now coords.now ends.now }
-    ensures { CellsPasted b stencil.old stencil.new (shielded_cells (cut_out b xs.now mode s colours.now coords.now ends.now)) }
+    ensures { CellsPasted b stencil.old stencil.new (shielded_cells (cut_out b xs.now mode s contours.entry.outline.colours.now contours.entry.outline.coords.now contours.entry.outline.ends.now)) }
 {
     if mode == config::EDGE_ONLY {
         window::protect_all(stencil, b);
         return;
     }
     if mode == config::EDGE_PRIORITY {
-        corners::protect_corners(stencil, b, colours, coords, ends);
+        corners::protect_corners(stencil, b, contours);
         edges::protect_edges(stencil, xs, room, b, s);
     }
 }
@@ -45,21 +43,18 @@ pub fn correct(
     b: Window,
     mode: u8,
     s: Settings,
-    colours: &[u8],
-    coords: &[f64],
-    ends: &[usize],
+    contours: Contours,
 ) -> usize
     requires sampled { Sampled b xs.old × (2 * b.width ≤ length room.old) }
     requires stencilled { Stencilled b stencil.old × Cleared b stencil.old }
-    requires outlined { Outlined colours.now coords.now ends.now }
-    ensures makes { result ≡ Pass.pass_tests (cut_out b xs.old mode s colours.now coords.now ends.now) }
-    ensures leaves { CellsPasted b stencil.old stencil.new (Pass.pass_stencil (cut_out b xs.old mode s colours.now coords.now ends.now)) }
-    ensures writes { SamplesPasted b xs.old xs.new (Pass.pass_samples (cut_out b xs.old mode s colours.now coords.now ends.now)) }
+    ensures makes { result ≡ Pass.pass_tests (cut_out b xs.old mode s contours.entry.outline.colours.now contours.entry.outline.coords.now contours.entry.outline.ends.now) }
+    ensures leaves { CellsPasted b stencil.old stencil.new (Pass.pass_stencil (cut_out b xs.old mode s contours.entry.outline.colours.now contours.entry.outline.coords.now contours.entry.outline.ends.now)) }
+    ensures writes { SamplesPasted b xs.old xs.new (Pass.pass_samples (cut_out b xs.old mode s contours.entry.outline.colours.now contours.entry.outline.coords.now contours.entry.outline.ends.now)) }
 {
     if mode == config::DISABLED {
         return 0;
     }
-    protect(stencil, xs, room, b, mode, s, colours, coords, ends);
+    protect(stencil, xs, room, b, mode, s, contours);
     orders::write_orders(stencil, xs, b);
     let tests = errors::find_errors(stencil, xs, b, s);
     collapse::apply(stencil, xs, b);

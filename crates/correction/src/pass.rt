@@ -5,6 +5,7 @@ ghost use Rattle.correction.specs.Pass as Pass;
 ghost use Rattle.correction.specs.Cells.{plus};
 
 use crate::{bitmap, engine, window};
+use inputs::outline::Outline;
 use inputs::refusal::Refusal;
 use inputs::sizes::Bitmap;
 use inputs::stencil::Counts;
@@ -59,11 +60,14 @@ pub fn msdf_error_correction(
     checks::check_size(b, samples.len(), stencil.len())?;
     checks::check_room(width, room.len())?;
     let g = bitmap::whole(b);
-    window::check(samples, g, mode, settings, colours, coords, ends)?;
+    let outline = Outline {
+        colours,
+        coords,
+        ends,
+    };
+    let contours = window::check(samples, g, mode, settings, outline)?;
     stencil::fill(stencil, 0);
-    let tests = engine::correct(
-        stencil, samples, room, g, mode, settings, colours, coords, ends,
-    );
+    let tests = engine::correct(stencil, samples, room, g, mode, settings, contours);
     room::clear(room);
     Ok(Corrected {
         counts: stencil::count_cells(stencil),

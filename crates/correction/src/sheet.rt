@@ -14,37 +14,28 @@ use crate::cells::Lengths;
 use crate::pass::Corrected;
 use crate::refusal::Refusal;
 use crate::{cells, engine, window};
+use inputs::outline::{Contours, Outline};
 use inputs::refusal::ContentRefusal;
 use inputs::sizes::Bitmap;
 use inputs::stencil::Counts;
 use inputs::{room, stencil};
 
-// Checks 5 to 9 of cell c.
-fn check_cell(
+// The contours of cell c, or the first of its checks 5 to 9 that fails.
+fn check_cell<'a>(
     b: Bitmap,
     xs: &[f32],
     cells: &[usize],
     modes: &[u8],
     settings: &[f64],
-    colours: &[u8],
-    coords: &[f64],
-    ends: &[usize],
+    outline: Outline<'a>,
     c: usize,
-) -> Result<(), ContentRefusal>
-    requires { Laid (sheet b.width b.height b.channels xs.now [] [] cells.now modes.now settings.now colours.now coords.now ends.now) × (c < length modes.now) }
-    ensures numbers { content_number_in result ≡ content_refusal (Sheet.alone (sheet b.width b.height b.channels xs.now [] [] cells.now modes.now settings.now colours.now coords.now ends.now) c) }
-    ensures places { content_place_in result ≡ place_of (Sheet.alone (sheet b.width b.height b.channels xs.now [] [] cells.now modes.now settings.now colours.now coords.now ends.now) c) (content_number_in result) }
+) -> Result<Contours<'a>, ContentRefusal>
+    requires { Laid (sheet b.width b.height b.channels xs.now [] [] cells.now modes.now settings.now outline.colours.now outline.coords.now outline.ends.now) × (c < length modes.now) }
+    ensures numbers { content_number_in result ≡ content_refusal (Sheet.alone (sheet b.width b.height b.channels xs.now [] [] cells.now modes.now settings.now outline.entry.colours.now outline.entry.coords.now outline.entry.ends.now) c) }
+    ensures places { content_place_in result ≡ place_of (Sheet.alone (sheet b.width b.height b.channels xs.now [] [] cells.now modes.now settings.now outline.entry.colours.now outline.entry.coords.now outline.entry.ends.now) c) (content_number_in result) }
 {
     let k = cells::cell_at(b, cells, settings, c);
-    window::check(
-        xs,
-        k.window,
-        modes[c],
-        k.settings,
-        k.colours.of(colours),
-        k.coords.of(coords),
-        k.ends.of(ends),
-    )
+    window::check(xs, k.window, modes[c], k.settings, k.outline(outline))
 }
 
 // Those of all cells, first cell first.
@@ -54,15 +45,13 @@ fn check_cells(
     cells: &[usize],
     modes: &[u8],
     settings: &[f64],
-    colours: &[u8],
-    coords: &[f64],
-    ends: &[usize],
+    outline: Outline,
 ) -> Result<(), Refusal>
-    requires { Laid (sheet b.width b.height b.channels xs.now [] [] cells.now modes.now settings.now colours.now coords.now ends.now) }
-    ensures { failure_in result ≡ Sheet.content_failure (sheet b.width b.height b.channels xs.now [] [] cells.now modes.now settings.now colours.now coords.now ends.now) }
+    requires { Laid (sheet b.width b.height b.channels xs.now [] [] cells.now modes.now settings.now outline.colours.now outline.coords.now outline.ends.now) }
+    ensures { failure_in result ≡ Sheet.content_failure (sheet b.width b.height b.channels xs.now [] [] cells.now modes.now settings.now outline.entry.colours.now outline.entry.coords.now outline.entry.ends.now) }
 {
     for c in 0..modes.len() {
-        if let Err(r) = check_cell(b, xs, cells, modes, settings, colours, coords, ends, c) {
+        if let Err(r) = check_cell(b, xs, cells, modes, settings, outline, c) {
             return Err(Refusal::Cell(c, r));
         }
     }
@@ -100,10 +89,15 @@ pub fn check(
     if let Some(c) = cells::first_overlap(cells, n) {
         return Err(Refusal::Overlap(c));
     }
-    if let Some(c) = cells::first_bad_run(cells, n, colours.len(), coords.len(), ends.len()) {
+    let outline = Outline {
+        colours,
+        coords,
+        ends,
+    };
+    if let Some(c) = cells::first_bad_run(cells, n, outline) {
         return Err(Refusal::Run(c));
     }
-    check_cells(b, xs, cells, modes, settings, colours, coords, ends)
+    check_cells(b, xs, cells, modes, settings, outline)
 }
 
 // The pass on cell c, whose window is cleared.
@@ -115,31 +109,22 @@ fn correct_cell(
     cells: &[usize],
     modes: &[u8],
     settings: &[f64],
-    colours: &[u8],
-    coords: &[f64],
-    ends: &[usize],
+    outline: Outline,
     c: usize,
 ) -> Corrected
-    requires laid { Laid (sheet b.width b.height b.channels xs.old stencil.old [] cells.now modes.now settings.now colours.now coords.now ends.now) × (c < length modes.now) × CellOutlined (sheet b.width b.height b.channels xs.old stencil.old [] cells.now modes.now settings.now colours.now coords.now ends.now) c }
+    requires laid { Laid (sheet b.width b.height b.channels xs.old stencil.old [] cells.now modes.now settings.now outline.colours.now outline.coords.now outline.ends.now) × (c < length modes.now) × CellOutlined (sheet b.width b.height b.channels xs.old stencil.old [] cells.now modes.now settings.now outline.colours.now outline.coords.now outline.ends.now) c }
     requires stencil_len { length stencil.old ≡ b.height * b.width }
-    requires cleared { Cleared (Sheet.window_at (sheet b.width b.height b.channels xs.old stencil.old [] cells.now modes.now settings.now colours.now coords.now ends.now) c) stencil.old }
+    requires cleared { Cleared (Sheet.window_at (sheet b.width b.height b.channels xs.old stencil.old [] cells.now modes.now settings.now outline.colours.now outline.coords.now outline.ends.now) c) stencil.old }
     requires width_in_bounds { 2 * b.width ≤ length room.old }
-    ensures counts { result ≡ tally_of (Sheet.alone (sheet b.width b.height b.channels xs.old stencil.old [] cells.now modes.now settings.now colours.now coords.now ends.now) c) }
-    ensures leaves { CellsPasted (Sheet.window_at (sheet b.width b.height b.channels xs.old stencil.old [] cells.now modes.now settings.now colours.now coords.now ends.now) c) stencil.old stencil.new (pass_stencil (Sheet.alone (sheet b.width b.height b.channels xs.old stencil.old [] cells.now modes.now settings.now colours.now coords.now ends.now) c)) }
-    ensures writes { SamplesPasted (Sheet.window_at (sheet b.width b.height b.channels xs.old stencil.old [] cells.now modes.now settings.now colours.now coords.now ends.now) c) xs.old xs.new (pass_samples (Sheet.alone (sheet b.width b.height b.channels xs.old stencil.old [] cells.now modes.now settings.now colours.now coords.now ends.now) c)) }
+    ensures counts { result ≡ tally_of (Sheet.alone (sheet b.width b.height b.channels xs.old stencil.old [] cells.now modes.now settings.now outline.entry.colours.now outline.entry.coords.now outline.entry.ends.now) c) }
+    ensures leaves { CellsPasted (Sheet.window_at (sheet b.width b.height b.channels xs.old stencil.old [] cells.now modes.now settings.now outline.entry.colours.now outline.entry.coords.now outline.entry.ends.now) c) stencil.old stencil.new (pass_stencil (Sheet.alone (sheet b.width b.height b.channels xs.old stencil.old [] cells.now modes.now settings.now outline.entry.colours.now outline.entry.coords.now outline.entry.ends.now) c)) }
+    ensures writes { SamplesPasted (Sheet.window_at (sheet b.width b.height b.channels xs.old stencil.old [] cells.now modes.now settings.now outline.entry.colours.now outline.entry.coords.now outline.entry.ends.now) c) xs.old xs.new (pass_samples (Sheet.alone (sheet b.width b.height b.channels xs.old stencil.old [] cells.now modes.now settings.now outline.entry.colours.now outline.entry.coords.now outline.entry.ends.now) c)) }
 {
     let k = cells::cell_at(b, cells, settings, c);
-    let tests = engine::correct(
-        stencil,
-        xs,
-        room,
-        k.window,
-        modes[c],
-        k.settings,
-        k.colours.of(colours),
-        k.coords.of(coords),
-        k.ends.of(ends),
-    );
+    let contours = Contours {
+        outline: k.outline(outline),
+    };
+    let tests = engine::correct(stencil, xs, room, k.window, modes[c], k.settings, contours);
     Corrected {
         counts: window::count_cells(stencil, k.window),
         tests,
@@ -155,25 +140,21 @@ fn correct_cells(
     cells: &[usize],
     modes: &[u8],
     settings: &[f64],
-    colours: &[u8],
-    coords: &[f64],
-    ends: &[usize],
+    outline: Outline,
 ) -> Corrected
-    requires ready { Ready (sheet b.width b.height b.channels xs.old stencil.old [] cells.now modes.now settings.now colours.now coords.now ends.now) }
+    requires ready { Ready (sheet b.width b.height b.channels xs.old stencil.old [] cells.now modes.now settings.now outline.colours.now outline.coords.now outline.ends.now) }
     requires stencil_value { stencil.old ≡ tab (length stencil.old) (λ k. 0) }
     requires width_in_bounds { 2 * b.width ≤ length room.old }
-    ensures counts { result ≡ tallies (sheet b.width b.height b.channels xs.old stencil.old [] cells.now modes.now settings.now colours.now coords.now ends.now) }
-    ensures leaves { stencil.new ≡ Sheet.sheet_stencil (sheet b.width b.height b.channels xs.old stencil.old [] cells.now modes.now settings.now colours.now coords.now ends.now) }
-    ensures writes { xs.new ≡ Sheet.sheet_samples (sheet b.width b.height b.channels xs.old stencil.old [] cells.now modes.now settings.now colours.now coords.now ends.now) }
+    ensures counts { result ≡ tallies (sheet b.width b.height b.channels xs.old stencil.old [] cells.now modes.now settings.now outline.entry.colours.now outline.entry.coords.now outline.entry.ends.now) }
+    ensures leaves { stencil.new ≡ Sheet.sheet_stencil (sheet b.width b.height b.channels xs.old stencil.old [] cells.now modes.now settings.now outline.entry.colours.now outline.entry.coords.now outline.entry.ends.now) }
+    ensures writes { xs.new ≡ Sheet.sheet_samples (sheet b.width b.height b.channels xs.old stencil.old [] cells.now modes.now settings.now outline.entry.colours.now outline.entry.coords.now outline.entry.ends.now) }
 {
     let mut sum = Corrected {
         counts: window::NONE,
         tests: 0,
     };
     for c in 0..modes.len() {
-        let n = correct_cell(
-            stencil, xs, room, b, cells, modes, settings, colours, coords, ends, c,
-        );
+        let n = correct_cell(stencil, xs, room, b, cells, modes, settings, outline, c);
         sum = sum.plus(n);
     }
     sum
@@ -208,9 +189,12 @@ pub fn msdf_sheet_error_correction(
         b, samples, stencil, room, cells, modes, settings, colours, coords, ends,
     )?;
     stencil::fill(stencil, 0);
-    let n = correct_cells(
-        stencil, samples, room, b, cells, modes, settings, colours, coords, ends,
-    );
+    let outline = Outline {
+        colours,
+        coords,
+        ends,
+    };
+    let n = correct_cells(stencil, samples, room, b, cells, modes, settings, outline);
     room::clear(room);
     Ok(n)
 }

@@ -1,5 +1,5 @@
 // What is done to a window row by row: a row's cells and samples lie side by side.
-ghost use Rattle.std.specs.Prelude.{◌≡◌, ℕ, [], ◌+◌, ◌*◌, ◌^◌, ◌<◌, get_or};
+ghost use Rattle.std.specs.Prelude.{◌≡◌, IfOk, ℕ, [], ◌+◌, ◌*◌, ◌^◌, ◌<◌, get_or};
 ghost use Rattle.ground.specs.Lists.{tab};
 ghost use Rattle.inputs.specs.Checks as Checks;
 ghost use Rattle.inputs.specs.Checks.{input};
@@ -10,6 +10,7 @@ ghost use Rattle.inputs.specs.Window.{cell_in, cut_cells, cut_samples, CellsPast
 ghost use Rattle.correction.specs.Inner.{RowPainted, together};
 
 use crate::bitmap;
+use inputs::outline::{Contours, Outline};
 use inputs::refusal::ContentRefusal;
 use inputs::sizes::Window;
 use inputs::stencil::Counts;
@@ -88,23 +89,22 @@ fn first_bad_sample(xs: &[f32], b: Window) -> Option<usize>
     None
 }
 
-// Checks 5 to 9 of a window as a bitmap alone, in number order; the first failure answers.
-pub fn check(
+// The contours, or the first of checks 5 to 9 that fails of a window as a bitmap alone.
+pub fn check<'a>(
     xs: &[f32],
     b: Window,
     mode: u8,
     s: Settings,
-    colours: &[u8],
-    coords: &[f64],
-    ends: &[usize],
-) -> Result<(), ContentRefusal>
+    o: Outline<'a>,
+) -> Result<Contours<'a>, ContentRefusal>
     requires { Sampled b xs.now }
-    ensures numbers { content_number_in result ≡ Checks.content_refusal (input b.width b.height b.channels (cut_samples b xs.now) [] [] mode s colours.now coords.now ends.now) }
-    ensures places { content_place_in result ≡ Checks.place_of (input b.width b.height b.channels (cut_samples b xs.now) [] [] mode s colours.now coords.now ends.now) (content_number_in result) }
+    ensures numbers { content_number_in result ≡ Checks.content_refusal (input b.width b.height b.channels (cut_samples b xs.now) [] [] mode s o.entry.colours.now o.entry.coords.now o.entry.ends.now) }
+    ensures places { content_place_in result ≡ Checks.place_of (input b.width b.height b.channels (cut_samples b xs.now) [] [] mode s o.entry.colours.now o.entry.coords.now o.entry.ends.now) (content_number_in result) }
+    ensures same { IfOk result (λ c. c.outline ≡ o.entry) }
 {
     checks::check_settings(mode, s)?;
     if let Some(p) = first_bad_sample(xs, b) {
         return Err(ContentRefusal::Sample(p));
     }
-    checks::check_outline(colours, coords, ends)
+    o.check()
 }

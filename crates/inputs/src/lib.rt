@@ -2,6 +2,7 @@
 #![tactic(auto)]
 
 pub mod checks;
+pub mod outline;
 pub mod refusal;
 pub mod room;
 pub mod sizes;

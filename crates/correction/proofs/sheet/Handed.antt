@@ -1,7 +1,7 @@
 -- A cell as it is taken from a sheet and handed to the checks and to the engine: its window, its settings and its runs are those of the cell alone. Assumes nothing.
 --     cell_there       a cell's numbers and settings are there, and its area lies in the sheet
 --     runs_held        its runs end in their lists
---     sampled_as, stencilled_as, cleared_as, outlined_as   what is known of the cell alone, of what is handed over
+--     sampled_as, stencilled_as, cleared_as   what is known of the cell alone, of what is handed over
 --     room_enough      a room for the sheet's rows is one for the cell's
 --     judged           what its checks answer is what those of the cell alone do
 --     leaves, writes, tallied   what the engine leaves of it is what the pass leaves of the cell alone
@@ -15,7 +15,7 @@ use Rattle.ground.proofs.Laws.Picked.{pasted_as}
 use Rattle.inputs.specs.declared.sizes.Window.{Window}
 use Rattle.inputs.specs.declared.stencil.Counts.{Counts}
 use Rattle.inputs.specs.Stencil.{counts_of}
-use Rattle.inputs.specs.Inner.{Sampled, Stencilled, Outlined}
+use Rattle.inputs.specs.Inner.{Sampled, Stencilled}
 use Rattle.inputs.specs.Window.{cell_shown, sample_shown, cut_cells, cut_samples, CellsPasted, SamplesPasted}
 use Rattle.inputs.specs.Checks.{Input, input, content_refusal, place_of}
 use Rattle.correction.specs.declared.cells.Cell.{Cell}
@@ -23,7 +23,7 @@ use Rattle.correction.specs.declared.pass.Corrected.{Corrected}
 use Rattle.correction.specs.Inner.{Cleared, cut_out}
 use Rattle.correction.specs.Pass.{pass_stencil, pass_samples, pass_tests}
 use Rattle.correction.specs.Sheet.{Sheet, cells_of, area_at, window_at, taken, alone}
-use Rattle.correction.specs.Cells.{AreaInside, Laid, CellOutlined, cell_at, tally_of}
+use Rattle.correction.specs.Cells.{AreaInside, Laid, cell_at, tally_of}
 use Rattle.correction.proofs.sheet.Corrected.{SameLeft, pass_free}
 
 -- what is counted of a cell
@@ -78,9 +78,6 @@ module _ (s : Sheet) (c : ℕ) (k : Cell) (e : k ≡ cell_at s.width s.channels 
 
   pub cleared_as : Cleared (window_at s c) s.stencil → Cleared k.window s.stencil
   cleared_as = subst (λ (g : Window). Cleared g s.stencil) (sym windowed)
-
-  pub outlined_as : CellOutlined s c → Outlined (taken k.colours s.colours) (taken k.coords s.coords) (taken k.ends s.ends)
-  outlined_as o = rw e o
 
   abbrev given : Input
   given = cut_out k.window s.samples (get_or s.modes c 0) k.settings (taken k.colours s.colours) (taken k.coords s.coords) (taken k.ends s.ends)

@@ -8,7 +8,7 @@
 --     stages, staged   an answer 0 is one of each stage of the checks
 --     passed         so of each check
 --     ready          what the functions behind the checks ask for
---     content_outlined   the same of the outlines, where checks 5 to 9 by themselves pass
+--     content_outlined, outline_outlined   the same of the outlines, where checks 5 to 9 by themselves pass, or 7 to 9
 use mathlib.Core.Path.{◌≡◌, refl, sym, subst, ◌∙◌}
 use mathlib.Core.Bool.{true, false, not, ◌||◌}
 use mathlib.Core.List.{List, ◌++◌}
@@ -23,7 +23,7 @@ use Rattle.numbers.specs.Constants.{zero_of}
 use Rattle.numbers.proofs.Laws.Order.{number_left}
 use Rattle.ranges.specs.Constants.{limit_of}
 use Rattle.ranges.specs.declared.config.Settings.{Settings}
-use Rattle.inputs.specs.Checks.{Input, bad_room, bad_length, settings_place, bad_settings, oversize, samples_place, bad_samples, bad_outlines, end_before, bad_end, ends_place, bad_ends, bad_segment, segments_place, bad_segments, outline_checks, bitmap_checks, room_checks, content_checks, size_refusal, content_refusal, refusal_number}
+use Rattle.inputs.specs.Checks.{Input, bad_room, bad_length, settings_place, bad_settings, oversize, samples_place, bad_samples, bad_outlines, end_before, bad_end, ends_place, bad_ends, bad_segment, segments_place, bad_segments, outline_checks, bitmap_checks, room_checks, content_checks, size_refusal, outline_refusal, content_refusal, refusal_number}
 use Rattle.inputs.specs.Inner.{Sized, Outlined}
 use Rattle.inputs.proofs.checks.Ends.{before_next}
 use Rattle.inputs.proofs.checks.Measures.{sizes, sized, cells}
@@ -182,3 +182,9 @@ unfolding content_refusal
 content_outlined i z =
     let f = all_pass (content_checks i) refl z in
     made i.colours i.coords i.ends f.1.1.0 (good_ends i.ends (length i.colours) f.1.1.1.0).0
+
+pub outline_outlined : (colours : List ℕ) (coords : List Float) (ends : List ℕ) → outline_refusal colours coords ends ≡ 0 → Outlined colours coords ends
+unfolding outline_refusal
+outline_outlined colours coords ends z =
+    let f = all_pass (outline_checks colours coords ends) refl z in
+    made colours coords ends f.0 (good_ends ends (length colours) f.1.0).0

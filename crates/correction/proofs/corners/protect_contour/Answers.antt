@@ -14,12 +14,13 @@ use Rattle.correction.proofs.corners.protect_contour.Invariants.{nth}
 pub loop-i-init : goal.loop-i-init
 loop-i-init c =
     let a = c.args in
-    let f : ℕ → ℕ → Bool = nth a.b.width a.colours.now a.coords.now a.c.from a.c.end in
+    let o = a.contours.outline in
+    let f : ℕ → ℕ → Bool = nth a.b.width o.colours.now o.coords.now a.c.from a.c.end in
     record { low = omega arith; high = c.requires.from_le_end.0; done = rw (sub_self a.c.from) (stroke_zero at_corner a.b f a.stencil.now) }
 
 pub protect_corner-requires : goal.protect_corner-requires
 protect_corner-requires c =
-    let r = c.requires in record { stencilled = stroke_still at_corner _ _ r.stencilled c.loop-i.invariant.done; coords_len = r.coords_len; from_le_i = (c.loop-i.invariant.low, c.loop-i-test.true, r.from_le_end.1) }
+    let r = c.requires in record { stencilled = stroke_still at_corner _ _ r.stencilled c.loop-i.invariant.done; from_le_i = (c.loop-i.invariant.low, c.loop-i-test.true, r.from_le_end.1) }
 
 pub loop-i-preserved : goal.loop-i-preserved
 loop-i-preserved c =

@@ -20,4 +20,4 @@ pub record Inv (st₀ : List ℕ) (g : Window) (colours : List ℕ) (coords : Li
   pub done : Painted at_corner g (λ k. any (i - from) (λ j. nth g.width colours coords from end j k)) st₀ st
 
 abbrev pub invariant-loop-i : goal.invariant-loop-i
-invariant-loop-i l = Inv l.initial.stencil l.b l.colours l.coords l.c.from l.c.end l.stencil l.i
+invariant-loop-i l = Inv l.initial.stencil l.b l.contours.outline.colours.now l.contours.outline.coords.now l.c.from l.c.end l.stencil l.i

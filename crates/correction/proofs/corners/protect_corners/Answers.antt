@@ -12,35 +12,29 @@ use Rattle.correction.proofs.corners.protect_corners.Invariants.{nth}
 pub loop-end-init : goal.loop-end-init
 loop-end-init c =
     let a = c.args in
-    record { high = omega arith; start = refl; done = stroke_zero at_corner a.b (nth a.b.width a.colours.now a.coords.now a.ends.now) a.stencil.now }
+    let o = a.contours.outline in
+    record { high = omega arith; start = refl; done = stroke_zero at_corner a.b (nth a.b.width o.colours.now o.coords.now o.ends.now) a.stencil.now }
 
 pub protect_contour-requires : goal.protect_contour-requires
 protect_contour-requires c =
     let l = c.loop-end in
-    let r = c.requires in
-    let o = r.outlined in
-    let s = start_le o l.end-index c.loop-end-test.true in record { stencilled = stroke_still at_corner _ _ r.stencilled l.invariant.done; coords_len = (o.twice, o.few); from_le_end = (omega (arith, l.invariant.start, s), o.within l.end-index c.loop-end-test.true) }
+    let o = c.args.contours.outlined in
+    let s = start_le o l.end-index c.loop-end-test.true in record { stencilled = stroke_still at_corner _ _ c.requires l.invariant.done; from_le_end = (omega (arith, l.invariant.start, s), o.within l.end-index c.loop-end-test.true) }
 
 pub loop-end-preserved : goal.loop-end-preserved
 loop-end-preserved c =
     let l = c.loop-end in
     record {
       high = omega (arith, c.loop-end-test.true);
-      start = start_next c.args.ends.now l.end-index;
+      start = start_next c.args.contours.outline.ends.now l.end-index;
       done = stroke_turn at_corner _ both_again _ _ _ l.invariant.done (λ k. rw l.invariant.start) c.protect_contour.ensures;
     }
 
 pub returns : goal.returns
 returns c =
     let v = c.loop-end.invariant in
-    let e : c.loop-end.end-index ≡ length c.args.ends.now = omega (arith, v.high) in
-    stroke_same at_corner _ _ _ (λ k l. corners_at _ _ _ c.requires.outlined _ _) (rw e at v.done)
-
-pub offset_bounds-ends-end-index : goal.offset_bounds-ends-end-index
-offset_bounds-ends-end-index c = omega (arith, c.well_formed, c.loop-end-test.true)
-
-pub bounds-ends-end-index : goal.bounds-ends-end-index
-bounds-ends-end-index c = c.loop-end-test.true
+    let e : c.loop-end.end-index ≡ length c.args.contours.outline.ends.now = omega (arith, v.high) in
+    stroke_same at_corner _ _ _ (λ k l. corners_at _ _ _ c.args.contours.outlined _ _) (rw e at v.done)
 
 pub shape_of-stencil : goal.shape_of-stencil
 shape_of-stencil c = c.loop-end.invariant.done.long

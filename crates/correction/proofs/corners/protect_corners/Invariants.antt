@@ -22,4 +22,4 @@ pub record Inv (st₀ : List ℕ) (g : Window) (colours : List ℕ) (coords : Li
   pub done : Painted at_corner g (λ k. any c (λ j. nth g.width colours coords ends j k)) st₀ st
 
 abbrev pub invariant-loop-end : goal.invariant-loop-end
-invariant-loop-end l = Inv l.initial.stencil l.b l.colours l.coords l.ends l.stencil l.from l.end-index
+invariant-loop-end l = Inv l.initial.stencil l.b l.contours.outline.colours.now l.contours.outline.coords.now l.contours.outline.ends.now l.stencil l.from l.end-index

@@ -5,4 +5,4 @@ use Rattle.correction.proofs.sheet.Contents.{Passing}
 use Rattle.correction.proofs.sheet.check_cells.Given as goal
 
 abbrev pub invariant-loop-c : goal.invariant-loop-c
-invariant-loop-c l = Passing (sheet l.b.width l.b.height l.b.channels l.xs [] [] l.cells l.modes l.settings l.colours l.coords l.ends) l.c
+invariant-loop-c l = Passing (sheet l.b.width l.b.height l.b.channels l.xs [] [] l.cells l.modes l.settings l.outline.colours.now l.outline.coords.now l.outline.ends.now) l.c

@@ -4,7 +4,7 @@ use lib.ListN.{length}
 use Rattle.inputs.proofs.Laws.Windows.{still_stencilled}
 use Rattle.correction.specs.Sheet.{Sheet, sheet}
 use Rattle.correction.proofs.sheet.Laid.{sampled, stencilled}
-use Rattle.correction.proofs.sheet.Handed.{Held, cell_there, runs_held, room_enough, sampled_as, stencilled_as, cleared_as, outlined_as, leaves, writes, tallied}
+use Rattle.correction.proofs.sheet.Handed.{Held, cell_there, runs_held, room_enough, sampled_as, stencilled_as, cleared_as, leaves, writes, tallied}
 use Rattle.correction.proofs.sheet.correct_cell.Goals as goal
 use Rattle.correction.proofs.sheet.correct_cell.Goals.{After-cell_at-k, Start}
 
@@ -12,27 +12,22 @@ use Rattle.correction.proofs.sheet.correct_cell.Goals.{After-cell_at-k, Start}
 abbrev given : Start → Sheet
 given c =
     let a = c.args in
-    sheet a.b.width a.b.height a.b.channels a.xs.now a.stencil.now [] a.cells.now a.modes.now a.settings.now a.colours.now a.coords.now a.ends.now
+    sheet a.b.width a.b.height a.b.channels a.xs.now a.stencil.now [] a.cells.now a.modes.now a.settings.now a.outline.colours.now a.outline.coords.now a.outline.ends.now
 
 -- each run ends in its list
-held : (c : After-cell_at-k) → let a = c.args in Held c.cell_at-k.result (length a.colours.now) (length a.coords.now) (length a.ends.now)
+held : (c : After-cell_at-k) → let a = c.args in Held c.cell_at-k.result (length a.outline.colours.now) (length a.outline.coords.now) (length a.outline.ends.now)
 held c = runs_held (given (goal.at.After-cell_at-k c).Start) c.args.c c.cell_at-k.result c.cell_at-k.ensures c.requires.laid.0 c.requires.laid.1
 
-pub of-requires : goal.of-requires
-of-requires c = (held (goal.at.of-requires c).After-cell_at-k).colours
-
-pub of-requires-2 : goal.of-requires-2
-of-requires-2 c = (held (goal.at.of-requires-2 c).After-cell_at-k).coords
-
-pub of-requires-3 : goal.of-requires-3
-of-requires-3 c = (held (goal.at.of-requires-3 c).After-cell_at-k).ends
+pub outline-requires : goal.outline-requires
+outline-requires c =
+    let h = held (goal.at.outline-requires c).After-cell_at-k in record { colours = h.colours; coords = h.coords; ends = h.ends }
 
 pub correct-tests-requires : goal.correct-tests-requires
 correct-tests-requires c =
     let g = given (goal.at.correct-tests-requires c).Start in
     let n = c.args.c in
     let r = c.cell_at-k.result in
-    let e = c.cell_at-k.ensures in record { sampled = (sampled_as g n r e (sampled g n c.requires.laid.0 c.requires.laid.1), room_enough g n r e c.requires.laid.0 c.requires.laid.1 c.requires.width_in_bounds); stencilled = (stencilled_as g n r e (stencilled g n c.requires.laid.0 c.requires.stencil_len c.requires.laid.1), cleared_as g n r e c.requires.cleared); outlined = rw (c.of.ensures, c.of-2.ensures, c.of-3.ensures) (outlined_as g n r e c.requires.laid.2) }
+    let e = c.cell_at-k.ensures in record { sampled = (sampled_as g n r e (sampled g n c.requires.laid.0 c.requires.laid.1), room_enough g n r e c.requires.laid.0 c.requires.laid.1 c.requires.width_in_bounds); stencilled = (stencilled_as g n r e (stencilled g n c.requires.laid.0 c.requires.stencil_len c.requires.laid.1), cleared_as g n r e c.requires.cleared) }
 
 pub count_cells-requires : goal.count_cells-requires
 count_cells-requires c =
@@ -45,8 +40,8 @@ returns c =
     let r = c.cell_at-k.result in
     let e = c.cell_at-k.ensures in
     let p = c.correct-tests.ensures in
-    let left = rw (c.of.ensures, c.of-2.ensures, c.of-3.ensures) at p.leaves in
-    record { counts = tallied g n r e left _ _ c.count_cells.ensures (rw (c.of.ensures, c.of-2.ensures, c.of-3.ensures) at p.makes); leaves = leaves g n r e left; writes = writes g n r e (rw (c.of.ensures, c.of-2.ensures, c.of-3.ensures) at p.writes) }
+    let left = rw (c.outline.ensures.colours, c.outline.ensures.coords, c.outline.ensures.ends) at p.leaves in
+    record { counts = tallied g n r e left _ _ c.count_cells.ensures (rw (c.outline.ensures.colours, c.outline.ensures.coords, c.outline.ensures.ends) at p.makes); leaves = leaves g n r e left; writes = writes g n r e (rw (c.outline.ensures.colours, c.outline.ensures.coords, c.outline.ensures.ends) at p.writes) }
 
 pub cell_at-k-requires : goal.cell_at-k-requires
 cell_at-k-requires c = let all = cell_there (given (goal.at.cell_at-k-requires c).Start) c.args.c c.requires.laid.0 c.requires.laid.1 in record { c_in_bounds = all.0; area_inside = all.1 }

@@ -14,7 +14,7 @@ use Rattle.correction.proofs.sheet.correct_cells.Goals.{Start}
 abbrev given : Start → Sheet
 given c =
     let a = c.args in
-    sheet a.b.width a.b.height a.b.channels a.xs.now a.stencil.now [] a.cells.now a.modes.now a.settings.now a.colours.now a.coords.now a.ends.now
+    sheet a.b.width a.b.height a.b.channels a.xs.now a.stencil.now [] a.cells.now a.modes.now a.settings.now a.outline.colours.now a.outline.coords.now a.outline.ends.now
 
 pub loop-c-init : goal.loop-c-init
 loop-c-init c = (corrected_none (given (goal.at.loop-c-init c).Start) c.requires.ready c.requires.stencil_value, summed_none (given (goal.at.loop-c-init c).Start), omega arith, refl)

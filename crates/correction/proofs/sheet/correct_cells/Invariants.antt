@@ -10,5 +10,5 @@ use Rattle.correction.proofs.sheet.correct_cells.Given as goal
 
 abbrev pub invariant-loop-c : goal.invariant-loop-c
 invariant-loop-c l =
-    let s = sheet l.b.width l.b.height l.b.channels l.initial.xs l.initial.stencil [] l.cells l.modes l.settings l.colours l.coords l.ends in
+    let s = sheet l.b.width l.b.height l.b.channels l.initial.xs l.initial.stencil [] l.cells l.modes l.settings l.outline.colours.now l.outline.coords.now l.outline.ends.now in
     Corrected s l.c l.stencil l.xs × Summed s l.c l.sum × (l.c ≤ length l.modes) × (length l.room ≡ length l.initial.room)

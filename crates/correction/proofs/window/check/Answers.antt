@@ -15,7 +15,7 @@ use Rattle.correction.proofs.window.check.Goals.{Start}
 
 -- the window as a bitmap alone
 abbrev given : Start → Input
-given c = let a = c.args in input a.b.width a.b.height a.b.channels (cut_samples a.b a.xs.now) [] [] a.mode a.s a.colours.now a.coords.now a.ends.now
+given c = let a = c.args in input a.b.width a.b.height a.b.channels (cut_samples a.b a.xs.now) [] [] a.mode a.s a.o.colours.now a.o.coords.now a.o.ends.now
 
 -- what is cut out has as many samples as the window
 full : (c : Start) {k : ℕ} → let b = c.args.b in k ≡ b.height * b.width * b.channels → k ≡ length (given c).samples
@@ -43,7 +43,7 @@ pub returns-in-Some-clause-places : goal.returns-in-Some-clause-places
 returns-in-Some-clause-places c = (samples_refuse (given (goal.at.returns-in-Some-clause-places c).Start) (settings_pass _ c.in_ok-check_settings.ensures.numbers) (few (goal.at.returns-in-Some-clause-places c).Start c.in-Some.ensures)).1
 
 pub returns-clause-numbers : goal.returns-clause-numbers
-returns-clause-numbers c = (outline_refuses (given (goal.at.returns-clause-numbers c).Start) (settings_pass _ c.in_ok-check_settings.ensures.numbers) (full (goal.at.returns-clause-numbers c).Start c.in_default.ensures) c.check_outline.ensures.numbers c.check_outline.ensures.places).0
+returns-clause-numbers c = (outline_refuses (given (goal.at.returns-clause-numbers c).Start) (settings_pass _ c.in_ok-check_settings.ensures.numbers) (full (goal.at.returns-clause-numbers c).Start c.in_default.ensures) c.check.ensures.numbers c.check.ensures.places).0
 
 pub returns-clause-places : goal.returns-clause-places
-returns-clause-places c = (outline_refuses (given (goal.at.returns-clause-places c).Start) (settings_pass _ c.in_ok-check_settings.ensures.numbers) (full (goal.at.returns-clause-places c).Start c.in_default.ensures) c.check_outline.ensures.numbers c.check_outline.ensures.places).1
+returns-clause-places c = (outline_refuses (given (goal.at.returns-clause-places c).Start) (settings_pass _ c.in_ok-check_settings.ensures.numbers) (full (goal.at.returns-clause-places c).Start c.in_default.ensures) c.check.ensures.numbers c.check.ensures.places).1
