@@ -49,24 +49,22 @@ fn pair_protects(r: f32, a: [f32; 3], b: [f32; 3], c: [f32; 3]) -> bool
 fn as_lower(t: &Texel, r: f32, nx: usize, ny: usize) -> bool
     ensures { result ≡ Inner.lower_with (read t.now.of) t.now.of.bitmap.width t.now.of.bitmap.height r t.now.x t.now.y nx ny }
 {
-    if t.of.is_texel(nx, ny) {
-        let a = t.channels();
-        let n = t.of.texel(nx, ny);
-        return pair_protects(r, a, n, a);
+    let a = t.channels();
+    match t.of.texel(nx, ny) {
+        Some(b) => pair_protects(r, a, b, a),
+        None => false,
     }
-    false
 }
 
 // Texel x, y as the other one.
 fn as_upper(t: &Texel, r: f32, nx: usize, ny: usize) -> bool
     ensures { result ≡ Inner.upper_with (read t.now.of) t.now.of.bitmap.width t.now.of.bitmap.height r t.now.x t.now.y nx ny }
 {
-    if t.of.is_texel(nx, ny) {
-        let a = t.of.texel(nx, ny);
-        let n = t.channels();
-        return pair_protects(r, a, n, n);
+    let b = t.channels();
+    match t.of.texel(nx, ny) {
+        Some(a) => pair_protects(r, a, b, b),
+        None => false,
     }
-    false
 }
 
 // The pairs in which it is the lower one: with the right, the upper, the upper right and the upper left texel.

@@ -1,22 +1,15 @@
 -- `plain::edges::as_upper` meets its contract. Assumes nothing.
-use Rattle.std.proofs.Common.{◌<◌, sym, ◌∙◌}
-use Rattle.plain.proofs.texels.Counted.{is_inside}
+use Rattle.std.proofs.Common.{sym, ◌∙◌}
+use Rattle.std.proofs.lemmas.Option.{cond_some}
 use Rattle.detectors.specs.Edge.{protects_upper}
 use Rattle.plain.specs.Inner.{upper_with}
+use Rattle.plain.proofs.texels.Counted.{missing}
 use Rattle.plain.proofs.edges.as_upper.Goals as goal
-use Rattle.plain.proofs.edges.as_upper.Goals.{Then-is_texel}
 
-inside : (c : Then-is_texel) → let a = c.args in (a.nx < a.t.now.of.bitmap.width) × (a.ny < a.t.now.of.bitmap.height)
-inside c = is_inside _ _ _ _ (sym c.is_texel.ensures ∙ c.if-is_texel.true)
-
-pub texel-a-requires : goal.texel-a-requires
-texel-a-requires c = inside c
-
-pub returns-then-is_texel : goal.returns-then-is_texel
+pub returns-in-Some : goal.returns-in-Some
 unfolding protects_upper upper_with
-returns-then-is_texel c =
-    rw (sym c.is_texel.ensures ∙ c.if-is_texel.true, c.pair_protects.ensures, c.channels-n.ensures, c.texel-a.ensures)
+returns-in-Some c = let s = cond_some _ _ _ (sym c.texel.ensures ∙ c.in-Some.is) in rw (s.0, c.pair_protects.ensures, sym s.1, c.channels-b.ensures)
 
-pub returns : goal.returns
+pub returns-in-None : goal.returns-in-None
 unfolding upper_with
-returns c = rw (sym c.is_texel.ensures ∙ c.if-is_texel.false)
+returns-in-None c = rw (missing _ _ (sym c.in-None.is ∙ c.texel.ensures))
