@@ -42,11 +42,8 @@ fn mark(stencil: &mut [u8], b: Bitmap, x: usize, y: usize)
     requires { Celled b.width b.height stencil.old }
     ensures { stencil.new ≡ painted Inner.corner (Inner.is_cell b.width b.height x y) stencil.old }
 {
-    if x < b.width {
-        if y < b.height {
-            let k = y * b.width + x;
-            stencil[k] = stencil::CORNER;
-        }
+    if x < b.width && y < b.height {
+        stencil[y * b.width + x] = stencil::CORNER;
     }
 }
 

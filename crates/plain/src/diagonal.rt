@@ -26,7 +26,7 @@ fn curve_of(m: &[[f32; 3]; 4], i: usize) -> Curve
     let a = m[0][i];
     let abc = a - m[1][i] - m[2][i];
     Curve {
-        a: a,
+        a,
         l: -a - abc,
         q: m[3][i] + abc,
     }

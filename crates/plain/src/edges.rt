@@ -1,5 +1,5 @@
 // Pairs of texels that an edge crosses, and which of the two they protect. In a pair a is the lower texel, in a row the left, and b the other.
-ghost use Rattle.std.specs.Prelude.{◌≡◌, ◌<◌};
+ghost use Rattle.std.specs.Prelude.{◌≡◌, ◌<◌, if◌then◌else◌};
 ghost use Rattle.ranges.specs.Config as Config;
 ghost use Rattle.detectors.specs.Texel.{texel_median};
 ghost use Rattle.detectors.specs.Edge as Edge;
@@ -45,28 +45,16 @@ fn pair_protects(r: f32, a: [f32; 3], b: [f32; 3], c: [f32; 3]) -> bool
     near & (red | green | blue)
 }
 
-// Texel x, y as the lower one of a pair with nx, ny, where that is a texel.
-fn as_lower(t: &Texel, r: f32, nx: usize, ny: usize) -> bool
-    ensures { result ≡ Inner.lower_with (read t.now.of) t.now.of.bitmap.width t.now.of.bitmap.height r t.now.x t.now.y nx ny }
+// The pair of t with the texel nx, ny, where there is one, protects t: as the lower of the two, or as the other.
+fn in_pair(t: &Texel, lower: bool, r: f32, nx: usize, ny: usize) -> bool
+    ensures { result ≡ (if lower then Inner.lower_with (read t.now.of) t.now.of.bitmap.width t.now.of.bitmap.height r t.now.x t.now.y nx ny else Inner.upper_with (read t.now.of) t.now.of.bitmap.width t.now.of.bitmap.height r t.now.x t.now.y nx ny) }
 {
-    if t.of.is_texel(nx, ny) {
-        let a = t.channels();
-        let n = t.of.texel(nx, ny);
-        return pair_protects(r, a, n, a);
+    let own = t.channels();
+    match t.of.texel(nx, ny) {
+        Some(other) if lower => pair_protects(r, own, other, own),
+        Some(other) => pair_protects(r, other, own, own),
+        None => false,
     }
-    false
-}
-
-// Texel x, y as the other one.
-fn as_upper(t: &Texel, r: f32, nx: usize, ny: usize) -> bool
-    ensures { result ≡ Inner.upper_with (read t.now.of) t.now.of.bitmap.width t.now.of.bitmap.height r t.now.x t.now.y nx ny }
-{
-    if t.of.is_texel(nx, ny) {
-        let a = t.of.texel(nx, ny);
-        let n = t.channels();
-        return pair_protects(r, a, n, n);
-    }
-    false
 }
 
 // The pairs in which it is the lower one: with the right, the upper, the upper right and the upper left texel.
@@ -74,10 +62,10 @@ fn some_lower(t: &Texel, s: Settings) -> bool
     ensures { result ≡ Edges.some_lower (read t.now.of) t.now.of.bitmap.width t.now.of.bitmap.height (Config.radius s.horizontal) (Config.radius s.vertical) (Config.radius s.diagonal) t.now.x t.now.y }
 {
     let across = radius(s.diagonal);
-    let right = as_lower(t, radius(s.horizontal), t.x + 1, t.y);
-    let upper = as_lower(t, radius(s.vertical), t.x, t.y + 1);
-    let upper_right = as_lower(t, across, t.x + 1, t.y + 1);
-    let upper_left = as_lower(t, across, texels::previous(t.x), t.y + 1);
+    let right = in_pair(t, true, radius(s.horizontal), t.x + 1, t.y);
+    let upper = in_pair(t, true, radius(s.vertical), t.x, t.y + 1);
+    let upper_right = in_pair(t, true, across, t.x + 1, t.y + 1);
+    let upper_left = in_pair(t, true, across, texels::previous(t.x), t.y + 1);
     right | upper | upper_right | upper_left
 }
 
@@ -88,10 +76,10 @@ fn some_upper(t: &Texel, s: Settings) -> bool
     let across = radius(s.diagonal);
     let left = texels::previous(t.x);
     let below = texels::previous(t.y);
-    let side = as_upper(t, radius(s.horizontal), left, t.y);
-    let lower = as_upper(t, radius(s.vertical), t.x, below);
-    let lower_left = as_upper(t, across, left, below);
-    let lower_right = as_upper(t, across, t.x + 1, below);
+    let side = in_pair(t, false, radius(s.horizontal), left, t.y);
+    let lower = in_pair(t, false, radius(s.vertical), t.x, below);
+    let lower_left = in_pair(t, false, across, left, below);
+    let lower_right = in_pair(t, false, across, t.x + 1, below);
     side | lower | lower_left | lower_right
 }
 

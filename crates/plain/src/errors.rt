@@ -15,26 +15,31 @@ use ranges::config::Settings;
 fn towards_side(t: &Texel, k: Classifier, nx: usize, ny: usize) -> bool
     ensures { result ≡ Inner.towards_side (read t.now.of) t.now.of.bitmap.width t.now.of.bitmap.height k.span k.protected t.now.x t.now.y nx ny }
 {
-    if t.of.is_texel(nx, ny) {
-        let a = t.channels();
-        let n = t.of.texel(nx, ny);
-        return linear::side_artifact(k, a, n);
+    let a = t.channels();
+    match t.of.texel(nx, ny) {
+        Some(b) => linear::side_artifact(k, a, b),
+        None => false,
     }
-    false
 }
 
 // The texel nx, ny across, where there is one.
 fn towards_across(t: &Texel, k: Classifier, nx: usize, ny: usize) -> bool
     ensures { result ≡ Inner.towards_across (read t.now.of) t.now.of.bitmap.width t.now.of.bitmap.height k.span k.protected t.now.x t.now.y nx ny }
 {
-    if t.of.is_texel(nx, ny) {
-        let a = t.channels();
-        let r = t.of.texel(nx, t.y);
-        let c = t.of.texel(t.x, ny);
-        let d = t.of.texel(nx, ny);
-        return diagonal::across_artifact(k, [a, r, c, d]);
-    }
-    false
+    let Some(d) = t.of.texel(nx, ny) else {
+        return false;
+    };
+    let b = Texel {
+        of: t.of,
+        x: nx,
+        y: t.y,
+    };
+    let c = Texel {
+        of: t.of,
+        x: t.x,
+        y: ny,
+    };
+    diagonal::across_artifact(k, [t.channels(), b.channels(), c.channels(), d])
 }
 
 // The four texels beside it.

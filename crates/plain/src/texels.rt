@@ -1,5 +1,5 @@
 // Where texels lie: row 0 at the bottom, channels interleaved.
-ghost use Rattle.std.specs.Prelude.{◌≡◌, ◌<◌};
+ghost use Rattle.std.specs.Prelude.{◌≡◌, ◌<◌, Some, None, if◌then◌else◌};
 ghost use Rattle.inputs.specs.Inner.{Sized};
 ghost use Rattle.correction.specs.Bitmap as Rules;
 ghost use Rattle.plain.specs.Inner as Inner;
@@ -22,20 +22,15 @@ pub struct Texels<'a> {
 }
 
 impl<'a> Texels<'a> {
-    // Column x and row y are those of a texel.
-    pub fn is_texel(&self, x: usize, y: usize) -> bool
-        ensures { result ≡ Inner.is_texel self.now.bitmap.width self.now.bitmap.height x y }
+    // The first three channels of texel x, y, where there is one.
+    pub fn texel(&self, x: usize, y: usize) -> Option<[f32; 3]>
+        ensures { result ≡ (if Inner.is_texel self.now.bitmap.width self.now.bitmap.height x y then Some (Rules.texel self.now.samples.now self.now.bitmap.width self.now.bitmap.channels x y) else None) }
     {
-        (x < self.bitmap.width) & (y < self.bitmap.height)
-    }
-
-    // The first three channels of texel x, y.
-    pub fn texel(&self, x: usize, y: usize) -> [f32; 3]
-        requires { (x < self.now.bitmap.width) × (y < self.now.bitmap.height) }
-        ensures { result ≡ Rules.texel self.now.samples.now self.now.bitmap.width self.now.bitmap.channels x y }
-    {
-        let at = (y * self.bitmap.width + x) * self.bitmap.channels;
-        [self.samples[at], self.samples[at + 1], self.samples[at + 2]]
+        if (x < self.bitmap.width) & (y < self.bitmap.height) {
+            let texel = Texel { of: *self, x, y };
+            return Some(texel.channels());
+        }
+        None
     }
 }
 
@@ -53,6 +48,8 @@ impl<'a> Texel<'a> {
     pub fn channels(&self) -> [f32; 3]
         ensures { result ≡ Rules.texel self.now.of.samples.now self.now.of.bitmap.width self.now.of.bitmap.channels self.now.x self.now.y }
     {
-        self.of.texel(self.x, self.y)
+        let xs = self.of.samples;
+        let at = (self.y * self.of.bitmap.width + self.x) * self.of.bitmap.channels;
+        [xs[at], xs[at + 1], xs[at + 2]]
     }
 }

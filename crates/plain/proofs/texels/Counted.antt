@@ -4,8 +4,11 @@
 --     is_inside                  a texel's column and row are inside
 --     side_same, across_same     what a texel is towards a neighbour
 --     lower_same, upper_same     whether its pair with one protects it
+--     missing                    where nothing is read there is no texel
 --     four_sides, four_across, four_lower, four_upper   its neighbours as the code joins them are those of the definitions
-use Rattle.std.proofs.Common.{◌≡◌, ℕ, zero, suc, ◌+◌, ◌-◌, ◌<◌, ◌≤◌, Bool, true, false, ◌&&◌, ◌||◌, ltb, leb, List, sym, refl, ◌∙◌, subst, arith, ltb-true, le-ltb, lt-ltb, ne_eqb, le-leb}
+use Rattle.std.proofs.Common.{◌≡◌, ℕ, zero, suc, ◌+◌, ◌-◌, ◌<◌, ◌≤◌, Bool, true, false, ◌&&◌, ◌||◌, ltb, leb, cond, List, sym, refl, ◌∙◌, subst, arith, ltb-true, le-ltb, lt-ltb, ne_eqb, le-leb}
+use Rattle.std.specs.Prelude.{Some, None}
+use Rattle.std.proofs.lemmas.Option.{none-some}
 use mathlib.Core.Logic.{dite}
 use native.Mathlib.Decide.{dec_lt}
 use lib.Ieee.{Float}
@@ -59,6 +62,11 @@ four false b c d = refl
 pub is_inside : (w h x y : ℕ) → is_texel w h x y ≡ true → (x < w) × (y < h)
 unfolding is_texel
 is_inside w h x y e = let b = both_hold (ltb x w) (ltb y h) e in (ltb-true x w b.0, ltb-true y h b.1)
+
+-- what is read where there is no texel
+pub missing : {A : Type 0} (b : Bool) (x : A) → None ≡ cond b (Some x) None → b ≡ false
+missing true x e = absurd (none-some x e)
+missing false x e = refl
 
 module _ (tex : ℕ → ℕ → List Float) (w h x y nx ny cx cy : ℕ) (p : Same w nx cx) (q : Same h ny cy) where
   inside : is_texel w h nx ny ≡ in_bounds w h cx cy

@@ -1,27 +1,26 @@
 -- `plain::errors::towards_across` meets its contract. Assumes nothing.
-use Rattle.std.proofs.Common.{◌<◌, sym, ◌∙◌}
-use Rattle.plain.proofs.texels.Counted.{is_inside}
-use Rattle.plain.specs.Inner.{towards_across}
+use Rattle.std.proofs.Common.{◌≡◌, true, sym, ◌∙◌}
+use Rattle.std.proofs.lemmas.Option.{cond_some}
+use Rattle.plain.specs.Inner.{towards_across, is_texel}
+use Rattle.plain.proofs.texels.Counted.{is_inside, missing}
 use Rattle.plain.proofs.errors.towards_across.Goals as goal
-use Rattle.plain.proofs.errors.towards_across.Goals.{Then-is_texel}
+use Rattle.plain.proofs.errors.towards_across.Goals.{In-Some}
 
-inside : (c : Then-is_texel) → let a = c.args in (a.nx < a.t.now.of.bitmap.width) × (a.ny < a.t.now.of.bitmap.height)
-inside c = is_inside _ _ _ _ (sym c.is_texel.ensures ∙ c.if-is_texel.true)
+there : (c : In-Some) → let t = c.args.t.now in is_texel t.of.bitmap.width t.of.bitmap.height c.args.nx c.args.ny ≡ true
+there c = (cond_some _ _ _ (sym c.texel.ensures ∙ c.in-Some.is)).0
 
-pub texel-r-requires : goal.texel-r-requires
-texel-r-requires c = ((inside (goal.at.texel-r-requires c).Then-is_texel).0, c.args.t.now.inside.1)
+pub invariant_of-b : goal.invariant_of-b
+invariant_of-b c = record { inside = ((is_inside _ _ _ _ (there (goal.at.invariant_of-b c).In-Some)).0, c.args.t.now.inside.1) }
 
-pub texel-c-requires : goal.texel-c-requires
-texel-c-requires c = (c.args.t.now.inside.0, (inside (goal.at.texel-c-requires c).Then-is_texel).1)
+pub invariant_of-c : goal.invariant_of-c
+invariant_of-c c = record { inside = (c.args.t.now.inside.0, (is_inside _ _ _ _ (there (goal.at.invariant_of-c c).In-Some)).1) }
 
-pub texel-d-requires : goal.texel-d-requires
-texel-d-requires c = inside (goal.at.texel-d-requires c).Then-is_texel
-
-pub returns-then-is_texel : goal.returns-then-is_texel
+pub returns-in_default : goal.returns-in_default
 unfolding towards_across
-returns-then-is_texel c =
-    rw (sym c.is_texel.ensures ∙ c.if-is_texel.true, c.across_artifact.ensures, c.texel-d.ensures, c.texel-c.ensures, c.texel-r.ensures, c.channels-a.ensures)
+returns-in_default c = rw (missing _ _ (sym c.in_default.is ∙ c.texel.ensures))
 
 pub returns : goal.returns
 unfolding towards_across
-returns c = rw (sym c.is_texel.ensures ∙ c.if-is_texel.false)
+returns c =
+    let s = cond_some _ _ _ (sym c.texel.ensures ∙ c.in-Some.is) in
+    rw (s.0, c.across_artifact.ensures, sym s.1, c.channels-3.ensures, c.channels-2.ensures, c.channels.ensures)

@@ -1,21 +1,14 @@
 -- `plain::errors::towards_side` meets its contract. Assumes nothing.
-use Rattle.std.proofs.Common.{◌<◌, sym, ◌∙◌}
-use Rattle.plain.proofs.texels.Counted.{is_inside}
+use Rattle.std.proofs.Common.{sym, ◌∙◌}
+use Rattle.std.proofs.lemmas.Option.{cond_some}
 use Rattle.plain.specs.Inner.{towards_side}
+use Rattle.plain.proofs.texels.Counted.{missing}
 use Rattle.plain.proofs.errors.towards_side.Goals as goal
-use Rattle.plain.proofs.errors.towards_side.Goals.{Then-is_texel}
 
-inside : (c : Then-is_texel) → let a = c.args in (a.nx < a.t.now.of.bitmap.width) × (a.ny < a.t.now.of.bitmap.height)
-inside c = is_inside _ _ _ _ (sym c.is_texel.ensures ∙ c.if-is_texel.true)
-
-pub texel-n-requires : goal.texel-n-requires
-texel-n-requires c = inside (goal.at.texel-n-requires c).Then-is_texel
-
-pub returns-then-is_texel : goal.returns-then-is_texel
+pub returns-in-Some : goal.returns-in-Some
 unfolding towards_side
-returns-then-is_texel c =
-    rw (sym c.is_texel.ensures ∙ c.if-is_texel.true, c.side_artifact.ensures, c.texel-n.ensures, c.channels-a.ensures)
+returns-in-Some c = let s = cond_some _ _ _ (sym c.texel.ensures ∙ c.in-Some.is) in rw (s.0, c.side_artifact.ensures, sym s.1, c.channels-a.ensures)
 
-pub returns : goal.returns
+pub returns-in-None : goal.returns-in-None
 unfolding towards_side
-returns c = rw (sym c.is_texel.ensures ∙ c.if-is_texel.false)
+returns-in-None c = rw (missing _ _ (sym c.in-None.is ∙ c.texel.ensures))
