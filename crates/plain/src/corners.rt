@@ -47,6 +47,7 @@ fn second_beside(l: i64, n: usize) -> usize
 }
 
 // Marks the cell of texel x, y, where there is one.
+// The cells stay beside their sizes: of a struct that lent both, each clause of a mark would say besides that sizes and borrow stay.
 fn mark(stencil: &mut [u8], b: Bitmap, x: usize, y: usize)
     requires { Celled b.width b.height stencil.old }
     ensures { stencil.new ≡ painted Inner.corner (Inner.is_cell b.width b.height x y) stencil.old }
