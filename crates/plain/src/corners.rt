@@ -12,6 +12,15 @@ use inputs::stencil;
 use numbers::rounding;
 use ranges::constants;
 
+// The outlines of a field: its segments, contour after contour, and where each contour ends.
+#[derive(Clone, Copy)]
+pub struct Outlines<'a> {
+    pub colours: &'a [u8],
+    pub coords: &'a [f64],
+    pub ends: &'a [usize],
+    ghost outlined: { Outlined colours.now coords.now ends.now },
+}
+
 // Of the two columns or rows l and l + 1 the first; n where it is not one of n.
 fn first_beside(l: i64, n: usize) -> usize
     ensures { result ≡ Inner.first_beside l n }
@@ -38,6 +47,7 @@ fn second_beside(l: i64, n: usize) -> usize
 }
 
 // Marks the cell of texel x, y, where there is one.
+// The cells stay beside their sizes: of a struct that lent both, each clause of a mark would say besides that sizes and borrow stay.
 fn mark(stencil: &mut [u8], b: Bitmap, x: usize, y: usize)
     requires { Celled b.width b.height stencil.old }
     ensures { stencil.new ≡ painted Inner.corner (Inner.is_cell b.width b.height x y) stencil.old }
@@ -93,35 +103,28 @@ fn last_colour(colours: &[u8], from: usize, end: usize) -> u8
 }
 
 // The contour of the segments from `from` up to `end`.
-fn mark_contour(
-    stencil: &mut [u8],
-    b: Bitmap,
-    colours: &[u8],
-    coords: &[f64],
-    from: usize,
-    end: usize,
-)
+fn mark_contour(stencil: &mut [u8], b: Bitmap, all: &Outlines, from: usize, end: usize)
     requires celled { Celled b.width b.height stencil.old }
-    requires paired { (length coords.now ≡ 2 * length colours.now) × (length colours.now ≤ 65536) }
-    requires within { (from ≤ end) × (end ≤ length colours.now) }
-    ensures { stencil.new ≡ painted Inner.corner (λ k. contour_hits colours.now coords.now from end (k % b.width) (k / b.width)) stencil.old }
+    requires within { (from ≤ end) × (end ≤ length all.now.colours.now) }
+    ensures { stencil.new ≡ painted Inner.corner (λ k. contour_hits all.now.colours.now all.now.coords.now from end (k % b.width) (k / b.width)) stencil.old }
 {
-    let mut last = last_colour(colours, from, end);
+    let mut last = last_colour(all.colours, from, end);
     for i in from..end {
-        let colour = colours[i];
-        mark_segment(stencil, b, last, colour, coords[2 * i], coords[2 * i + 1]);
+        let colour = all.colours[i];
+        let px = all.coords[2 * i];
+        let py = all.coords[2 * i + 1];
+        mark_segment(stencil, b, last, colour, px, py);
         last = colour;
     }
 }
 
 // All contours: each goes from the end of the one before it to its own.
-pub fn mark_corners(stencil: &mut [u8], b: Bitmap, colours: &[u8], coords: &[f64], ends: &[usize])
-    requires celled { Celled b.width b.height stencil.old }
-    requires outlined { Outlined colours.now coords.now ends.now }
-    ensures { stencil.new ≡ painted Inner.corner (λ k. Corners.corners_protect (Corners.contours colours.now coords.now ends.now) (k % b.width) (k / b.width)) stencil.old }
+pub fn mark_corners(stencil: &mut [u8], b: Bitmap, all: &Outlines)
+    requires { Celled b.width b.height stencil.old }
+    ensures { stencil.new ≡ painted Inner.corner (λ k. Corners.corners_protect (Corners.contours all.now.colours.now all.now.coords.now all.now.ends.now) (k % b.width) (k / b.width)) stencil.old }
 {
-    for (c, end) in ends.iter().enumerate() {
-        let from = checks::end_before(ends, c);
-        mark_contour(stencil, b, colours, coords, from, *end);
+    for (c, end) in all.ends.iter().enumerate() {
+        let from = checks::end_before(all.ends, c);
+        mark_contour(stencil, b, all, from, *end);
     }
 }

@@ -18,7 +18,16 @@ struct Curve {
     q: f32,
 }
 
-// Channel i.
+// The way from a to d: the texels, and the medians of its two ends.
+#[derive(Clone, Copy)]
+struct Way {
+    k: Classifier,
+    am: f32,
+    dm: f32,
+    m: [[f32; 3]; 4],
+}
+
+// Channel i. A channel stays a number below 3: it picks an item of three arrays, and an enum would be turned back into it at each.
 fn curve_of(m: &[[f32; 3]; 4], i: usize) -> Curve
     requires { i < 3 }
     ensures { (result.a ≡ Diagonal.of_a m.now i) × (result.l ≡ Diagonal.linear_term m.now i) × (result.q ≡ Diagonal.square_term m.now i) }
@@ -66,40 +75,33 @@ fn median_at(m: &[[f32; 3]; 4], t: f64) -> f32
 }
 
 // The range test at a root t whose median is xm, with one end moved to the turning point e: the upper end where e lies above t, else the lower.
-fn turning_artifact(
-    k: Classifier,
-    am: f32,
-    dm: f32,
-    m: &[[f32; 3]; 4],
-    t: f64,
-    xm: f32,
-    e: f64,
-) -> bool
-    ensures { result ≡ Diagonal.turning_test k.span k.protected am dm m.now t xm e }
+fn turning_artifact(w: &Way, t: f64, xm: f32, e: f64) -> bool
+    ensures { result ≡ Diagonal.turning_test w.now.k.span w.now.k.protected w.now.am w.now.dm w.now.m t xm e }
 {
-    let em = median_at(m, e);
-    let upper = classifier::range_test(k, 0.0, e, t, am, em, xm);
-    let lower = classifier::range_test(k, e, 1.0, t, em, dm, xm);
+    let em = median_at(&w.m, e);
+    let upper = classifier::range_test(w.k, 0.0, e, t, w.am, em, xm);
+    let lower = classifier::range_test(w.k, e, 1.0, t, em, w.dm, xm);
     let above = e > t;
     (e > 0.0) & (e < 1.0) & (above & upper | !above & lower)
 }
 
 // All range tests at a root t of a pair whose channels turn at e and f.
-fn root_artifact(k: Classifier, am: f32, dm: f32, m: &[[f32; 3]; 4], t: f64, e: f64, f: f64) -> bool
-    ensures { result ≡ Inner.root_tested k.span k.protected am dm m.now t e f }
+fn root_artifact(w: &Way, t: f64, e: f64, f: f64) -> bool
+    ensures { result ≡ Inner.root_tested w.now.k.span w.now.k.protected w.now.am w.now.dm w.now.m t e f }
 {
-    let xm = median_at(m, t);
-    let whole = classifier::range_test(k, 0.0, 1.0, t, am, dm, xm);
-    let first = turning_artifact(k, am, dm, m, t, xm, e);
-    let second = turning_artifact(k, am, dm, m, t, xm, f);
+    let xm = median_at(&w.m, t);
+    let whole = classifier::range_test(w.k, 0.0, 1.0, t, w.am, w.dm, xm);
+    let first = turning_artifact(w, t, xm, e);
+    let second = turning_artifact(w, t, xm, f);
     classifier::is_inside(t) & (whole | (first | second))
 }
 
 // The pair of channels j and i, both of its roots. A root that is not there is 0, which is not inside.
-fn pair_artifact(k: Classifier, am: f32, dm: f32, m: &[[f32; 3]; 4], j: usize, i: usize) -> bool
+fn pair_artifact(w: &Way, j: usize, i: usize) -> bool
     requires { (i < 3) × (j < 3) × (j ≡ next i) }
-    ensures { result ≡ Diagonal.diagonal_pair k.span k.protected am dm m.now i }
+    ensures { result ≡ Diagonal.diagonal_pair w.now.k.span w.now.k.protected w.now.am w.now.dm w.now.m i }
 {
+    let m = &w.m;
     let da = m[0][j] - m[0][i];
     let dbc = m[1][j] - m[1][i] + m[2][j] - m[2][i];
     let dd = m[3][j] - m[3][i];
@@ -109,8 +111,8 @@ fn pair_artifact(k: Classifier, am: f32, dm: f32, m: &[[f32; 3]; 4], j: usize, i
     let [t, u] = equation_solver::solve_quadratic(a, b, c).or_zero();
     let e = turning_point(m, i);
     let f = turning_point(m, j);
-    let first = root_artifact(k, am, dm, m, t, e, f);
-    let second = root_artifact(k, am, dm, m, u, e, f);
+    let first = root_artifact(w, t, e, f);
+    let second = root_artifact(w, u, e, f);
     first | second
 }
 
@@ -120,8 +122,9 @@ pub fn across_artifact(k: Classifier, m: [[f32; 3]; 4]) -> bool
 {
     let am = linear::median(m[0]);
     let dm = linear::median(m[3]);
-    let p = pair_artifact(k, am, dm, &m, 1, 0);
-    let q = pair_artifact(k, am, dm, &m, 2, 1);
-    let r = pair_artifact(k, am, dm, &m, 0, 2);
+    let w = Way { k, am, dm, m };
+    let p = pair_artifact(&w, 1, 0);
+    let q = pair_artifact(&w, 2, 1);
+    let r = pair_artifact(&w, 0, 2);
     classifier::is_tested(am, dm) & (p | q | r)
 }

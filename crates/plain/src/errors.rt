@@ -1,4 +1,4 @@
-// Texel x, y against all eight neighbours.
+// A texel against all eight neighbours.
 ghost use Rattle.std.specs.Prelude.{◌≡◌, ◌<◌, true, false};
 ghost use Rattle.ranges.specs.Config.{side_span, diagonal_span};
 ghost use Rattle.detectors.specs.Texel.{texel_median};

@@ -13,6 +13,7 @@ ghost use Rattle.plain.specs.Answer.{plain_answer};
 ghost use Rattle.plain.specs.Inner as Inner;
 ghost use Rattle.plain.specs.Read.{read};
 
+use crate::corners::Outlines;
 use crate::texels::{Texel, Texels};
 use crate::{checks, collapse, corners, edges, errors};
 use inputs::refusal::Refusal;
@@ -48,14 +49,13 @@ fn byte_at(t: &Texel, mode: u8, s: Settings, corner: bool) -> u8
 }
 
 // Clears the stencil and marks the corners: only EdgePriority has any.
-fn mark(stencil: &mut [u8], b: Bitmap, mode: u8, colours: &[u8], coords: &[f64], ends: &[usize])
-    requires celled { Celled b.width b.height stencil.old }
-    requires outlined { Outlined colours.now coords.now ends.now }
-    ensures { stencil.new ≡ tab (length stencil.old) (λ k. (if nat_eq mode edge_priority && corners_protect (contours colours.now coords.now ends.now) (k % b.width) (k / b.width) then 4 else 0)) }
+fn mark(stencil: &mut [u8], b: Bitmap, mode: u8, outlines: &Outlines)
+    requires { Celled b.width b.height stencil.old }
+    ensures { stencil.new ≡ tab (length stencil.old) (λ k. (if nat_eq mode edge_priority && corners_protect (contours outlines.now.colours.now outlines.now.coords.now outlines.now.ends.now) (k % b.width) (k / b.width) then 4 else 0)) }
 {
     stencil.fill(0);
     if mode == config::EDGE_PRIORITY {
-        corners::mark_corners(stencil, b, colours, coords, ends);
+        corners::mark_corners(stencil, b, outlines);
     }
 }
 
@@ -113,7 +113,12 @@ fn correct(
     ensures writes { xs.new ≡ Pass.pass_samples (input b.width b.height b.channels xs.old stencil.old room.old mode s colours.now coords.now ends.now) }
     ensures clears { room.new ≡ tab (length room.old) (λ k. zero_of binary32) }
 {
-    mark(stencil, b, mode, colours, coords, ends);
+    let outlines = Outlines {
+        colours,
+        coords,
+        ends,
+    };
+    mark(stencil, b, mode, &outlines);
     let all = Texels {
         samples: xs,
         bitmap: b,

@@ -34,7 +34,7 @@ impl<'a> Texels<'a> {
     }
 }
 
-// A texel of one: its column and its row.
+// A texel of such a bitmap: its column and its row.
 #[derive(Clone, Copy)]
 pub struct Texel<'a> {
     pub of: Texels<'a>,

@@ -1,10 +1,9 @@
 -- What the stages of the plain pass leave for each other, and all of them together. Assumes nothing.
 --     marks, no_marks   the marks of corners, in EdgePriority and in any other mode
---     collapsible       the samples and the cells as collapsing asks for them
 --     done              marked, gathered and collapsed: the stencil and the samples of an accepted pass
 --     refused           a refusal's answer, and what it leaves
 --     answered          an acceptance's
-use Rattle.std.proofs.Common.{◌≡◌, ℕ, ◌*◌, ◌/◌, ◌%◌, ◌<◌, ◌≤◌, Bool, true, false, cond, ◌&&◌, ◌||◌, eqb, List, length, get_or, sym, refl, ap, ◌∙◌, mul_comm, mul-le-mul, arith, eq-eqb, ne_eqb}
+use Rattle.std.proofs.Common.{◌≡◌, ℕ, ◌*◌, ◌/◌, ◌%◌, ◌<◌, Bool, true, false, cond, ◌&&◌, ◌||◌, eqb, List, length, get_or, sym, refl, ap, ◌∙◌, mul_comm, eq-eqb, ne_eqb}
 use lib.Ieee.{Float, binary32}
 use Rattle.numbers.specs.Constants.{zero_of}
 use Rattle.ground.specs.Lists.{tab, painted}
@@ -25,7 +24,7 @@ use Rattle.std.specs.Prelude.{Ok, Err}
 use Rattle.inputs.specs.declared.refusal.Refusal.{Refusal}
 use Rattle.inputs.specs.Refusal.{number, place, refusal_with}
 use Rattle.inputs.proofs.Laws.Refusal.{told, number_not_0}
-use Rattle.plain.specs.Inner.{corner, protected_by, byte_by, Collapsible}
+use Rattle.plain.specs.Inner.{corner, protected_by, byte_by}
 use Rattle.plain.specs.Answer.{Plain, untested, plain_answer}
 
 -- ---- the marks
@@ -46,11 +45,6 @@ no_marks n mode p st e f = f ∙ tab_same n _ _ (λ k l. simp (ne_eqb mode edge_
 is_mark : (b : Bool) → eqb (cond b 4 0) 4 ≡ b
 is_mark true = refl
 is_mark false = refl
-
-pub collapsible : (w h ch : ℕ) (xs : List Float) (m : ℕ) → Sized w h ch xs → m ≡ h * w → Collapsible ch (length xs) m
-collapsible w h ch xs m s e =
-    let a : h * w ≤ 4096 * 4096 = mul-le-mul s.high s.wide in
-    record { some = s.some; few = s.few; cells = omega (arith, e, a); long = s.long ∙ ap (λ (k : ℕ). k * ch) (sym e) }
 
 -- ---- the bytes
 

@@ -1,13 +1,7 @@
 -- `plain::checks::check_size` meets its contract: the products are right where checks 1 and 2 pass. Assumes nothing.
-use Rattle.std.proofs.Common.{◌*◌, not, eqb, arith}
-use Rattle.plain.proofs.checks.Chosen.{area_small, volume_small, sizes_chosen, sizes_told}
+use Rattle.std.proofs.Common.{◌*◌, not, eqb}
+use Rattle.plain.proofs.checks.Chosen.{sizes_chosen, sizes_told}
 use Rattle.plain.proofs.checks.check_size.Goals as goal
-
-pub overflow_mul-area : goal.overflow_mul-area
-overflow_mul-area c = omega (arith, area_small c.at_most.ensures.1 c.at_most-2.ensures.1)
-
-pub overflow_mul-volume : goal.overflow_mul-volume
-overflow_mul-volume c = omega (arith, volume_small c.at_most.ensures.1 c.at_most-2.ensures.1 c.at_most-3.ensures.1)
 
 pub returns-clause-numbers : goal.returns-clause-numbers
 returns-clause-numbers c =

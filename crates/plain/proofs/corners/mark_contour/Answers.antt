@@ -10,7 +10,7 @@ use Rattle.plain.proofs.corners.mark_contour.Invariants.{nth}
 pub loop-i-init : goal.loop-i-init
 loop-i-init c =
     let a = c.args in
-    let f : ℕ → ℕ → Bool = nth a.b.width a.colours.now a.coords.now a.from a.end in
+    let f : ℕ → ℕ → Bool = nth a.b.width a.all.now.colours.now a.all.now.coords.now a.from a.end in
     record {
       low = omega arith;
       high = c.requires.within.0;

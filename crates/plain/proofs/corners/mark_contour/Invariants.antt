@@ -17,4 +17,4 @@ pub record Inv (st₀ : List ℕ) (w : ℕ) (colours : List ℕ) (coords : List 
   pub done : st ≡ painted corner (λ k. any (i - from) (λ j. nth w colours coords from end j k)) st₀
 
 abbrev pub invariant-loop-i : goal.invariant-loop-i
-invariant-loop-i l = Inv l.initial.stencil l.b.width l.colours l.coords l.from l.end l.stencil l.last l.i
+invariant-loop-i l = Inv l.initial.stencil l.b.width l.all.colours.now l.all.coords.now l.from l.end l.stencil l.last l.i

@@ -17,12 +17,12 @@ starts ends (suc c) = let e : suc c - 1 ≡ c = omega arith in rw (ne_eqb (suc c
 pub loop-c-init : goal.loop-c-init
 loop-c-init c =
     let a = c.args in
-    record { high = omega arith; done = painted_zero corner (nth a.b.width a.colours.now a.coords.now a.ends.now) a.stencil.now }
+    record { high = omega arith; done = painted_zero corner (nth a.b.width a.all.now.colours.now a.all.now.coords.now a.all.now.ends.now) a.stencil.now }
 
 pub mark_contour-requires-clause-within : goal.mark_contour-requires-clause-within
 mark_contour-requires-clause-within c =
     let l = c.loop-c in
-    let o = c.requires.outlined in
+    let o = c.args.all.now.outlined in
     let from = c.end_before-from.ensures ∙ starts _ _ in
     (omega (arith, from, start_le o l.c c.loop-c-test.true), o.within l.c c.loop-c-test.true)
 
@@ -34,6 +34,6 @@ loop-c-preserved c =
 pub returns : goal.returns
 returns c =
     let v = c.loop-c.invariant in
-    let e : c.loop-c.c ≡ length c.args.ends.now = omega (arith, v.high) in
+    let e : c.loop-c.c ≡ length c.args.all.now.ends.now = omega (arith, v.high) in
     rw e at v.done
-    ∙ painted_same corner _ _ _ (λ k. corners_at _ _ _ c.requires.outlined _ _)
+    ∙ painted_same corner _ _ _ (λ k. corners_at _ _ _ c.args.all.now.outlined _ _)

@@ -15,4 +15,4 @@ pub record Inv (st₀ : List ℕ) (w : ℕ) (colours : List ℕ) (coords : List 
   pub done : st ≡ painted corner (λ k. any c (λ j. nth w colours coords ends j k)) st₀
 
 abbrev pub invariant-loop-c : goal.invariant-loop-c
-invariant-loop-c l = Inv l.initial.stencil l.b.width l.colours l.coords l.ends l.stencil l.c
+invariant-loop-c l = Inv l.initial.stencil l.b.width l.all.colours.now l.all.coords.now l.all.ends.now l.stencil l.c
