@@ -7,19 +7,13 @@ ghost use Rattle.reading.specs.Decimal.{decimal};
 ghost use Rattle.reading.specs.Text as Text;
 ghost use Rattle.reading.specs.Inner.{Put, counts_line};
 
+use crate::page::Page;
 use detectors::texel;
 use ground::bytes;
 use inputs::sizes::Bitmap;
 use inputs::stencil;
 use inputs::stencil::Counts;
 use numbers::scalar::Middle;
-
-// A lent slice, and the place in it that is written next.
-#[derive(Drop)]
-pub struct Page<'a> {
-    pub out: &'a mut [u8],
-    pub at: usize,
-}
 
 // How many digits n has in decimal. What is left falls tenfold a turn, so no range counts the turns.
 fn digits(n: usize) -> usize
@@ -65,24 +59,8 @@ fn mark(v: u8) -> u8
     46
 }
 
-impl<'a> Page<'a> {
-    fn put(&mut self, b: u8)
-        requires { self.old.at < length self.old.out.now }
-        ensures { Put self.old (b ∷ []) self.new }
-    {
-        self.out[self.at] = b;
-        self.at += 1;
-    }
-
-    fn put_all(&mut self, t: &[u8])
-        requires { self.old.at + length t.now ≤ length self.old.out.now }
-        ensures { Put self.old t.now self.new }
-    {
-        let end = self.at + t.len();
-        self.out[self.at..end].copy_from_slice(t);
-        self.at = end;
-    }
-
+// A page of bytes.
+impl<'a> Page<'a, u8> {
     // The digits of n, written from the last to the first, a turn for each tenfold.
     fn put_decimal(&mut self, n: usize)
         requires { self.old.at + length (decimal n) ≤ length self.old.out.now }
