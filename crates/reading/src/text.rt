@@ -28,6 +28,7 @@ fn digits(n: usize) -> usize
     count
 }
 
+// The digit, or the capital letter from ten on.
 fn hex_digit(d: u32) -> u8
     requires { d < 16 }
     ensures { result ≡ Text.hex_digit d }
@@ -38,25 +39,26 @@ fn hex_digit(d: u32) -> u8
     (55 + d) as u8
 }
 
+// What stands for a cell in a row: the bits are read one by one, as the definition has them, whatever else the byte holds.
 fn mark(v: u8) -> u8
     ensures { result ≡ Text.mark v }
 {
     if stencil::has_corner(v) {
         if stencil::is_error(v) {
-            return 68;
+            return b'D';
         }
-        return 67;
+        return b'C';
     }
     if stencil::is_protected(v) {
         if stencil::is_error(v) {
-            return 66;
+            return b'B';
         }
-        return 80;
+        return b'P';
     }
     if stencil::is_error(v) {
-        return 69;
+        return b'E';
     }
-    46
+    b'.'
 }
 
 // A page of bytes.
@@ -120,9 +122,9 @@ impl<'a> Page<'a, u8> {
         requires { self.old.at + 68 ≤ length self.old.out.now }
         ensures { Put self.old (Text.size_text b.width b.height b.channels) self.new }
     {
-        self.put_named(b"size ", b.width, 32);
-        self.put_number(b.height, 32);
-        self.put_number(b.channels, 10);
+        self.put_named(b"size ", b.width, b' ');
+        self.put_number(b.height, b' ');
+        self.put_number(b.channels, b'\n');
     }
 
     // `protected P error E corner K`
@@ -130,8 +132,8 @@ impl<'a> Page<'a, u8> {
         requires { self.old.at + 85 ≤ length self.old.out.now }
         ensures { Put self.old (Text.cells_text c) self.new }
     {
-        self.put_named(b"protected ", c.protected, 32);
-        self.put_named(b"error ", c.error, 32);
+        self.put_named(b"protected ", c.protected, b' ');
+        self.put_named(b"error ", c.error, b' ');
         self.put_all(b"corner ");
         self.put_decimal(c.corner);
     }
@@ -143,8 +145,8 @@ impl<'a> Page<'a, u8> {
     {
         self.put_cells(c);
         match tests {
-            Some(t) => self.put_named(b" tests ", t, 10),
-            None => self.put(10),
+            Some(t) => self.put_named(b" tests ", t, b'\n'),
+            None => self.put(b'\n'),
         }
     }
 
@@ -156,7 +158,7 @@ impl<'a> Page<'a, u8> {
         for x in 0..w {
             self.put(mark(st[y * w + x]));
         }
-        self.put(10);
+        self.put(b'\n');
     }
 
     // The rows from the bottom.
@@ -174,11 +176,11 @@ impl<'a> Page<'a, u8> {
         requires { (self.old.at + 26 ≤ length self.old.out.now) × (x < 100000) × (y < 100000) × (m.channel < 3) }
         ensures { Put self.old (Text.texel_text x y m) self.new }
     {
-        self.put_number(x, 32);
-        self.put_number(y, 32);
+        self.put_number(x, b' ');
+        self.put_number(y, b' ');
         self.put_hex(bytes::bits_of_float32(m.value));
         self.put_all(b" ch ");
-        self.put_number(m.channel, 10);
+        self.put_number(m.channel, b'\n');
     }
 
     // Cell k, where it is flagged; xs has its texel as it was before the pass.
@@ -213,7 +215,7 @@ pub fn put_bad(out: &mut [u8], place: usize) -> usize
     ensures { Written out.old 0 (Text.bad_text place) result out.new }
 {
     let mut page = Page { out, at: 0 };
-    page.put_named(b"bad input ", place, 10);
+    page.put_named(b"bad input ", place, b'\n');
     page.at
 }
 
@@ -223,8 +225,8 @@ pub fn put_refused(out: &mut [u8], n: usize, place: usize) -> usize
     ensures { Written out.old 0 (Text.refused_text n place) result out.new }
 {
     let mut page = Page { out, at: 0 };
-    page.put_named(b"refused ", n, 32);
-    page.put_number(place, 10);
+    page.put_named(b"refused ", n, b' ');
+    page.put_number(place, b'\n');
     page.at
 }
 
