@@ -15,19 +15,6 @@ use inputs::stencil;
 use inputs::stencil::Counts;
 use numbers::scalar::Middle;
 
-// How many digits n has in decimal. What is left falls tenfold a turn, so no range counts the turns.
-fn digits(n: usize) -> usize
-    ensures { result ≡ length (decimal n) }
-{
-    let mut count = 1usize;
-    let mut m = n;
-    while 10 <= m {
-        m /= 10;
-        count += 1;
-    }
-    count
-}
-
 // The digit, or the capital letter from ten on.
 fn hex_digit(d: u32) -> u8
     requires { d < 16 }
@@ -63,21 +50,13 @@ fn mark(v: u8) -> u8
 
 // A page of bytes.
 impl<'a> Page<'a, u8> {
-    // The digits of n, written from the last to the first, a turn for each tenfold.
+    // The digits of n.
     fn put_decimal(&mut self, n: usize)
         requires { self.old.at + length (decimal n) ≤ length self.old.out.now }
         ensures { Put self.old (decimal n) self.new }
     {
-        let end = self.at + digits(n);
-        let mut m = n;
-        let mut next = end;
-        while 10 <= m {
-            next -= 1;
-            self.out[next] = (48 + m % 10) as u8;
-            m /= 10;
-        }
-        self.out[self.at] = (48 + m) as u8;
-        self.at = end;
+        let mut buffer = itoa::Buffer::new();
+        self.put_all(buffer.format(n).as_bytes());
     }
 
     // A number and the byte after it: at most 21 bytes for any number.
