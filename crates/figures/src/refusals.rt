@@ -78,8 +78,8 @@ fn set(
 }
 
 pub fn settings(rt: &impl Print) -> io::Result<()> {
-    let nan = 0.0f64 / 0.0;
-    let infinity = 1.0f64 / 0.0;
+    let nan = f64::NAN;
+    let infinity = f64::INFINITY;
     set(rt, "mode 4", 4, nan, 1.0, 1.0, 1.0)?;
     set(rt, "ratio NaN", 1, nan, -1.0, 1.0, 1.0)?;
     set(rt, "horizontal below 0", 1, 1.0, -0.5, 1.0, 1.0)?;
@@ -97,8 +97,8 @@ pub fn settings(rt: &impl Print) -> io::Result<()> {
 }
 
 pub fn samples(rt: &impl Print) -> io::Result<()> {
-    let nan = 0.0f32 / 0.0;
-    let infinity = 1.0f32 / 0.0;
+    let nan = f32::NAN;
+    let infinity = f32::INFINITY;
     run::pair(
         rt,
         "sample 4 NaN",
@@ -137,8 +137,8 @@ pub fn samples(rt: &impl Print) -> io::Result<()> {
 }
 
 pub fn outlines(rt: &impl Print) -> io::Result<()> {
-    let nan = 0.0f64 / 0.0;
-    let infinity = 1.0f64 / 0.0;
+    let nan = f64::NAN;
+    let infinity = f64::INFINITY;
     run::outlines(rt, "coordinates too few", &[1, 1], &[0.0, 0.0, 1.0], &[2])?;
     run::outlines(
         rt,

@@ -1,3 +1,2 @@
--- How long the texts are at most, and text after text on a page.
+-- How long the texts are at most.
 pub mod Lengths
-pub mod Puts

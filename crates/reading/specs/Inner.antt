@@ -15,7 +15,7 @@ use Rattle.reading.specs.Text.{refused_text, counts_text, counts_plainly, accept
 use Rattle.reading.specs.Answer.{printed, written, printed_plainly, written_plainly}
 use Rattle.reading.specs.declared.engines.Judged.{Judged}
 use Rattle.reading.specs.declared.reader.Field.{Field}
-use Rattle.reading.specs.declared.text.Page.{Page}
+use Rattle.reading.specs.declared.page.Page.{Page}
 
 -- what a field reader tells of the field at a place: its tag, 0 where there is none, its length where that is there, and where its contents end where they are there
 pub record Told (s : List ℕ) (at : ℕ) (f : Field) : Type 0 where
@@ -100,7 +100,7 @@ pub record Decoded (s : List ℕ) (k n : ℕ) (cs₀ cs : List ℕ) (ps₀ ps : 
 -- ---- a page: a lent slice, written from the front on
 
 -- the text is written on the page p, of which q is what became
-pub record Put (p : Page) (text : List ℕ) (q : Page) : Type 0 where
+pub record Put {A : Type 0} (p : Page A) (text : List A) (q : Page A) : Type 0 where
   pub same : q.out.ghost_name ≡ p.out.ghost_name
   pub written : Written p.out.now p.at text q.at q.out.now
 

@@ -8,6 +8,7 @@ ghost use Rattle.reading.specs.Inner.{printed_by, written_by};
 mod decode;
 mod engines;
 mod fields;
+mod page;
 mod reader;
 mod run;
 mod text;

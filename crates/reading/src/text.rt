@@ -7,6 +7,7 @@ ghost use Rattle.reading.specs.Decimal.{decimal};
 ghost use Rattle.reading.specs.Text as Text;
 ghost use Rattle.reading.specs.Inner.{Put, counts_line};
 
+use crate::page::Page;
 use detectors::texel;
 use ground::bytes;
 use inputs::sizes::Bitmap;
@@ -14,26 +15,7 @@ use inputs::stencil;
 use inputs::stencil::Counts;
 use numbers::scalar::Middle;
 
-// A lent slice, and the place in it that is written next.
-#[derive(Drop)]
-pub struct Page<'a> {
-    pub out: &'a mut [u8],
-    pub at: usize,
-}
-
-// How many digits n has in decimal. What is left falls tenfold a turn, so no range counts the turns.
-fn digits(n: usize) -> usize
-    ensures { result ≡ length (decimal n) }
-{
-    let mut count = 1usize;
-    let mut m = n;
-    while 10 <= m {
-        m /= 10;
-        count += 1;
-    }
-    count
-}
-
+// The digit, or the capital letter from ten on.
 fn hex_digit(d: u32) -> u8
     requires { d < 16 }
     ensures { result ≡ Text.hex_digit d }
@@ -44,60 +26,37 @@ fn hex_digit(d: u32) -> u8
     (55 + d) as u8
 }
 
+// What stands for a cell in a row: the bits are read one by one, as the definition has them, whatever else the byte holds.
 fn mark(v: u8) -> u8
     ensures { result ≡ Text.mark v }
 {
     if stencil::has_corner(v) {
         if stencil::is_error(v) {
-            return 68;
+            return b'D';
         }
-        return 67;
+        return b'C';
     }
     if stencil::is_protected(v) {
         if stencil::is_error(v) {
-            return 66;
+            return b'B';
         }
-        return 80;
+        return b'P';
     }
     if stencil::is_error(v) {
-        return 69;
+        return b'E';
     }
-    46
+    b'.'
 }
 
-impl<'a> Page<'a> {
-    fn put(&mut self, b: u8)
-        requires { self.old.at < length self.old.out.now }
-        ensures { Put self.old (b ∷ []) self.new }
-    {
-        self.out[self.at] = b;
-        self.at += 1;
-    }
-
-    fn put_all(&mut self, t: &[u8])
-        requires { self.old.at + length t.now ≤ length self.old.out.now }
-        ensures { Put self.old t.now self.new }
-    {
-        let end = self.at + t.len();
-        self.out[self.at..end].copy_from_slice(t);
-        self.at = end;
-    }
-
-    // The digits of n, written from the last to the first, a turn for each tenfold.
+// A page of bytes.
+impl<'a> Page<'a, u8> {
+    // The digits of n.
     fn put_decimal(&mut self, n: usize)
         requires { self.old.at + length (decimal n) ≤ length self.old.out.now }
         ensures { Put self.old (decimal n) self.new }
     {
-        let end = self.at + digits(n);
-        let mut m = n;
-        let mut next = end;
-        while 10 <= m {
-            next -= 1;
-            self.out[next] = (48 + m % 10) as u8;
-            m /= 10;
-        }
-        self.out[self.at] = (48 + m) as u8;
-        self.at = end;
+        let mut buffer = itoa::Buffer::new();
+        self.put_all(buffer.format(n).as_bytes());
     }
 
     // A number and the byte after it: at most 21 bytes for any number.
@@ -142,9 +101,9 @@ impl<'a> Page<'a> {
         requires { self.old.at + 68 ≤ length self.old.out.now }
         ensures { Put self.old (Text.size_text b.width b.height b.channels) self.new }
     {
-        self.put_named(b"size ", b.width, 32);
-        self.put_number(b.height, 32);
-        self.put_number(b.channels, 10);
+        self.put_named(b"size ", b.width, b' ');
+        self.put_number(b.height, b' ');
+        self.put_number(b.channels, b'\n');
     }
 
     // `protected P error E corner K`
@@ -152,8 +111,8 @@ impl<'a> Page<'a> {
         requires { self.old.at + 85 ≤ length self.old.out.now }
         ensures { Put self.old (Text.cells_text c) self.new }
     {
-        self.put_named(b"protected ", c.protected, 32);
-        self.put_named(b"error ", c.error, 32);
+        self.put_named(b"protected ", c.protected, b' ');
+        self.put_named(b"error ", c.error, b' ');
         self.put_all(b"corner ");
         self.put_decimal(c.corner);
     }
@@ -165,8 +124,8 @@ impl<'a> Page<'a> {
     {
         self.put_cells(c);
         match tests {
-            Some(t) => self.put_named(b" tests ", t, 10),
-            None => self.put(10),
+            Some(t) => self.put_named(b" tests ", t, b'\n'),
+            None => self.put(b'\n'),
         }
     }
 
@@ -178,7 +137,7 @@ impl<'a> Page<'a> {
         for x in 0..w {
             self.put(mark(st[y * w + x]));
         }
-        self.put(10);
+        self.put(b'\n');
     }
 
     // The rows from the bottom.
@@ -196,11 +155,11 @@ impl<'a> Page<'a> {
         requires { (self.old.at + 26 ≤ length self.old.out.now) × (x < 100000) × (y < 100000) × (m.channel < 3) }
         ensures { Put self.old (Text.texel_text x y m) self.new }
     {
-        self.put_number(x, 32);
-        self.put_number(y, 32);
+        self.put_number(x, b' ');
+        self.put_number(y, b' ');
         self.put_hex(bytes::bits_of_float32(m.value));
         self.put_all(b" ch ");
-        self.put_number(m.channel, 10);
+        self.put_number(m.channel, b'\n');
     }
 
     // Cell k, where it is flagged; xs has its texel as it was before the pass.
@@ -235,7 +194,7 @@ pub fn put_bad(out: &mut [u8], place: usize) -> usize
     ensures { Written out.old 0 (Text.bad_text place) result out.new }
 {
     let mut page = Page { out, at: 0 };
-    page.put_named(b"bad input ", place, 10);
+    page.put_named(b"bad input ", place, b'\n');
     page.at
 }
 
@@ -245,8 +204,8 @@ pub fn put_refused(out: &mut [u8], n: usize, place: usize) -> usize
     ensures { Written out.old 0 (Text.refused_text n place) result out.new }
 {
     let mut page = Page { out, at: 0 };
-    page.put_named(b"refused ", n, 32);
-    page.put_number(place, 10);
+    page.put_named(b"refused ", n, b' ');
+    page.put_number(place, b'\n');
     page.at
 }
 

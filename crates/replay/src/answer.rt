@@ -1,9 +1,48 @@
 // What the pass answers and leaves, held to the list.
-ghost use Rattle.std.specs.Prelude.{◌+◌, ◌*◌, ◌<◌, length};
+ghost use Rattle.std.specs.Prelude.{◌≡◌, ◌+◌, ◌*◌, ◌<◌, length, Ok, Err, MatchResult};
+ghost use Rattle.inputs.specs.Refusal.{number, place};
 
 use correction::pass::Corrected;
 use ground::bytes;
 use inputs::refusal::Refusal;
+use inputs::stencil::Counts;
+
+// An answer as the list has it: the refusal's number and place, and what is counted; what an answer lacks is 0.
+#[derive(Clone, Copy, PartialEq, Eq)]
+struct Recorded {
+    number: u8,
+    place: usize,
+    corrected: Corrected,
+}
+
+// What a refusal counts.
+const NOTHING: Corrected = Corrected {
+    counts: Counts {
+        protected: 0,
+        error: 0,
+        corner: 0,
+    },
+    tests: 0,
+};
+
+impl From<Result<Corrected, Refusal>> for Recorded {
+    ghost from_gives = { λ a r. MatchResult a (λ c. r.corrected ≡ c) (λ e. (r.number ≡ number e) × (r.place ≡ place e)) };
+
+    fn from(a: Result<Corrected, Refusal>) -> Recorded {
+        match a {
+            Ok(c) => Recorded {
+                number: 0,
+                place: 0,
+                corrected: c,
+            },
+            Err(r) => Recorded {
+                number: r.number(),
+                place: r.place(),
+                corrected: NOTHING,
+            },
+        }
+    }
+}
 
 // The list's number of range tests.
 pub fn tests(list: &[u8], at: usize) -> usize
@@ -12,34 +51,23 @@ pub fn tests(list: &[u8], at: usize) -> usize
     bytes::be64(list, at + 33) as usize
 }
 
-// Refusal, place, the three counts and the number of range tests; what an answer lacks is 0.
+// Whether the answer that the list has at a place is this one.
 pub fn is_answer(list: &[u8], at: usize, a: Result<Corrected, Refusal>) -> bool
     requires { at < 800000 }
 {
-    let number = bytes::byte_from(list, at, 0);
-    let place = bytes::be64(list, at + 1);
-    let protected = bytes::be64(list, at + 9);
-    let error = bytes::be64(list, at + 17);
-    let corner = bytes::be64(list, at + 25);
-    let tests = tests(list, at);
-    match a {
-        Ok(c) => {
-            number == 0
-                && place == 0
-                && protected == c.counts.protected as u64
-                && error == c.counts.error as u64
-                && corner == c.counts.corner as u64
-                && tests == c.tests
-        }
-        Err(r) => {
-            number == r.number()
-                && place == r.place() as u64
-                && protected == 0
-                && error == 0
-                && corner == 0
-                && tests == 0
-        }
-    }
+    let recorded = Recorded {
+        number: bytes::byte_from(list, at, 0),
+        place: bytes::be64(list, at + 1) as usize,
+        corrected: Corrected {
+            counts: Counts {
+                protected: bytes::be64(list, at + 9) as usize,
+                error: bytes::be64(list, at + 17) as usize,
+                corner: bytes::be64(list, at + 25) as usize,
+            },
+            tests: tests(list, at),
+        },
+    };
+    recorded == Recorded::from(a)
 }
 
 // The same bits, or a NaN on both sides.

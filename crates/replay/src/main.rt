@@ -14,14 +14,6 @@ use std::io;
 // So many of the cases that differ are named.
 const NAMED: u64 = 5;
 
-fn name(rt: &impl Print, number: u64, plain: bool) -> io::Result<()> {
-    if plain {
-        println!(rt; "case {number} differs by the plain engine alone")
-    } else {
-        println!(rt; "case {number} differs")
-    }
-}
-
 // Names a case that differs, by the first engine or by the plain one, while few do, and counts it.
 fn judge(
     rt: &impl Print,
@@ -37,7 +29,12 @@ fn judge(
         return Ok(differ);
     }
     if differ < NAMED {
-        name(rt, number, is_same)?;
+        let by = if is_same {
+            " by the plain engine alone"
+        } else {
+            ""
+        };
+        println!(rt; "case {number} differs{by}")?;
     }
     Ok(differ + 1)
 }

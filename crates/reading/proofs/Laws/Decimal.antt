@@ -8,6 +8,8 @@ use native.Mathlib.Omega.{arith}
 use lib.Dec.{ltb, eqb}
 use lib.ListN.{length, get_or, length-append, get_or-append}
 use borrow.Author.Tests.{lt-ltb, le-ltb, ltb-true, ltb-false, eqb-true, eqb-false}
+use Rattle.std.specs.Fmt as Fmt
+use Rattle.std.proofs.lemmas.Fmt.{decimal_by_steps}
 use Rattle.reading.specs.Decimal.{decimal_by, decimal, value_from, value_of, Decimal}
 
 -- ---- a number below 10 has one digit, and any other the digits of its tenth and one more
@@ -53,6 +55,10 @@ value_more : (v : ℕ) (t : List ℕ) (d : ℕ) → value_from v (t ++ (d ∷ []
 unfolding value_from
 value_more v [] d = refl
 value_more v (e ∷ t) d = value_more (10 * v + (e - 48)) t d
+
+-- the library has the same text
+pub decimal_std : (n : ℕ) → n < 2 ^ 64 → Fmt.decimal n ≡ decimal n
+decimal_std n small = sym (decimal_by_steps (λ m ds. decimal m ≡ ds) decimal_one (λ m ds l e. decimal_more m l ∙ ap (λ t. t ++ ((48 + m % 10) ∷ [])) e) n small)
 
 -- the digits, read from left to right, say n
 pub decimal_value : (n : ℕ) → value_of (decimal n) ≡ n

@@ -1,21 +1,22 @@
 -- How long the decoded lists are, where the contours lie, and how far the loop that decodes them has come. Assumes nothing.
-use mathlib.Core.List.{List}
+use mathlib.Core.List.{List, [], ◌∷◌}
 use mathlib.Core.Path.{◌≡◌, refl, sym, ap, subst, ◌∙◌}
 use Prim.Native.Nat.{ℕ, zero, suc, ◌+◌, ◌-◌, ◌*◌, ◌/◌, ◌≤◌, ◌<◌}
 use native.Mathlib.Nat.{le_refl, le_trans, zero-add, le-mul_of_pos_right}
 use native.Mathlib.Numerals.{add-one-le}
 use native.Mathlib.Omega.{arith}
 use lib.Ieee.{Float}
-use lib.ListN.{length, set, length-append}
+use lib.ListN.{length, length-append}
 use Rattle.ground.specs.Lists.{joined, tab}
-use Rattle.ground.specs.Write.{Written}
 use Rattle.ground.proofs.Laws.Fill.{tab_length}
-use Rattle.ground.proofs.Laws.Write.{written_as, written_to, written_length, tab_none, tab_next, tab_all, joined_none, joined_next, joined_all}
+use Rattle.ground.proofs.Laws.Write.{written_length}
 use Rattle.inputs.specs.Checks.{input}
 use Rattle.reading.specs.Answer.{settings_of, lent_room, case_of}
 use Rattle.reading.specs.Case.{mode_of, segments, row_samples, contour_colours, contour_coords, samples_of, colours_of, coords_of, ends_of}
 use Rattle.reading.specs.Grammar.{length_at, start, before, contours, width, height, channels, rows_at}
-use Rattle.reading.specs.Inner.{Told, Outlined, Whole, Decoded}
+use Rattle.reading.specs.Inner.{Told, Outlined, Whole, Put}
+use Rattle.reading.specs.declared.page.Page.{Page}
+use Rattle.reading.proofs.page.Puts.{put_as, put_none, put_more, put_all, joined_none, joined_more, joined_all}
 use Rattle.reading.specs.declared.reader.Field.{Field}
 use Rattle.reading.proofs.fields.Layouts.{samples_by_rows}
 use Rattle.reading.proofs.fields.Outlines.{start_next, before_next}
@@ -77,64 +78,63 @@ count_next s i {place} {len} e d = ap (λ (m : ℕ). before s i + m / 17) (d ∙
 
 -- ---- the loop through the contours
 
--- contour i is written: a piece of a list that has one for each contour
-contour_next : {A : Type 0} {s : List ℕ} (p : List ℕ → ℕ → ℕ → List A) (i : ℕ) {out mid after : List A} {place len at next : ℕ} → place ≡ start s i → len ≡ length_at s place → Written out 0 (joined i (λ j. p s (start s j) (segments s j))) at mid → Written mid at (p s place (len / 17)) next after → Written out 0 (joined (i + 1) (λ j. p s (start s j) (segments s j))) next after
-contour_next {s = s} p i e d w v = joined_next i (λ j. p s (start s j) (segments s j)) w (written_as (p s (start s i) (segments s i)) (rw (d, e)) v)
+-- contour i is put: a piece of a list that has one for each contour
+contour_next : {A : Type 0} {s : List ℕ} (p : List ℕ → ℕ → ℕ → List A) (i : ℕ) {first mid after : Page A} {place len : ℕ} → place ≡ start s i → len ≡ length_at s place → Put first (joined i (λ j. p s (start s j) (segments s j))) mid → Put mid (p s place (len / 17)) after → Put first (joined (i + 1) (λ j. p s (start s j) (segments s j))) after
+contour_next {s = s} p i e d w v = joined_more i (λ j. p s (start s j) (segments s j)) w (put_as (p s (start s i) (segments s i)) (rw (d, e)) v)
 
--- before contour i those below it are decoded
-pub record Decoding (s : List ℕ) (k : ℕ) (cs₀ cs : List ℕ) (ps₀ ps : List Float) (es₀ es : List ℕ) (last at place i : ℕ) : Type 0 where
+-- before contour i those below it are decoded, from the pages c₀, p₀ and e₀ on
+pub record Decoding (s : List ℕ) (k : ℕ) (c₀ c : Page ℕ) (p₀ p : Page Float) (e₀ e : Page ℕ) (place i : ℕ) : Type 0 where
   pub within : i ≤ k
   pub there : place ≡ start s i
-  pub count : last ≡ before s i
-  pub twice : at ≡ 2 * before s i
-  pub colours : Written cs₀ 0 (joined i (λ j. contour_colours s (start s j) (segments s j))) last cs
-  pub coords : Written ps₀ 0 (joined i (λ j. contour_coords s (start s j) (segments s j))) at ps
-  pub ends : Written es₀ 0 (tab i (λ j. before s (j + 1))) i es
+  pub count : c.at ≡ before s i
+  pub twice : p.at ≡ 2 * before s i
+  pub colours : Put c₀ (joined i (λ j. contour_colours s (start s j) (segments s j))) c
+  pub coords : Put p₀ (joined i (λ j. contour_coords s (start s j) (segments s j))) p
+  pub ends : Put e₀ (tab i (λ j. before s (j + 1))) e
 
-pub decoding_none : (s : List ℕ) (k : ℕ) (cs : List ℕ) (ps : List Float) (es : List ℕ) → Decoding s k cs cs ps ps es es 0 0 44 0
+pub decoding_none : (s : List ℕ) (k : ℕ) (c : Page ℕ) (p : Page Float) (e : Page ℕ) → c.at ≡ 0 → p.at ≡ 0 → Decoding s k c c p p e e 44 0
 unfolding start before
-decoding_none s k cs ps es = record { within = omega arith; there = refl; count = refl; twice = refl; colours = joined_none cs 0 _; coords = joined_none ps 0 _; ends = tab_none es 0 _ }
+decoding_none s k c p e y z = record { within = omega arith; there = refl; count = y; twice = z; colours = joined_none c _; coords = joined_none p _; ends = put_none e _ }
 
-module _ {s : List ℕ} {end k n : ℕ} (o : Outlined s end k n) {cs₀ cs : List ℕ} {ps₀ ps : List Float} {es₀ es : List ℕ} {last at place i : ℕ} (d : Decoding s k cs₀ cs ps₀ ps es₀ es last at place i) where
+module _ {s : List ℕ} {end k n : ℕ} (o : Outlined s end k n) {c₀ c : Page ℕ} {p₀ p : Page Float} {e₀ e : Page ℕ} {place i : ℕ} (d : Decoding s k c₀ c p₀ p e₀ e place i) where
   -- contour i is inside, and there is room for it
-  pub decoding_room : i < k → n ≤ length cs₀ → 2 * n ≤ length ps₀ → {f : Field} → Told s place f → (place + 3 + 17 * (f.len / 17) ≤ length s) × (last + f.len / 17 ≤ length cs) × (at + 2 * (f.len / 17) ≤ length ps)
+  pub decoding_room : i < k → n ≤ length c₀.out.now → 2 * n ≤ length p₀.out.now → {f : Field} → Told s place f → (place + 3 + 17 * (f.len / 17) ≤ length s) × (c.at + f.len / 17 ≤ length c.out.now) × (p.at + 2 * (f.len / 17) ≤ length p.out.now)
   decoding_room l a b {f} t =
       let z = contour_inside o d.there l in
-      let e = ap (λ (x : ℕ). x / 17) (contour_told o d.there l t).0 in
+      let y = ap (λ (x : ℕ). x / 17) (contour_told o d.there l t).0 in
       let v = t.sized (omega arith) in (
         omega (arith, z.0, v),
-        omega (arith, z.1, e, d.count, written_length d.colours),
-        omega (arith, z.1, e, d.twice, written_length d.coords),
+        omega (arith, z.1, y, d.count, written_length d.colours.written),
+        omega (arith, z.1, y, d.twice, written_length d.coords.written),
       )
 
   -- one more is decoded
-  pub decoding_more : i < k → {f : Field} → Told s place f → {cs' : List ℕ} {ps' : List Float} {next more : ℕ} → Written cs last (contour_colours s place (f.len / 17)) next cs' → Written ps at (contour_coords s place (f.len / 17)) more ps' → Decoding s k cs₀ cs' ps₀ ps' es₀ (set es i next) next more f.next (i + 1)
-  decoding_more l {f} t {next = next} p q =
+  pub decoding_more : i < k → {f : Field} → Told s place f → {c' : Page ℕ} {p' : Page Float} {e' : Page ℕ} → Put c (contour_colours s place (f.len / 17)) c' → Put p (contour_coords s place (f.len / 17)) p' → Put e (c'.at ∷ []) e' → Decoding s k c₀ c' p₀ p' e₀ e' f.next (i + 1)
+  decoding_more l {f} t {c' = c'} x y z =
       let told = contour_told o d.there l t in
-      let e = count_next s i d.there told.0 in
-      let w : next ≡ before s (i + 1) = omega (arith, p.to, d.count, colours_length s place (f.len / 17), e) in
+      let n = count_next s i d.there told.0 in
+      let w : c'.at ≡ before s (i + 1) = omega (arith, x.written.to, d.count, colours_length s place (f.len / 17), n) in
       record {
         within = omega arith;
         there = told.1;
         count = w;
-        twice = omega (arith, q.to, d.twice, coords_length s place (f.len / 17), e);
-        colours = contour_next contour_colours i d.there told.0 d.colours p;
-        coords = contour_next contour_coords i d.there told.0 d.coords q;
-        ends = tab_next i (λ j. before s (j + 1)) next d.ends w;
+        twice = omega (arith, y.written.to, d.twice, coords_length s place (f.len / 17), n);
+        colours = contour_next contour_colours i d.there told.0 d.colours x;
+        coords = contour_next contour_coords i d.there told.0 d.coords y;
+        ends = put_more i (λ j. before s (j + 1)) d.ends w z;
       }
 
   -- all are
-  pub decoding_all : k ≤ i → Decoded s k n cs₀ cs ps₀ ps es₀ es
+  pub decoding_all : k ≤ i → e₀.at ≡ 0 → (Put c₀ (colours_of s) c × (c.at ≡ n)) × (Put p₀ (coords_of s) p × (p.at ≡ 2 * n)) × (Put e₀ (ends_of s) e × (e.at ≡ k))
   unfolding colours_of coords_of ends_of
-  decoding_all l =
+  decoding_all l first =
       let z : i ≡ k = omega (arith, d.within) in
       let y = z ∙ o.count in
-      let x : before s i ≡ n = ap (before s) z ∙ sym o.segments in
-      record {
-        colours = written_to n (d.count ∙ x) (joined_all (contours s) _ d.colours y);
-        coords = written_to (2 * n) (d.twice ∙ ap (λ (m : ℕ). 2 * m) x) (joined_all (contours s) _ d.coords y);
-        ends = written_to k z (tab_all (contours s) _ d.ends y);
-      }
+      let x : before s i ≡ n = ap (before s) z ∙ sym o.segments in (
+        (joined_all (contours s) _ d.colours y, d.count ∙ x),
+        (joined_all (contours s) _ d.coords y, d.twice ∙ ap (λ (m : ℕ). 2 * m) x),
+        (put_all (contours s) _ d.ends y, omega (arith, first, z, d.ends.written.to, tab_length i (λ j. before s (j + 1)))),
+      )
 
 -- ---- what a well formed input's sizes allow, read as w and h
 

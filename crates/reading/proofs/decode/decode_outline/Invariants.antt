@@ -2,5 +2,5 @@
 use Rattle.reading.proofs.decode.Decoded.{Decoding}
 use Rattle.reading.proofs.decode.decode_outline.Given as goal
 
-abbrev pub invariant-loop-i : goal.invariant-loop-i
-invariant-loop-i l = Decoding l.s l.k l.initial.colours l.colours l.initial.coords l.coords l.initial.ends l.ends l.last l.at l.place l.i
+abbrev pub invariant-contours : goal.invariant-contours
+invariant-contours l = Decoding l.s l.k l.initial.colour_page l.colour_page l.initial.coord_page l.coord_page l.initial.end_page l.end_page l.place l._i

@@ -1,12 +1,10 @@
 -- `reading::decode::decode_row` meets its contract: before sample j those below it are decoded. Assumes nothing.
 use mathlib.Core.List.{List}
-use mathlib.Core.Path.{◌≡◌}
-use Prim.Native.Nat.{ℕ, ◌+◌, ◌*◌, ◌≤◌}
+use Prim.Native.Nat.{ℕ, ◌+◌, ◌*◌}
 use lib.Ieee.{Float}
-use lib.ListN.{length}
 use Rattle.ground.specs.Lists.{tab}
 use Rattle.ground.specs.Bytes.{f32_at}
-use Rattle.ground.specs.Write.{Written}
+use Rattle.reading.specs.Inner.{Put}
 use Rattle.reading.proofs.decode.decode_row.Given as goal
 
 -- sample j of the row at a place
@@ -14,4 +12,4 @@ abbrev pub sample : List ℕ → ℕ → ℕ → Float
 sample s from j = f32_at s (from + 3 + 4 * j)
 
 abbrev pub invariant-loop-j : goal.invariant-loop-j
-invariant-loop-j l = (l.j ≤ l.n) × (length l.out ≡ length l.initial.out) × Written l.initial.out l.at (tab l.j (sample l.s l.from)) (l.at + l.j) l.out
+invariant-loop-j l = Put l.initial.page (tab l.j (sample l.s l.from)) l.page

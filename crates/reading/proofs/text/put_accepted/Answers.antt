@@ -5,7 +5,7 @@ use native.Mathlib.Omega.{arith}
 use lib.ListN.{length}
 use Rattle.ground.proofs.Laws.Write.{written_length}
 use Rattle.std.proofs.Common.{rules}
-use Rattle.reading.proofs.text.Puts.{put_then, put_room, lent}
+use Rattle.reading.proofs.page.Puts.{put_then, put_room, lent}
 use Rattle.reading.specs.Text.{accepted_with}
 use Rattle.reading.proofs.text.Lengths.{size_length, rows_length}
 use Rattle.reading.proofs.text.put_accepted.Goals as goal

@@ -1,7 +1,7 @@
 -- `reading::text::put_refused` meets its contract. Assumes nothing.
 use native.Mathlib.Omega.{arith}
 use Rattle.std.proofs.Common.{rules}
-use Rattle.reading.proofs.text.Puts.{put_then, put_room, lent}
+use Rattle.reading.proofs.page.Puts.{put_then, put_room, lent}
 use Rattle.reading.specs.Text.{refused_text}
 use Rattle.reading.proofs.text.Lengths.{numbered_length}
 use Rattle.reading.proofs.text.put_refused.Goals as goal

@@ -1,0 +1,2 @@
+-- What is put on a page after what.
+pub mod Puts

@@ -1,7 +1,0 @@
--- `reading::text::Page::put_all` meets its contract. Assumes nothing.
-use Rattle.std.proofs.Common.{refl, arith}
-use Rattle.reading.proofs.Copied.{copied}
-use Rattle.reading.proofs.text.Page.put_all.Goals as goal
-
-pub returns : goal.returns
-returns c = record { same = refl; written = copied _ _ _ _ _ c.copy_from_slice.ensures.after (omega arith) c.requires refl }
