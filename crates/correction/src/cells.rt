@@ -186,7 +186,7 @@ fn beyond(from: usize, count: usize, end: usize) -> bool
     from > end - count
 }
 
-// Check 51, of one cell.
+// A cell that is empty or not inside the sheet.
 fn bad_area(b: Bitmap, a: Area) -> bool
     ensures { result ≡ Sheet.bad_area b.width b.height a }
 {
@@ -196,7 +196,7 @@ fn bad_area(b: Bitmap, a: Area) -> bool
         || beyond(a.y, a.height, b.height)
 }
 
-// Its first cell.
+// Check 51: the first such cell.
 pub fn first_outside(b: Bitmap, cells: &[usize], n: usize) -> Option<usize>
     requires { (length cells.now ≡ 10 * n) × (n ≤ 4096) }
     ensures { Found (Sheet.first_outside b.width b.height cells.now n) n result }
@@ -227,7 +227,7 @@ fn overlaps_earlier(cells: &[usize], c: usize) -> bool
     false
 }
 
-// Check 52: its first cell. All pairs of cells are compared, and no texels.
+// Check 52: the first such cell. All pairs of cells are compared, and no texels.
 pub fn first_overlap(cells: &[usize], n: usize) -> Option<usize>
     requires cells_len { (length cells.now ≡ 10 * n) × (n ≤ 4096) }
     requires areas_inside { AreasInside 4096 4096 cells.now n }
@@ -243,7 +243,7 @@ fn bad_run(r: Run, n: usize) -> bool
     beyond(r.from, r.count, n)
 }
 
-// Check 53, of cell c.
+// One of cell c's runs is bad.
 fn bad_runs(cells: &[usize], c: usize, all: Outline) -> bool
     requires { (10 * c + 10 ≤ length cells.now) × (c < 4096) }
     ensures { result ≡ Sheet.bad_runs cells.now (length all.entry.colours.now) (length all.entry.coords.now) (length all.entry.ends.now) c }
@@ -254,7 +254,7 @@ fn bad_runs(cells: &[usize], c: usize, all: Outline) -> bool
         || bad_run(run_at(cells, at + 8), all.ends.len())
 }
 
-// Its first cell.
+// Check 53: the first such cell.
 pub fn first_bad_run(cells: &[usize], n: usize, all: Outline) -> Option<usize>
     requires { (length cells.now ≡ 10 * n) × (n ≤ 4096) }
     ensures { Found (Sheet.first_bad_run cells.now n (length all.entry.colours.now) (length all.entry.coords.now) (length all.entry.ends.now)) n result }

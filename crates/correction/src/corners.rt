@@ -32,6 +32,7 @@ impl Contour {
 }
 
 // A signed column or row, clipped: counted from 1 where it is from -1 to n - 1, and n + 1 elsewhere.
+// No Option: `in_bounds` refuses n + 1 as it does 0, and each of the four cells around a point would ask twice.
 fn clipped(l: i64, n: usize) -> usize
     requires { n ≤ 4096 }
     ensures { result ≡ clip l n }

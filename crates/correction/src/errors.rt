@@ -87,7 +87,7 @@ fn settle(stencil: &[u8], b: Window, y: usize, from: Scan) -> Scan
     ensures { Scanned b stencil.now y result × (from.x ≤ result.x) × ((x : ℕ) → from.x ≤ x → x < result.x → Settled b stencil.now x y) }
 {
     let mut at = from;
-    // No count: a step of the scan carries the orders beside its column.
+    // No `for`: the column is a part of the scan, and a step moves it on with the orders beside it.
     while at.x < b.width {
         let next = step(stencil, b, y, at);
         if !((at.here > 0) & (at.left == at.here) & (next.here == at.here)) {

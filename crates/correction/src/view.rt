@@ -19,6 +19,7 @@ pub fn texel_view<'a>(
     ensures holds { result.now ≡ View.view_of original.now corrected.now stencil.now width height channels x y }
     ensures lies { result.ref_ptr ≡ View.view_place original.entry corrected.entry stencil.now width height channels x y }
 {
+    // An empty slice and no Option: `View.view_of` promises it, and C is given its length.
     let none = &original[0..0];
     let b = Bitmap {
         width,

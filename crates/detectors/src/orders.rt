@@ -41,6 +41,7 @@ fn sign(d: f32, n: u8) -> u8
 }
 
 // Which of the differences are below zero, as bits beside that of 8; 0 where the order is not beyond doubt.
+// A number, since it is kept in a cell's byte beside the cell's bits, and three tests compare four of them at once.
 pub fn order_code(a: [f32; 3]) -> u8
     ensures { (result ≡ Orders.order_code a) × (result ≤ 15) }
 {

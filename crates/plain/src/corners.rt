@@ -21,7 +21,7 @@ pub struct Outlines<'a> {
     ghost outlined: { Outlined colours.now coords.now ends.now },
 }
 
-// Of the two columns or rows l and l + 1 the first; n where it is not one of n.
+// Of the two columns or rows l and l + 1 the first; n where it is not one of n. No Option: `mark` asks whether a column and a row are inside, and n is not.
 fn first_beside(l: i64, n: usize) -> usize
     ensures { result ≡ Inner.first_beside l n }
 {

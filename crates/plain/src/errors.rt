@@ -22,7 +22,7 @@ fn towards_side(t: &Texel, k: Classifier, nx: usize, ny: usize) -> bool
     }
 }
 
-// The texel nx, ny across, where there is one.
+// The texel nx, ny across, where there is one. No twin of the one above: the two texels between them are read too.
 fn towards_across(t: &Texel, k: Classifier, nx: usize, ny: usize) -> bool
     ensures { result ≡ Inner.towards_across (read t.now.of) t.now.of.bitmap.width t.now.of.bitmap.height k.span k.protected t.now.x t.now.y nx ny }
 {

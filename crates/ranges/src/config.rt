@@ -31,7 +31,7 @@ impl Settings {
     }
 }
 
-// The modes, as the numbers that C hands over: check 4 refuses any other. They are no correction; every artifact; only where no edge or corner is affected;
+// The modes, as the numbers that C hands over: check 5 refuses any other. They are no correction; every artifact; only where no edge or corner is affected;
 // only at edges.
 pub const DISABLED: u8 = 0;
 

@@ -128,6 +128,7 @@ pub fn read(s: &[u8]) -> Result<Layout, usize>
         contours: 0,
         segments: 0,
     };
+    // No count: the contours end where another field stands.
     'contours: while f.tag == 3 {
         check_contour(s, f, l.contours, l.segments)?;
         l = Layout {

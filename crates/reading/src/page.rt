@@ -1,4 +1,4 @@
-// A page: a lent slice that is written from the front on, and the place that is written next.
+// A page: a lent slice that is written from the front on, and the place that is written next. No Vec: nothing here needs a heap, and no text outgrows its page.
 ghost use Rattle.std.specs.Prelude.{◌+◌, ◌≤◌, ◌<◌, [], ◌∷◌, length};
 ghost use Rattle.reading.specs.Inner.{Put};
 

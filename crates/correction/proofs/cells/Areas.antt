@@ -4,7 +4,6 @@
 --     inside_wider         so it does in a larger sheet
 --     areas_inside         where no cell fails it
 --     areas_wider          so they do in a larger sheet
---     areas_fewer          and so do the first of them
 --     apart                where no cell fails check 52: no two overlap
 --     run_inside           check 53 of one run: it lies inside its list
 --     RunsInside, runs_inside   where no cell fails it
@@ -12,7 +11,7 @@ use mathlib.Core.Path.{◌≡◌}
 use mathlib.Core.Bool.{false, not}
 use mathlib.Core.List.{List}
 use Prim.Native.Nat.{ℕ, ◌+◌, ◌*◌, ◌<◌, ◌≤◌}
-use native.Mathlib.Nat.{le_trans, lt_of_lt_of_le}
+use native.Mathlib.Nat.{le_trans}
 use native.Mathlib.Omega.{arith}
 use lib.Dec.{eqb, ltb}
 use borrow.Author.Tests.{ltb-false, eqb-true, eqb-false, not-false}
@@ -80,9 +79,6 @@ areas_inside w h cells n p c l = area_inside w h (area_at cells c) (first_past (
 
 pub areas_wider : (w h w' h' : ℕ) (cells : List ℕ) (n : ℕ) → w ≤ w' → h ≤ h' → AreasInside w h cells n → AreasInside w' h' cells n
 areas_wider w h w' h' cells n p q i c l = inside_wider w h w' h' (area_at cells c) p q (i c l)
-
-pub areas_fewer : (w h : ℕ) (cells : List ℕ) (n m : ℕ) → m ≤ n → AreasInside w h cells n → AreasInside w h cells m
-areas_fewer w h cells n m p i c l = i c (lt_of_lt_of_le l p)
 
 -- ---- check 52
 

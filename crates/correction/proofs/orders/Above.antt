@@ -1,11 +1,9 @@
 -- A byte with the order of its texel above it. Assumes nothing.
 --     above          the byte
---     samples_held   the three samples that are read are in the list
 --     order_made     the byte that is made of them
 use mathlib.Core.Path.{◌≡◌, ◌∙◌, ap}
 use mathlib.Core.List.{List}
 use Prim.Native.Nat.{ℕ, ◌+◌, ◌*◌, ◌<◌}
-use lib.ListN.{length}
 use lib.Ieee.{Float}
 use Rattle.detectors.specs.Orders.{order_code}
 use Rattle.inputs.specs.declared.sizes.Window.{Window}
@@ -13,7 +11,7 @@ use Rattle.inputs.specs.Window.{cell_in, cut_samples}
 use Rattle.inputs.specs.Inner.{Sampled}
 use Rattle.correction.specs.Bitmap.{texel}
 use Rattle.correction.specs.Inner.{samples_at}
-use Rattle.correction.proofs.bitmap.Centres.{texel_read, texel_held}
+use Rattle.correction.proofs.bitmap.Centres.{texel_read}
 
 abbrev pub above : Window → List Float → ℕ → ℕ → ℕ → ℕ
 above g xs v x y = v + 8 * order_code (texel (cut_samples g xs) g.width g.channels x y)
@@ -21,9 +19,6 @@ above g xs v x y = v + 8 * order_code (texel (cut_samples g xs) g.width g.channe
 module _ (g : Window) (xs : List Float) (s : Sampled g xs) {x y : ℕ} (l : x < g.width) (b : y < g.height) {ch : ℕ} (c : g.channels ≡ ch) where
   placed : cell_in g x y * ch ≡ cell_in g x y * g.channels
   placed = rw c
-
-  pub samples_held : cell_in g x y * ch + 2 < length xs
-  samples_held = texel_held g x y l b xs s placed
 
   pub order_made : (v : ℕ) {r : ℕ} → r ≡ v + 8 * order_code (samples_at xs (cell_in g x y * ch)) → r ≡ above g xs v x y
   order_made v e = e ∙ ap (λ (o : List Float). v + 8 * order_code o) (texel_read g x y l b xs s placed)

@@ -2,7 +2,6 @@
 --     alone                      the byte with the protected bit and no other
 --     CellRow, SampleRow         that it lies in the list, and that its numbers are small
 --     cell_row, sample_row       it does
---     samples_few, samples_all   a row has few samples, and so have all
 --     Counted                    the bits of the rows below y are counted
 --     counted_none, counted_more before the first row, and after one more
 --     counted_small, counted_all such counts are small, and past the last row they are those of what is cut out
@@ -119,12 +118,6 @@ module _ (g : Window) where
   -- a sample of what is cut out is bad
   abbrev pub bad : List Float → ℕ → Bool
   bad xs j = oversize binary32 (get_or (cut_samples g xs) j nan)
-
-  pub samples_few : {xs : List Float} → Sampled g xs → g.width * g.channels ≤ 16384
-  samples_few s = mul-le-mul (le_trans s.fits.wide s.fits.broad) s.few
-
-  pub samples_all : {xs : List Float} → Sampled g xs → g.height * g.width * g.channels ≤ 67108864
-  samples_all s = omega (arith, mul_assoc g.height g.width g.channels, mul-le-mul s.fits.high (samples_few s))
 
   place_is : (xs : List Float) {k : ℕ} → k ≡ first (g.height * g.width * g.channels) (bad xs) → k ≡ samples_place (cut_samples g xs)
   unfolding samples_place

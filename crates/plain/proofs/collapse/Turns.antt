@@ -1,12 +1,10 @@
 -- A loop that collapses the flagged texels: before cell k the samples below its texel are as `collapsed` has them, the others as they were. Assumes nothing.
---     turned_none    before the first turn
 --     third_below    the last of the texel's first three samples is one of all
---     place_small    and its first has a small number
 --     turned_more    a turn, whose answer r says whether the texel is flagged
 --     turned_all     at the end all are
-use Rattle.std.proofs.Common.{◌≡◌, ℕ, ◌+◌, ◌*◌, ◌<◌, ◌≤◌, Bool, true, false, cond, List, length, get_or, sym, refl, subst, mul-le-mul_right, mul-le-mul, zero-mul, arith}
+use Rattle.std.proofs.Common.{◌≡◌, ℕ, ◌+◌, ◌*◌, ◌<◌, ◌≤◌, Bool, true, false, cond, List, length, get_or, sym, refl, subst, mul-le-mul_right, arith}
 use lib.Ieee.{Float, nan}
-use Rattle.ground.proofs.Laws.Fill.{Filled, filled_none, filled_at_law, filled_all}
+use Rattle.ground.proofs.Laws.Fill.{Filled, filled_at_law, filled_all}
 use Rattle.inputs.specs.Stencil.{is_error}
 use Rattle.inputs.proofs.Laws.Places.{place_lt, next_row}
 use Rattle.correction.specs.Collapse.{collapsed_sample, collapsed}
@@ -22,15 +20,9 @@ flags st k = is_error (get_or st k 0)
 abbrev pub Turned : (ℕ → Bool) → List Float → ℕ → List Float → ℕ → Type 0
 Turned flag xs₀ ch xs k = Filled nan (collapsed_sample xs₀ ch flag) xs₀ (k * ch) xs
 
-pub turned_none : (flag : ℕ → Bool) (xs : List Float) (ch : ℕ) → Turned flag xs ch xs 0
-turned_none flag xs ch = filled_at_law nan (collapsed_sample xs ch flag) xs (0 * ch) (filled_none nan (collapsed_sample xs ch flag) xs) (sym (zero-mul ch))
-
 module _ (flag : ℕ → Bool) (xs₀ : List Float) {ch m : ℕ} (s : Collapsible ch (length xs₀) m) {xs : List Float} {k : ℕ} (i : Turned flag xs₀ ch xs k) where
   pub third_below : k < m → k * ch + 2 < length xs
   third_below l = omega (arith, i.len, s.long, place_lt ch k m s.some l)
-
-  pub place_small : k < m → k * ch < 67108864
-  place_small l = omega (arith, place_lt ch k m s.some l, mul-le-mul s.cells s.few)
 
   pub turned_more : {r : Bool} {ys : List Float} → k < m → r ≡ flag k → ys ≡ cond r (collapsed_at xs (k * ch)) xs → Turned flag xs₀ ch ys (k + 1)
   turned_more {r} {ys} l e q = filled_at_law nan f xs₀ ((k + 1) * ch) (subst (Filled nan f xs₀ (k * ch + ch)) (sym q) (go r (sym e))) (sym (next_row ch k))

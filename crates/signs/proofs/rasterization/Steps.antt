@@ -1,6 +1,5 @@
 -- Texels that are flipped one after another: the samples of the first k texels are as `flipped_where` has them, the others as they were. Assumes nothing.
 --     Flipping        after so many samples
---     flipping_none   before the first
 --     flipping-more   a sample that is stored
 --     flipping_run    samples that are not flipped
 --     flipping_all    after the last
@@ -14,7 +13,7 @@ use Prim.Native.Nat.{ℕ, ◌+◌, ◌*◌, ◌<◌, ◌≤◌}
 use native.Mathlib.Omega.{arith}
 use lib.ListN.{length, get_or, set, length-set}
 use lib.Ieee.{Float, nan}
-use Rattle.ground.proofs.Laws.Fill.{Filled, filled_none, filled_more, filled_run, filled_at_law, filled_all}
+use Rattle.ground.proofs.Laws.Fill.{Filled, filled_more, filled_run, filled_at_law, filled_all}
 use Rattle.inputs.proofs.Laws.Places.{next_row}
 use Rattle.signs.specs.Flip.{flip_of, flipped_if}
 use Rattle.signs.specs.Signs.{flipped_where}
@@ -28,9 +27,6 @@ abbrev pub Flipping : Float → (ℕ → Bool) → List Float → ℕ → List F
 Flipping zero p xs₀ n xs = Filled nan (after zero p xs₀) xs₀ n xs
 
 module _ (zero : Float) (p : ℕ → Bool) (xs₀ : List Float) where
-  pub flipping_none : Flipping zero p xs₀ 0 xs₀
-  flipping_none = filled_none nan (after zero p xs₀) xs₀
-
   pub flipping_all : {n : ℕ} {xs : List Float} → Flipping zero p xs₀ n xs → length xs₀ ≤ n → xs ≡ flipped_where zero p xs₀
   unfolding flipped_where
   flipping_all f l = filled_all nan (after zero p xs₀) xs₀ f l

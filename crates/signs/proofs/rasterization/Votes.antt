@@ -1,7 +1,7 @@
 -- Matches and their sums are small numbers, which their bits hold. Assumes nothing.
 --     more            a small number is one by any larger bound
 --     held8, held32   the bits of a small number give it again
---     read_fits, read_again   a match that is widened to 32 bits
+--     read_again      a match that is widened to 32 bits
 --     is_nought_law       a number whose bits are 0
 --     sum_small       a sum of two small numbers
 --     first_fits, second_fits, third_fits, four_sum   four matches are added in 32 bits
@@ -49,9 +49,6 @@ pub is_nought_law : (z : ℤ) → UpTo 1 z → of_z w8 z ≡ 0 → z ≡ pos 0
 is_nought_law z h e = sym (held8 z h) ∙ ap (to_z w8) e
 
 -- a match that is widened
-pub read_fits : (z : ℤ) → UpTo 1 z → SFits w32 (to_z w8 (of_z w8 z))
-read_fits z h = subst (SFits w32) (sym (held8 z h)) (fits32 z (more h (omega arith)))
-
 pub read_again : (z : ℤ) → UpTo 1 z → to_z w32 (of_z w32 (to_z w8 (of_z w8 z))) ≡ z
 read_again z h = ap (λ (x : ℤ). to_z w32 (of_z w32 x)) (held8 z h) ∙ held32 z (more h (omega arith))
 
