@@ -235,7 +235,13 @@ fn correct<E: Engine>(
 }
 
 // Whether an answer, the samples and the cells afterwards are the list's.
-fn is_right(list: &[u8], c: Case, a: Result<Corrected, Refusal>, samples: &[f32], cells: &[u8]) -> bool
+fn is_right(
+    list: &[u8],
+    c: Case,
+    a: Result<Corrected, Refusal>,
+    samples: &[f32],
+    cells: &[u8],
+) -> bool
     requires { (length samples.now ≤ 64) × (length cells.now ≤ 64) }
 {
     let at = c.answer_at();
