@@ -1,5 +1,5 @@
 // Whole sheets: the pass on each cell of a sheet, in place, as if the cell were a bitmap alone.
-ghost use Rattle.std.specs.Prelude.{◌≡◌, [], ◌+◌, ◌*◌, ◌^◌, ◌≤◌, ◌<◌, length};
+ghost use Rattle.std.specs.Prelude.{◌≡◌, ℕ, get_or, [], ◌+◌, ◌*◌, ◌^◌, ◌≤◌, ◌<◌, length};
 ghost use Rattle.ground.specs.Lists.{tab};
 ghost use Rattle.inputs.specs.Checks.{content_refusal, place_of};
 ghost use Rattle.inputs.specs.Window.{CellsPasted, SamplesPasted};
@@ -19,8 +19,9 @@ use inputs::refusal::ContentRefusal;
 use inputs::sizes::Bitmap;
 use inputs::stencil::Counts;
 use inputs::{room, stencil};
+use ranges::config::Mode;
 
-// The contours of cell c, or the first of its checks 5 to 9 that fails.
+// The mode and the contours of cell c, or the first of its checks 5 to 9 that fails.
 fn check_cell<'a>(
     b: Bitmap,
     xs: &[f32],
@@ -29,7 +30,7 @@ fn check_cell<'a>(
     settings: &[f64],
     outline: Outline<'a>,
     c: usize,
-) -> Result<Contours<'a>, ContentRefusal>
+) -> Result<(Mode, Contours<'a>), ContentRefusal>
     requires { Laid (sheet b.width b.height b.channels xs.now [] [] cells.now modes.now settings.now outline.colours.now outline.coords.now outline.ends.now) × (c < length modes.now) }
     ensures numbers { content_number_in result ≡ content_refusal (Sheet.alone (sheet b.width b.height b.channels xs.now [] [] cells.now modes.now settings.now outline.entry.colours.now outline.entry.coords.now outline.entry.ends.now) c) }
     ensures places { content_place_in result ≡ place_of (Sheet.alone (sheet b.width b.height b.channels xs.now [] [] cells.now modes.now settings.now outline.entry.colours.now outline.entry.coords.now outline.entry.ends.now) c) (content_number_in result) }
@@ -116,15 +117,17 @@ fn correct_cell(
     requires stencil_len { length stencil.old ≡ b.height * b.width }
     requires cleared { Cleared (Sheet.window_at (sheet b.width b.height b.channels xs.old stencil.old [] cells.now modes.now settings.now outline.colours.now outline.coords.now outline.ends.now) c) stencil.old }
     requires width_in_bounds { 2 * b.width ≤ length room.old }
+    requires mode { get_or modes.now c 0 ≤ 3 }
     ensures counts { result ≡ tally_of (Sheet.alone (sheet b.width b.height b.channels xs.old stencil.old [] cells.now modes.now settings.now outline.entry.colours.now outline.entry.coords.now outline.entry.ends.now) c) }
     ensures leaves { CellsPasted (Sheet.window_at (sheet b.width b.height b.channels xs.old stencil.old [] cells.now modes.now settings.now outline.entry.colours.now outline.entry.coords.now outline.entry.ends.now) c) stencil.old stencil.new (pass_stencil (Sheet.alone (sheet b.width b.height b.channels xs.old stencil.old [] cells.now modes.now settings.now outline.entry.colours.now outline.entry.coords.now outline.entry.ends.now) c)) }
     ensures writes { SamplesPasted (Sheet.window_at (sheet b.width b.height b.channels xs.old stencil.old [] cells.now modes.now settings.now outline.entry.colours.now outline.entry.coords.now outline.entry.ends.now) c) xs.old xs.new (pass_samples (Sheet.alone (sheet b.width b.height b.channels xs.old stencil.old [] cells.now modes.now settings.now outline.entry.colours.now outline.entry.coords.now outline.entry.ends.now) c)) }
 {
     let k = cells::cell_at(b, cells, settings, c);
+    let mode = Mode::of(modes[c]).unwrap();
     let contours = Contours {
         outline: k.outline(outline),
     };
-    let tests = engine::correct(stencil, xs, room, k.window, modes[c], k.settings, contours);
+    let tests = engine::correct(stencil, xs, room, k.window, mode, k.settings, contours);
     Corrected {
         counts: window::count_cells(stencil, k.window),
         tests,
@@ -145,6 +148,7 @@ fn correct_cells(
     requires ready { Ready (sheet b.width b.height b.channels xs.old stencil.old [] cells.now modes.now settings.now outline.colours.now outline.coords.now outline.ends.now) }
     requires stencil_value { stencil.old ≡ tab (length stencil.old) (λ k. 0) }
     requires width_in_bounds { 2 * b.width ≤ length room.old }
+    requires modes { (c : ℕ) → c < length modes.now → get_or modes.now c 0 ≤ 3 }
     ensures counts { result ≡ tallies (sheet b.width b.height b.channels xs.old stencil.old [] cells.now modes.now settings.now outline.entry.colours.now outline.entry.coords.now outline.entry.ends.now) }
     ensures leaves { stencil.new ≡ Sheet.sheet_stencil (sheet b.width b.height b.channels xs.old stencil.old [] cells.now modes.now settings.now outline.entry.colours.now outline.entry.coords.now outline.entry.ends.now) }
     ensures writes { xs.new ≡ Sheet.sheet_samples (sheet b.width b.height b.channels xs.old stencil.old [] cells.now modes.now settings.now outline.entry.colours.now outline.entry.coords.now outline.entry.ends.now) }

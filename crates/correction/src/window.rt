@@ -1,6 +1,7 @@
 // What is done to a window row by row: a row's cells and samples lie side by side.
 ghost use Rattle.std.specs.Prelude.{◌≡◌, IfOk, ℕ, [], ◌+◌, ◌*◌, ◌^◌, ◌<◌, get_or};
 ghost use Rattle.ground.specs.Lists.{tab};
+ghost use Rattle.ranges.specs.Config.{mode_number};
 ghost use Rattle.inputs.specs.Checks as Checks;
 ghost use Rattle.inputs.specs.Checks.{input};
 ghost use Rattle.inputs.specs.Refusal.{content_number_in, content_place_in};
@@ -15,7 +16,7 @@ use inputs::refusal::ContentRefusal;
 use inputs::sizes::Window;
 use inputs::stencil::Counts;
 use inputs::{checks, stencil};
-use ranges::config::Settings;
+use ranges::config::{Mode, Settings};
 
 // Each cell of row y holds what `paint` makes of its number and its byte.
 pub fn paint_row<F: Fn(usize, u8) -> u8>(stencil: &mut [u8], b: Window, y: usize, paint: F)
@@ -89,22 +90,24 @@ fn first_bad_sample(xs: &[f32], b: Window) -> Option<usize>
     None
 }
 
-// The contours, or the first of checks 5 to 9 that fails of a window as a bitmap alone.
+// The mode and the contours, or the first of checks 5 to 9 that fails of a window as a bitmap alone.
 pub fn check<'a>(
     xs: &[f32],
     b: Window,
     mode: u8,
     s: Settings,
     o: Outline<'a>,
-) -> Result<Contours<'a>, ContentRefusal>
+) -> Result<(Mode, Contours<'a>), ContentRefusal>
     requires { Sampled b xs.now }
     ensures numbers { content_number_in result ≡ Checks.content_refusal (input b.width b.height b.channels (cut_samples b xs.now) [] [] mode s o.entry.colours.now o.entry.coords.now o.entry.ends.now) }
     ensures places { content_place_in result ≡ Checks.place_of (input b.width b.height b.channels (cut_samples b xs.now) [] [] mode s o.entry.colours.now o.entry.coords.now o.entry.ends.now) (content_number_in result) }
-    ensures same { IfOk result (λ c. c.outline ≡ o.entry) }
+    ensures modes { IfOk result (λ c. mode_number c.0 ≡ mode) }
+    ensures same { IfOk result (λ c. c.1.outline ≡ o.entry) }
 {
-    checks::check_settings(mode, s)?;
+    let m = checks::check_settings(mode, s)?;
     if let Some(p) = first_bad_sample(xs, b) {
         return Err(ContentRefusal::Sample(p));
     }
-    o.check()
+    let contours = o.check()?;
+    Ok((m, contours))
 }

@@ -1,12 +1,13 @@
 // The checks, each as docs/RULES.md has it: a test that tells whether one fails, and what refuses where it does, with its place.
-ghost use Rattle.std.specs.Prelude.{◌≡◌, ◌*◌, ◌≤◌, true, cond, ◌||◌, ltb, length};
+ghost use Rattle.std.specs.Prelude.{◌≡◌, ◌*◌, ◌≤◌, true, cond, ◌||◌, ltb, length, IfOk};
 ghost use Rattle.std.specs.Float.{binary32, binary64};
+ghost use Rattle.ranges.specs.Config.{mode_number};
 ghost use Rattle.inputs.specs.Checks as Checks;
 ghost use Rattle.inputs.specs.Refusal.{number_in, place_in, content_number_in, content_place_in};
 
 use crate::refusal::{ContentRefusal, Refusal};
 use crate::sizes::Bitmap;
-use ranges::config::Settings;
+use ranges::config::{Mode, Settings};
 use ranges::constants;
 
 // Check 1: channels not 3 or 4.
@@ -91,14 +92,15 @@ fn bad_length(v: f64) -> bool
     !(v >= 0.0 && v <= constants::LIMIT_WIDE)
 }
 
-// Check 5, at the first that is bad. The mode is a number, since C hands over any.
-pub fn check_settings(mode: u8, s: Settings) -> Result<(), ContentRefusal>
+// Check 5, at the first that is bad, and the mode. It comes as a number, since C hands over any.
+pub fn check_settings(mode: u8, s: Settings) -> Result<Mode, ContentRefusal>
     ensures numbers { content_number_in result ≡ cond (Checks.bad_settings mode s) 5 0 }
     ensures places { content_place_in result ≡ cond (Checks.bad_settings mode s) (Checks.settings_place mode s) 0 }
+    ensures modes { IfOk result (λ m. mode_number m ≡ mode) }
 {
-    if mode > 3 {
+    let Some(m) = Mode::of(mode) else {
         return Err(ContentRefusal::Setting(0));
-    }
+    };
     if bad_length(s.ratio) {
         return Err(ContentRefusal::Setting(1));
     }
@@ -111,7 +113,7 @@ pub fn check_settings(mode: u8, s: Settings) -> Result<(), ContentRefusal>
     if bad_length(s.diagonal) {
         return Err(ContentRefusal::Setting(4));
     }
-    Ok(())
+    Ok(m)
 }
 
 // A sample that is NaN, infinite or of size above the limit.

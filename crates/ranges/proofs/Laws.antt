@@ -3,3 +3,4 @@ pub mod Constants
 pub mod Finite
 pub mod Falls
 pub mod Alike
+pub mod Modes

@@ -5,6 +5,8 @@ use Rattle.std.specs.Float.Ieee.{mul}
 use Rattle.ranges.specs.Constants.{tolerance}
 use Rattle.numbers.specs.Rounding.{narrow_of}
 use Rattle.ranges.specs.declared.config.Settings.{Settings}
+use Rattle.ranges.specs.declared.config.Mode.{Mode}
+use Rattle.ranges.specs.declared.config.Mode.TheVariants.{Disabled, Indiscriminate, EdgePriority, EdgeOnly}
 
 -- mode 0 Disabled, 1 Indiscriminate, 2 EdgePriority, 3 EdgeOnly
 abbrev pub disabled : ℕ
@@ -18,6 +20,13 @@ edge_priority = 2
 
 abbrev pub edge_only : ℕ
 edge_only = 3
+
+-- the number that stands for a mode
+abbrev pub mode_number : Mode → ℕ
+mode_number Disabled = disabled
+mode_number Indiscriminate = indiscriminate
+mode_number EdgePriority = edge_priority
+mode_number EdgeOnly = edge_only
 
 -- Span is ratio × length, of a side neighbour, in the row or in the column
 unfoldable pub side_span : Settings → Bool → Float

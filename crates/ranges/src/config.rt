@@ -1,5 +1,5 @@
 // Settings and mode: `generator/config.rs`, and the spans that settings make.
-ghost use Rattle.std.specs.Prelude.{◌≡◌};
+ghost use Rattle.std.specs.Prelude.{◌≡◌, ◌<◌, MatchOption};
 ghost use Rattle.ranges.specs.Config as Config;
 
 // The ratio and the three lengths that stand for the unprojected vectors.
@@ -31,8 +31,31 @@ impl Settings {
     }
 }
 
-// The modes, as the numbers that C hands over: check 5 refuses any other. They are no correction; every artifact; only where no edge or corner is affected;
-// only at edges.
+// The modes: no correction; every artifact; only where no edge or corner is affected; only at edges.
+#[derive(Clone, Copy, Debug, PartialEq, Eq)]
+pub enum Mode {
+    Disabled,
+    Indiscriminate,
+    EdgePriority,
+    EdgeOnly,
+}
+
+impl Mode {
+    // The mode that a number stands for, since C hands over any.
+    pub fn of(number: u8) -> Option<Mode>
+        ensures { MatchOption result (3 < number) (λ m. Config.mode_number m ≡ number) }
+    {
+        match number {
+            0 => Some(Mode::Disabled),
+            1 => Some(Mode::Indiscriminate),
+            2 => Some(Mode::EdgePriority),
+            3 => Some(Mode::EdgeOnly),
+            _ => None,
+        }
+    }
+}
+
+// Their numbers: the plain engine, which shares no function with the pass, tests the number that C hands over.
 pub const DISABLED: u8 = 0;
 
 pub const INDISCRIMINATE: u8 = 1;

@@ -4,7 +4,7 @@
 --     sampled      a cell's window has its samples
 --     stencilled   and its stencil cells
 --     stages       all checks pass, each stage by itself
---     ready        so what the passes on the cells ask for
+--     ready, moded   so what the passes on the cells ask for
 use mathlib.Core.Path.{◌≡◌, refl, sym, ◌∙◌, ap, subst}
 use mathlib.Core.Bool.{Bool, true, false, cond, not}
 use mathlib.Core.List.{List}
@@ -14,7 +14,7 @@ use native.Mathlib.Nat.{mul_comm, mul-le-mul_right}
 use native.Mathlib.Decide.{dec_lt}
 use native.Mathlib.Omega.{arith}
 use lib.Dec.{eqb, ltb}
-use lib.ListN.{length}
+use lib.ListN.{length, get_or}
 use lib.Ieee.{Float}
 use borrow.Author.Tests.{eqb-true, eqb-false, lt-ltb, not-true, not-false}
 use Rattle.ground.specs.Lists.{first}
@@ -22,7 +22,7 @@ use Rattle.ground.proofs.Laws.Search.{first_past, first_holds}
 use Rattle.inputs.specs.Inner.{Fits, Sampled, Stencilled}
 use Rattle.inputs.specs.Checks.{bad_channels, bad_room, content_refusal}
 use Rattle.inputs.specs.Window.{cell_in}
-use Rattle.inputs.proofs.Laws.Checks.{channel_bound, content_outlined}
+use Rattle.inputs.proofs.Laws.Checks.{channel_bound, content_outlined, content_moded}
 use Rattle.inputs.proofs.Laws.Places.{cell_lt, cell_small, next_row}
 use Rattle.correction.specs.declared.cells.Area.{Area}
 use Rattle.correction.specs.Sheet.{Failure}
@@ -159,3 +159,7 @@ ready s e =
       apart = apart s.cells (cells_of s) t.overlaps;
       outlined = λ c l. content_outlined (alone s c) (t.contents c l);
     }
+
+pub moded : (s : Sheet) → (failure s).number ≡ 0 → (c : ℕ) → c < cells_of s → get_or s.modes c 0 ≤ 3
+unfolding alone
+moded s e c l = content_moded (alone s c) ((stages s e).contents c l)

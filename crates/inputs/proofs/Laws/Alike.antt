@@ -2,7 +2,8 @@
 -- `Post` is a function's promise as the checker makes it of the `ensures` in the source. No public function has a `requires`.
 use mathlib.Core.Path.{◌≡◌, ◌∙◌}
 use Rattle.ground.proofs.Laws.Alike.{Alike, alike}
-use Rattle.inputs.proofs.Laws.Refusal.{results_alike, contents_alike}
+use Rattle.inputs.proofs.Laws.Refusal.{results_alike, contents_alike, moded_alike}
+use Rattle.inputs.proofs.Laws.Outlines.{checked_alike}
 use Rattle.inputs.proofs.checks.Found.{found_alike}
 use Rattle.inputs.proofs.sizes.in_bounds.Kinds as in_bounds_kinds
 use Rattle.inputs.proofs.sizes.in_bounds.Reads as in_bounds
@@ -44,6 +45,8 @@ use Rattle.inputs.proofs.checks.check_samples.Kinds as check_samples_kinds
 use Rattle.inputs.proofs.checks.check_samples.Reads as check_samples
 use Rattle.inputs.proofs.checks.check_outline.Kinds as check_outline_kinds
 use Rattle.inputs.proofs.checks.check_outline.Reads as check_outline
+use Rattle.inputs.proofs.outline.Outline.check.Kinds as outline_check_kinds
+use Rattle.inputs.proofs.outline.Outline.check.Reads as outline_check
 use Rattle.inputs.proofs.refusal.ContentRefusal.number.Kinds as content_number_kinds
 use Rattle.inputs.proofs.refusal.ContentRefusal.number.Reads as content_number
 use Rattle.inputs.proofs.refusal.ContentRefusal.place.Kinds as content_place_kinds
@@ -127,7 +130,7 @@ pub check_room_alike : Alike 0 check_room_kinds.ps check_room_kinds.r check_room
 check_room_alike κs a r s e f p q = results_alike r s (alike p.0 q.0) (alike p.1 q.1)
 
 pub check_settings_alike : Alike 0 check_settings_kinds.ps check_settings_kinds.r check_settings.Post
-check_settings_alike κs a r s e f p q = contents_alike r s (alike p.0 q.0) (alike p.1 q.1)
+check_settings_alike κs a r s e f p q = moded_alike _ r s (alike p.0 q.0) (alike p.1.0 q.1.0) p.1.1 q.1.1
 
 pub check_samples_alike : Alike 1 check_samples_kinds.ps check_samples_kinds.r check_samples.Post
 check_samples_alike κs a r s e f p q = contents_alike r s (alike p.0 q.0) (alike p.1 q.1)
@@ -139,3 +142,6 @@ first_bad_sample_alike κs a r s e f = found_alike _ _ r s
 -- The first of checks 7 to 9 that fails, with its place.
 pub check_outline_alike : Alike 3 check_outline_kinds.ps check_outline_kinds.r check_outline.Post
 check_outline_alike κs a r s e f p q = let n = alike p.0 q.0 in contents_alike r s n (p.1 ∙ rw (n, q.1))
+
+pub outline_check_alike : Alike 1 outline_check_kinds.ps outline_check_kinds.r outline_check.Post
+outline_check_alike κs a r s e f p q = let n = alike p.0 q.0 in checked_alike _ r s n (p.1.0 ∙ rw (n, q.1.0)) p.1.1 q.1.1

@@ -2,12 +2,16 @@
 --     content_told, told                     the refusal with a refusal's number and place is that refusal
 --     content_alike, refusals_alike          so two with the same are the same
 --     contents_alike, results_alike          and so are two results without a value
+--     moded_alike                            and two with a mode of one number
 --     refused_by, passed_by                  whether a check fails, by what is answered
 --     err_numbered, ok_numbered              whether a result is a refusal, by its number
-use Rattle.std.specs.Prelude.{◌≡◌, ℕ, true, false, refl, Result, Ok, Err}
+use Rattle.std.specs.Prelude.{◌≡◌, ℕ, true, false, refl, Result, Ok, Err, IfOk}
 use Rattle.std.specs.Result.{is_err}
 use Rattle.std.proofs.Common.{sym, ◌∙◌, ap}
 use mathlib.Core.Bool.{Bool, cond, true≢false}
+use Rattle.ranges.specs.declared.config.Mode.{Mode}
+use Rattle.ranges.specs.Config.{mode_number}
+use Rattle.ranges.proofs.Laws.Modes.{modes_alike}
 use Rattle.inputs.specs.declared.refusal.ContentRefusal.{ContentRefusal}
 use Rattle.inputs.specs.declared.refusal.ContentRefusal.TheVariants.{Setting, Sample, OutlineLengths, End, Segment}
 use Rattle.inputs.specs.declared.refusal.Refusal.{Refusal}
@@ -66,6 +70,12 @@ results_alike (Ok a) (Ok b) n p = refl
 results_alike (Ok a) (Err s) n p = absurd (number_not_0 s (sym n))
 results_alike (Err r) (Ok b) n p = absurd (number_not_0 r n)
 results_alike (Err r) (Err s) n p = ap Err (refusals_alike r s n p)
+
+pub moded_alike : (k : ℕ) (r s : Result Mode ContentRefusal) → content_number_in r ≡ content_number_in s → content_place_in r ≡ content_place_in s → IfOk r (λ m. mode_number m ≡ k) → IfOk s (λ m. mode_number m ≡ k) → r ≡ s
+moded_alike k (Ok a) (Ok b) n p e f = ap Ok (modes_alike a b (e ∙ sym f))
+moded_alike k (Ok a) (Err s) n p e f = absurd (content_not_0 s (sym n))
+moded_alike k (Err r) (Ok b) n p e f = absurd (content_not_0 r n)
+moded_alike k (Err r) (Err s) n p e f = ap Err (content_alike r s n p)
 
 -- a result that is a refusal has a number, and one that is none has not
 pub err_numbered : {A : Type 0} (r : Result A Refusal) → true ≡ is_err r → number_in r ≡ 0 → ⊥

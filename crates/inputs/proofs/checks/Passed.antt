@@ -9,6 +9,7 @@
 --     passed         so of each check
 --     ready          what the functions behind the checks ask for
 --     content_outlined, outline_outlined   the same of the outlines, where checks 5 to 9 by themselves pass, or 7 to 9
+--     content_moded  and of the mode
 use mathlib.Core.Path.{◌≡◌, refl, sym, subst, ◌∙◌}
 use mathlib.Core.Bool.{true, false, not, ◌||◌}
 use mathlib.Core.List.{List, ◌++◌}
@@ -182,6 +183,11 @@ unfolding content_refusal
 content_outlined i z =
     let f = all_pass (content_checks i) refl z in
     made i.colours i.coords i.ends f.1.1.0 (good_ends i.ends (length i.colours) f.1.1.1.0).0
+
+-- and its mode is one of the four
+pub content_moded : (i : Input) → content_refusal i ≡ 0 → i.mode ≤ 3
+unfolding content_refusal
+content_moded i z = (good_settings i.mode i.settings (all_pass (content_checks i) refl z).0).0
 
 pub outline_outlined : (colours : List ℕ) (coords : List Float) (ends : List ℕ) → outline_refusal colours coords ends ≡ 0 → Outlined colours coords ends
 unfolding outline_refusal

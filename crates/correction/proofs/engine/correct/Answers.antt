@@ -1,11 +1,14 @@
 -- `correction::engine::correct` meets its contract: the stages put together. Assumes nothing.
-use mathlib.Core.Path.{◌∙◌}
+use mathlib.Core.Path.{◌∙◌, ap}
+use Rattle.ranges.specs.declared.config.Mode.TheVariants.{Disabled}
+use Rattle.ranges.specs.Config.{mode_number}
+use Rattle.ranges.proofs.Laws.Modes.{modes_alike}
 use Rattle.inputs.proofs.Laws.Windows.{still_stencilled}
 use Rattle.correction.proofs.engine.Whole.{shielded_plain, written_ordered, left_alone, corrected}
 use Rattle.correction.proofs.engine.correct.Goals as goal
 
-pub returns-then-mode-eq-DISABLED : goal.returns-then-mode-eq-DISABLED
-returns-then-mode-eq-DISABLED c = let all = left_alone _ _ _ _ _ _ _ _ c.if-mode-eq-DISABLED.true c.requires.stencilled.1 in record { makes = all.0; leaves = all.1.0; writes = all.1.1 }
+pub returns-in-Disabled : goal.returns-in-Disabled
+returns-in-Disabled c = let all = left_alone _ _ _ _ _ _ _ _ (ap mode_number c.in-Disabled.is) c.requires.stencilled.1 in record { makes = all.0; leaves = all.1.0; writes = all.1.1 }
 
 pub write_orders-requires : goal.write_orders-requires
 write_orders-requires c = record { sampled = c.requires.sampled.0; stencilled = (still_stencilled _ c.requires.stencilled.0 _ c.protect.ensures.long, shielded_plain _ _ _ _ _ _ _ c.protect.ensures) }
@@ -23,4 +26,4 @@ pub apply-requires : goal.apply-requires
 apply-requires c = record { sampled = c.requires.sampled.0; stencilled = still_stencilled _ c.requires.stencilled.0 _ (c.find_errors-tests.ensures.finds.long ∙ c.write_orders.ensures.long ∙ c.protect.ensures.long) }
 
 pub returns : goal.returns
-returns c = let all = corrected _ _ _ _ _ _ _ c.requires.sampled.0 c.if-mode-eq-DISABLED.false c.protect.ensures c.write_orders.ensures c.find_errors-tests.ensures.finds c.find_errors-tests.ensures.makes c.apply.ensures.leaves c.apply.ensures.writes in record { makes = all.0; leaves = all.1.0; writes = all.1.1 }
+returns c = let all = corrected _ _ _ _ _ _ _ c.requires.sampled.0 (λ p. c.in_default.not-Disabled (modes_alike _ Disabled p)) c.protect.ensures c.write_orders.ensures c.find_errors-tests.ensures.finds c.find_errors-tests.ensures.makes c.apply.ensures.leaves c.apply.ensures.writes in record { makes = all.0; leaves = all.1.0; writes = all.1.1 }

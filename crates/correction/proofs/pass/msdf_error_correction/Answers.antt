@@ -14,7 +14,7 @@ use Rattle.inputs.proofs.Laws.Checks.{sizes, sized, by_sizes_law, by_room, by_co
 use Rattle.inputs.proofs.Laws.Refusal.{number_not_0}
 use Rattle.correction.proofs.pass.Whole.{held, windowed, started, finished, refused_as, answered}
 use Rattle.correction.proofs.pass.msdf_error_correction.Goals as goal
-use Rattle.correction.proofs.pass.msdf_error_correction.Goals.{In_ok-check_size, In_ok-check_room, In_ok-contours, Start}
+use Rattle.correction.proofs.pass.msdf_error_correction.Goals.{In_ok-check_size, In_ok-check_room, In_ok-mode, Start}
 
 -- the input
 abbrev given : Start → Input
@@ -29,10 +29,10 @@ roomy : (c : In_ok-check_room) → let i = given (goal.at.In_ok-check_room c).St
 roomy c = room_passes _ c.in_ok-check_room.ensures.numbers
 
 -- all have passed
-all : (c : In_ok-contours) → refusal_number (given (goal.at.In_ok-contours c).Start) ≡ 0
+all : (c : In_ok-mode) → refusal_number (given (goal.at.In_ok-mode c).Start) ≡ 0
 all c =
-    let i = given (goal.at.In_ok-contours c).Start in
-    sym (by_content i c.in_ok-check_size.ensures.numbers refl (roomy (goal.at.In_ok-contours c).In_ok-check_room) (windowed i c.whole-g.ensures (fine (goal.at.In_ok-contours c).In_ok-check_size) (c.in_ok-contours.ensures.numbers, c.in_ok-contours.ensures.places))).0
+    let i = given (goal.at.In_ok-mode c).Start in
+    sym (by_content i c.in_ok-check_size.ensures.numbers refl (roomy (goal.at.In_ok-mode c).In_ok-check_room) (windowed i c.whole-g.ensures (fine (goal.at.In_ok-mode c).In_ok-check_size) (c.in_ok-mode.ensures.numbers, c.in_ok-mode.ensures.places))).0
 
 pub returns-in_err-check_size : goal.returns-in_err-check_size
 returns-in_err-check_size c =
@@ -54,28 +54,28 @@ returns-in_err-check_room c =
 pub check-requires : goal.check-requires
 check-requires c = held (given (goal.at.check-requires c).Start) c.whole-g.ensures (fine (goal.at.check-requires c).In_ok-check_size)
 
-pub returns-in_err-contours : goal.returns-in_err-contours
-returns-in_err-contours c =
-    let i = given (goal.at.returns-in_err-contours c).Start in
-    let p = err_from_is_err_and c.from_residual-in_err-contours.result c.from_residual-in_err-contours.ensures.1 in
-    let e = c.in_err-contours.ensures in
-    let q = by_content i c.in_ok-check_size.ensures.numbers refl (roomy (goal.at.returns-in_err-contours c).In_ok-check_room) (windowed i c.whole-g.ensures (fine (goal.at.returns-in_err-contours c).In_ok-check_size) (e.numbers, e.places)) in
+pub returns-in_err-mode : goal.returns-in_err-mode
+returns-in_err-mode c =
+    let i = given (goal.at.returns-in_err-mode c).Start in
+    let p = err_from_is_err_and c.from_residual-in_err-mode.result c.from_residual-in_err-mode.ensures.1 in
+    let e = c.in_err-mode.ensures in
+    let q = by_content i c.in_ok-check_size.ensures.numbers refl (roomy (goal.at.returns-in_err-mode c).In_ok-check_room) (windowed i c.whole-g.ensures (fine (goal.at.returns-in_err-mode c).In_ok-check_size) (e.numbers, e.places)) in
     let h = refused_as i _ _ (p.1 ∙ ap Err p.2) q.0 q.1 in record { answers = h.0; leaves = h.1.0; writes = h.1.1.0; clears = h.1.1.1 }
 
 pub correct-tests-requires : goal.correct-tests-requires
 correct-tests-requires c =
     let i = given (goal.at.correct-tests-requires c).Start in
-    let r = ready i (all (goal.at.correct-tests-requires c).In_ok-contours) in
+    let r = ready i (all (goal.at.correct-tests-requires c).In_ok-mode) in
     let g = good_room _ _ (roomy (goal.at.correct-tests-requires c).In_ok-check_room) in
     record { sampled = (held i c.whole-g.ensures r.0, rw c.whole-g.ensures g); stencilled = started i c.whole-g.ensures r.0 r.1.0 _ c.fill.ensures }
 
 pub returns : goal.returns
 returns c =
     let i = given (goal.at.returns c).Start in
-    let z = all (goal.at.returns c).In_ok-contours in
+    let z = all (goal.at.returns c).In_ok-mode in
     let r = ready i z in
-    let o = c.in_ok-contours.ensures.same in
+    let k = c.in_ok-mode.ensures in
     let t = c.correct-tests.ensures in
-    let h = finished i c.whole-g.ensures r.0 r.1.0 _ c.fill.ensures (rw o at t.makes, (rw o at t.leaves, rw o at t.writes)) in
+    let h = finished i c.whole-g.ensures r.0 r.1.0 _ c.fill.ensures (rw (k.modes, k.same) at t.makes, (rw (k.modes, k.same) at t.leaves, rw (k.modes, k.same) at t.writes)) in
     let all = answered i _ _ _ _ _ z h.0 h.1.0 h.1.1 (c.clear.ensures ∙ ap (λ (n : ℕ). tab n (λ k. zero_of binary32)) c.correct-tests.auto.room) c.count_cells.ensures in
     record { answers = all.0; leaves = all.1.0; writes = all.1.1.0; clears = all.1.1.1 }

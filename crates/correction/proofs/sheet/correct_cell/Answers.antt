@@ -1,6 +1,9 @@
 -- `correction::sheet::correct_cell` meets its contract: what is handed to the engine is the cell alone. Assumes nothing.
+use mathlib.Core.Path.{◌≡◌}
 use mathlib.Core.List.{[]}
-use lib.ListN.{length}
+use lib.ListN.{length, get_or}
+use Rattle.std.proofs.lemmas.Option.{MatchOption-at_some}
+use Rattle.ranges.specs.Config.{mode_number}
 use Rattle.inputs.proofs.Laws.Windows.{still_stencilled}
 use Rattle.correction.specs.Sheet.{Sheet, sheet}
 use Rattle.correction.proofs.sheet.Laid.{sampled, stencilled}
@@ -40,8 +43,9 @@ returns c =
     let r = c.cell_at-k.result in
     let e = c.cell_at-k.ensures in
     let p = c.correct-tests.ensures in
-    let left = rw (c.outline.ensures.colours, c.outline.ensures.coords, c.outline.ensures.ends) at p.leaves in
-    record { counts = tallied g n r e left _ _ c.count_cells.ensures (rw (c.outline.ensures.colours, c.outline.ensures.coords, c.outline.ensures.ends) at p.makes); leaves = leaves g n r e left; writes = writes g n r e (rw (c.outline.ensures.colours, c.outline.ensures.coords, c.outline.ensures.ends) at p.writes) }
+    let mode_is : mode_number c.unwrap-mode.result ≡ get_or c.args.modes.now n 0 = MatchOption-at_some _ _ _ c.unwrap-mode.ensures c.of.ensures in
+    let left = rw (mode_is, c.outline.ensures.colours, c.outline.ensures.coords, c.outline.ensures.ends) at p.leaves in
+    record { counts = tallied g n r e left _ _ c.count_cells.ensures (rw (mode_is, c.outline.ensures.colours, c.outline.ensures.coords, c.outline.ensures.ends) at p.makes); leaves = leaves g n r e left; writes = writes g n r e (rw (mode_is, c.outline.ensures.colours, c.outline.ensures.coords, c.outline.ensures.ends) at p.writes) }
 
 pub cell_at-k-requires : goal.cell_at-k-requires
 cell_at-k-requires c = let all = cell_there (given (goal.at.cell_at-k-requires c).Start) c.args.c c.requires.laid.0 c.requires.laid.1 in record { c_in_bounds = all.0; area_inside = all.1 }

@@ -23,7 +23,7 @@ pub correct_cell-n-requires : goal.correct_cell-n-requires
 correct_cell-n-requires c =
     let i = c.loop-c.invariant.0 in
     let r = c.requires.ready in
-    let b = c.loop-c-test.true in record { laid = (laid_with (given (goal.at.correct_cell-n-requires c).Start) _ _ [] i.many r.laid, b, r.outlined _ b); stencil_len = i.long ∙ r.long; cleared = (i.rest _ (omega arith) b).0; width_in_bounds = omega (arith, c.loop-c.invariant.3, c.requires.width_in_bounds) }
+    let b = c.loop-c-test.true in record { laid = (laid_with (given (goal.at.correct_cell-n-requires c).Start) _ _ [] i.many r.laid, b, r.outlined _ b); stencil_len = i.long ∙ r.long; cleared = (i.rest _ (omega arith) b).0; width_in_bounds = omega (arith, c.loop-c.invariant.3, c.requires.width_in_bounds); mode = c.requires.modes _ b }
 
 pub plus-sum-requires : goal.plus-sum-requires
 plus-sum-requires c =

@@ -11,7 +11,7 @@ use Rattle.ground.proofs.Laws.Fill.{tab_length}
 use Rattle.inputs.proofs.Laws.Checks.{good_room}
 use Rattle.correction.specs.Sheet.{Failure}
 use Rattle.correction.specs.Sheet.{Sheet, sheet, failure}
-use Rattle.correction.proofs.sheet.Laid.{stages, ready}
+use Rattle.correction.proofs.sheet.Laid.{stages, ready, moded}
 use Rattle.correction.proofs.sheet.Filled.{ready_filled, filled_zeros, left_filled}
 use Rattle.correction.proofs.sheet.Answered.{refused_as, answered}
 use Rattle.correction.proofs.sheet.msdf_sheet_error_correction.Goals as goal
@@ -35,7 +35,7 @@ none c = sym (ap (λ (f : Failure). f.number) c.in_ok-check.ensures)
 pub correct_cells-n-requires : goal.correct_cells-n-requires
 correct_cells-n-requires c =
     let g = given (goal.at.correct_cells-n-requires c).Start in
-    let z = none (goal.at.correct_cells-n-requires c).In_ok-check in record { ready = ready_filled g _ (ap length c.fill.ensures ∙ tab_length _ _) (ready g z); stencil_value = filled_zeros _ _ c.fill.ensures; width_in_bounds = good_room _ _ (stages g z).room }
+    let z = none (goal.at.correct_cells-n-requires c).In_ok-check in record { ready = ready_filled g _ (ap length c.fill.ensures ∙ tab_length _ _) (ready g z); stencil_value = filled_zeros _ _ c.fill.ensures; width_in_bounds = good_room _ _ (stages g z).room; modes = moded g z }
 
 pub returns : goal.returns
 returns c =
