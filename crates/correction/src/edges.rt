@@ -79,6 +79,7 @@ fn median_near(room: &[f32], xs: &[f32], b: Window, y: usize, x: usize, v: usize
 }
 
 // The pair of the texel of t with n, whose median is k, protects it, as the lower one or as the other one.
+// A flag, and no closure from above: its promise would be longer than the branch.
 fn protects(r: f32, lower: bool, t: Centre, n: [f32; 3], k: f32) -> bool
     requires { (t.median ≡ texel_median t.texel) × (k ≡ texel_median n) }
     ensures { result ≡ protects_as lower r t.texel n }

@@ -23,7 +23,7 @@ fn bytes_at<const N: usize>(s: &[u8], at: usize) -> [u8; N]
     array::from_fn(|k| byte_from(s, at, k))
 }
 
-// The number of two bytes.
+// The number of two bytes. There is one function for each width: `from_be_bytes` is no trait's, and one with three impls would be longer.
 pub fn be16(s: &[u8], at: usize) -> usize
     ensures { (result ≡ Bytes.be16 s.now at) × (result < 65536) }
 {

@@ -12,7 +12,7 @@ pub struct Settings {
 }
 
 impl Settings {
-    // The span of a side neighbour, in the row or upright in the column.
+    // The span of a side neighbour, in the row or upright in the column: the flag is the definition's.
     pub fn side_span(self, upright: bool) -> f64
         ensures { result ≡ Config.side_span self upright }
     {

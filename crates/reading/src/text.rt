@@ -1,4 +1,4 @@
-// What is printed, written into a lent slice.
+// What is printed, written into a lent slice. Each text is written by its bytes and by no Display, since the promises of both programs say each byte.
 ghost use Rattle.std.specs.Prelude.{◌≡◌, ◌+◌, ◌*◌, ◌≤◌, ◌<◌, [], ◌∷◌, ◌++◌, length};
 ghost use Rattle.ground.specs.Lists.{joined};
 ghost use Rattle.ground.specs.Write.{Written};
@@ -15,7 +15,7 @@ use inputs::stencil;
 use inputs::stencil::Counts;
 use numbers::scalar::Middle;
 
-// The digit, or the capital letter from ten on.
+// The digit, or the capital letter from ten on: `char::from_digit` gives small ones.
 fn hex_digit(d: u32) -> u8
     requires { d < 16 }
     ensures { result ≡ Text.hex_digit d }
