@@ -16,10 +16,15 @@ pub fn byte_from(s: &[u8], at: usize, k: usize) -> u8
         .unwrap_or(0)
 }
 
-// The N bytes from a place on.
+// The N bytes from a place on: taken at once where they all stand there, and one by one at the slice's end.
 fn bytes_at<const N: usize>(s: &[u8], at: usize) -> [u8; N]
     ensures { (k : ℕ) → k < N → get_or result k 0 ≡ get_or s.now (at + k) 0 }
 {
+    if at < s.len() {
+        if let Some(all) = s[at..].first_chunk() {
+            return *all;
+        }
+    }
     array::from_fn(|k| byte_from(s, at, k))
 }
 

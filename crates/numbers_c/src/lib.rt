@@ -7,8 +7,9 @@ ghost use Rattle.numbers.specs.Constants.{zero_of};
 ghost use Rattle.numbers.specs.Scalar.{min_of, max_of, median_of, middle_of, abs_of, mix_of};
 ghost use Rattle.numbers.specs.Rounding.{narrow_of, floor_of};
 ghost use Rattle.numbers.specs.SquareRoot.{sqrt_of, normal_root};
-ghost use Rattle.numbers.specs.EquationSolver.{roots_of, normal_roots_of};
+ghost use Rattle.numbers.specs.EquationSolver.{roots_of, normal_roots_of, listed};
 
+use numbers::equation_solver::Roots;
 use numbers::{equation_solver, rounding, scalar, square_root};
 
 #[unsafe(no_mangle)]
@@ -90,12 +91,23 @@ pub extern "C" fn rungtwine_floor(x: f64) -> i64
     rounding::floor_to_i64(x)
 }
 
+// How many roots an answer has, by its case: the iterator's `count` takes them one by one, and a call with one root half as long again.
+fn counted(r: Roots) -> usize
+    ensures { result ≡ length (listed r) }
+{
+    match r {
+        Roots::None => 0,
+        Roots::One(_) => 1,
+        Roots::Two(_, _) => 2,
+    }
+}
+
 // How many roots there are, and each of up to two, 0 where there is none.
 #[unsafe(no_mangle)]
 pub extern "C" fn rungtwine_root_count(a: f64, b: f64, c: f64) -> usize
     ensures { result ≡ length (roots_of a b c) }
 {
-    equation_solver::solve_quadratic(a, b, c).count()
+    counted(equation_solver::solve_quadratic(a, b, c))
 }
 
 #[unsafe(no_mangle)]
@@ -117,7 +129,7 @@ pub extern "C" fn rungtwine_second_root(a: f64, b: f64, c: f64) -> f64
 pub extern "C" fn rungtwine_normal_root_count(a: f64, b: f64, c: f64) -> usize
     ensures { result ≡ length (normal_roots_of a b c) }
 {
-    equation_solver::solve_normal_quadratic(a, b, c).count()
+    counted(equation_solver::solve_normal_quadratic(a, b, c))
 }
 
 #[unsafe(no_mangle)]
