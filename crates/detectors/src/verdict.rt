@@ -34,7 +34,7 @@ impl Verdict {
         Verdict { number: tests }
     }
 
-    // An artifact, after a number of tests; a number beyond any search's wraps round.
+    // An artifact, after a number of tests. The sum wraps round, but for no number that a search makes.
     pub fn artifact(tests: usize) -> Verdict
         ensures { result ≡ verdict true tests % 2 ^ 64 }
     {
@@ -56,7 +56,7 @@ impl Verdict {
         self.number % ARTIFACT
     }
 
-    // What a search without an artifact and the next one come to; a sum beyond any search's wraps round.
+    // What a search without an artifact and the next one come to. The sum wraps round, but for no two searches.
     pub fn then(self, next: Verdict) -> Verdict
         ensures { result ≡ (self + next) % 2 ^ 64 }
     {
