@@ -15,12 +15,6 @@ use Rattle.detectors.specs.Orders.{NoRoot, doubted}
 abbrev pub ample : Float → Bool
 ample d = (eq d (zero_of binary32) || le (fin false 1 (negsuc 6)) d) && le d (fin false 1 (pos 12))
 
--- a pair's three differences, of a, of b and c, and of d: none is below zero, and each is of a size at which the pair has no root inside then
-unfoldable pub rising : Float → Float → Float → Bool
-rising dA dBC dD =
-    ample dA && (ample dD && (le (zero_of binary32) dBC && (le dBC (fin false 1 (pos 14))
-    && ((eq dBC (zero_of binary32) || le (fin false 1 (negsuc 6)) dBC) || (le (fin false 1 (negsuc 6)) dA && le (fin false 1 (negsuc 6)) dD)))))
-
 -- the roots of pair p: those by the root without branches, or none where none is inside
 abbrev pub Sought : List (List Float) → ℕ → List Float → Type 0
 Sought m p ts = (ts ≡ normal_pair_roots m p) ⊎ (ts ≡ []) × NoRoot m p

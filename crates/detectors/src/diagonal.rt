@@ -1,5 +1,6 @@
 // The diagonal detector: a texel, its two side neighbours and the one across.
 ghost use Rattle.std.specs.Prelude.{◌≡◌, ◌<◌, ◌≤◌, true, false, [], if◌then◌else◌, slice_index_or};
+ghost use Rattle.std.specs.Float.Ieee.{neg};
 ghost use Rattle.numbers.specs.EquationSolver.{listed};
 ghost use Rattle.detectors.specs.Verdict.{verdict};
 ghost use Rattle.detectors.specs.Diagonal as Diagonal;
@@ -113,9 +114,10 @@ fn ample(d: f32) -> bool
     ((d == 0.0) | (d >= LEAST)) & (d <= MOST)
 }
 
-// None of a pair's three differences is below zero, and each is of a size at which no root is inside then.
+// None of a pair's three differences is below zero, and each is of a size at which no root is inside then, nor one of the pair with their negatives.
 fn rises(da: f32, dbc: f32, dd: f32) -> bool
-    ensures { result ≡ Inner.rising da dbc dd }
+    ensures up { result ≡ true → some inside (Diagonal.quadratic_roots da dbc dd) ≡ false }
+    ensures down { result ≡ true → some inside (Diagonal.quadratic_roots (neg da) (neg dbc) (neg dd)) ≡ false }
 {
     ample(da)
         & (ample(dd)

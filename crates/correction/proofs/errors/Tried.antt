@@ -2,18 +2,19 @@
 --     up_to          the verdict of the first n
 --     up_to_first   the first comes after nothing
 --     up_to_next    with one more, after no artifact
+--     up_to_then    so it is with the number that `then` makes of the two
 --     up_to_ended   after an artifact it stays
 --     eight         of eight it is that of the first four and of the others
 use mathlib.Core.Path.{◌≡◌, refl, ◌∙◌, ap}
 use mathlib.Core.Bool.{Bool, true, false, cond, ◌||◌}
 use mathlib.Core.List.{[], ◌∷◌}
-use Prim.Native.Nat.{ℕ, zero, suc, ◌+◌, ◌<◌, ◌≤◌}
+use Prim.Native.Nat.{ℕ, zero, suc, ◌+◌, ◌%◌, ◌^◌, ◌<◌, ◌≤◌}
 use native.Mathlib.Omega.{arith}
 use Rattle.ground.specs.Lists.{spent_in}
 use Rattle.ground.proofs.Laws.Spent.{unless_small}
 use Rattle.detectors.specs.Verdict.{verdict}
 use Rattle.detectors.specs.Inner.{or_else}
-use Rattle.detectors.proofs.Laws.Verdict.{as_clear, or_ended, or_next, or_else_law}
+use Rattle.detectors.proofs.Laws.Verdict.{as_clear, then_adds, or_ended, or_next, or_else_law}
 use Rattle.correction.specs.Errors.{in_order}
 
 abbrev pub up_to : ℕ → (ℕ → ℕ) → ℕ
@@ -25,6 +26,9 @@ up_to_first v e = e ∙ omega arith ∙ or_next 0 (v 0) (v 0) (omega arith) refl
 
 pub up_to_next : (n : ℕ) (v : ℕ → ℕ) {t r : ℕ} → t ≡ up_to n v → t < 128 → r ≡ v n → t + r ≡ up_to (suc n) v
 up_to_next n v {t} {r} e l f = or_next t r (v n) l f ∙ ap (λ (z : ℕ). or_else z (v n)) e
+
+pub up_to_then : (n : ℕ) (v : ℕ → ℕ) {t r s : ℕ} → s ≡ (t + r) % 2 ^ 64 → t ≡ up_to n v → t < 128 → r ≡ v n → r < 65536 → s ≡ up_to (suc n) v
+up_to_then n v {t} {r} {s} sum e l f m = then_adds t r s sum (omega (arith, l, m)) ∙ up_to_next n v e l f
 
 -- k more than n
 abbrev more : ℕ → ℕ → ℕ

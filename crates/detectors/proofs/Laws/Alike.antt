@@ -1,5 +1,5 @@
 -- Each public function's promise determines its answer: any two answers that it permits for the same arguments are the same. Assumes nothing.
--- `Post` is a function's promise as the checker makes it of the `ensures` in the source. No argument is lent, so the answer is all that a call leaves behind.
+-- `Post` is a function's promise as the checker makes it of the `ensures` in the source. No public function has a `requires`, and no argument is lent, so the answer is all that a call leaves behind.
 use Rattle.ground.proofs.Laws.Alike.{Alike, alike}
 use Rattle.detectors.proofs.verdict.Verdict.clear.Kinds as clear_kinds
 use Rattle.detectors.proofs.verdict.Verdict.clear.Reads as clear

@@ -3,6 +3,8 @@
 --     verdict_le           it is at most 128 and the tests
 --     verdict_says         it says whether there is an artifact
 --     verdict_makes        and how many tests were made
+--     artifact_adds        an artifact after so many tests is 128 and the tests, where these fit
+--     then_adds            and two verdicts put together are their sum, where it fits
 --     found, clear         added to what is too little for an artifact it says whether there is one
 --     guarded_off          where the guard fails nothing is tried
 --     guarded_on           where it holds the verdict is that of what it guards
@@ -12,7 +14,7 @@
 --     or_else_law              either way the verdict is that of both
 --     or_spent             so it is with one more turn of a search
 --     or_three             and with three turns that take few tests each
-use Rattle.std.proofs.Common.{◌≡◌, ℕ, suc, ◌+◌, ◌%◌, ◌<◌, ◌≤◌, Bool, true, false, cond, ◌&&◌, ◌||◌, leb, sym, refl, ap, ◌∙◌, arith, le-leb}
+use Rattle.std.proofs.Common.{◌≡◌, ℕ, suc, ◌+◌, ◌%◌, ◌<◌, ◌≤◌, ◌^◌, Bool, true, false, cond, ◌&&◌, ◌||◌, leb, sym, refl, ap, ◌∙◌, mod-eq_of_lt, arith, le-leb}
 use borrow.Author.Tests.{lt-leb}
 use Rattle.ground.specs.Lists.{any, spent}
 use Rattle.ground.proofs.Laws.Spent.{spent_small}
@@ -41,6 +43,13 @@ pub verdict_makes : (a : Bool) (n : ℕ) → n < 128 → verdict a n % 128 ≡ n
 unfolding verdict
 verdict_makes true n l = omega (arith, l)
 verdict_makes false n l = omega (arith, l)
+
+pub artifact_adds : (n r : ℕ) → r ≡ verdict true n % 2 ^ 64 → 128 + n < 2 ^ 64 → r ≡ verdict true n
+unfolding verdict
+artifact_adds n r e l = e ∙ mod-eq_of_lt l
+
+pub then_adds : (v w r : ℕ) → r ≡ (v + w) % 2 ^ 64 → v + w < 2 ^ 64 → r ≡ v + w
+then_adds v w r e l = e ∙ mod-eq_of_lt l
 
 pub found : (a : Bool) (t n v : ℕ) → v ≡ verdict a n → t + n < 128 → 128 ≤ t + v → (a ≡ true) × (v ≡ 128 + n)
 unfolding verdict

@@ -1,6 +1,7 @@
 -- Where a pair's three differences are of one sign and of good size none of its roots is inside. Assumes nothing.
---     none_rising    none of them is below zero
---     none_falling   none is above
+--     rising         none of them is below zero, and each is of such a size
+--     none_rising    so none of the roots is inside
+--     none_falling   nor where it is so of the negatives: none is above zero
 use Rattle.std.proofs.Common.{◌≡◌, Bool, true, false, ◌&&◌, ◌||◌, T, ◌⊎◌, inl, inr}
 use lib.Ieee.{Float, binary32, neg, le, eq, fits, of_bits}
 use lib.Ieee.Fits.{neg-fits, and_l, and_r}
@@ -9,9 +10,13 @@ use Rattle.ground.specs.Lists.{some}
 use Rattle.ground.proofs.Laws.Bools.{holds}
 use Rattle.detectors.specs.Pairs.{inside}
 use Rattle.detectors.specs.Diagonal.{quadratic_roots}
-use Rattle.detectors.specs.Inner.{ample, rising}
+use Rattle.detectors.specs.Inner.{ample}
 use Rattle.detectors.proofs.orders.Pairs.{least, most, most_middle, Sized, Sorted, quadratic_outside}
 use Rattle.detectors.proofs.orders.Mirror.{quadratic_outside_neg}
+
+-- of a pair's three differences, of a, of b and c, and of d, none is below zero, and each is of a size at which the pair has no root inside then
+unfoldable pub rising : Float → Float → Float → Bool
+rising A B D = ample A && (ample D && (le nought B && (le B most_middle && ((eq B nought || le least B) || (le least A && le least D)))))
 
 either : (a b : Bool) → T (a || b) → T a ⊎ T b
 either true b h = inl tt

@@ -55,6 +55,8 @@ use Rattle.inputs.proofs.refusal.Refusal.number.Kinds as number_kinds
 use Rattle.inputs.proofs.refusal.Refusal.number.Reads as number
 use Rattle.inputs.proofs.refusal.Refusal.place.Kinds as place_kinds
 use Rattle.inputs.proofs.refusal.Refusal.place.Reads as place
+use Rattle.inputs.proofs.refusal.RefusalFromContentRefusal.from.Kinds as from_kinds
+use Rattle.inputs.proofs.refusal.RefusalFromContentRefusal.from.Reads as from
 
 -- Whether a column and a row are inside.
 pub in_bounds_alike : Alike 0 in_bounds_kinds.ps in_bounds_kinds.r in_bounds.Post
@@ -121,6 +123,10 @@ number_alike κs a r s e f = alike
 
 pub place_alike : Alike 0 place_kinds.ps place_kinds.r place.Post
 place_alike κs a r s e f = alike
+
+-- A refusal of the contents as one of all checks.
+pub from_alike : Alike 0 from_kinds.ps from_kinds.r from.Post
+from_alike κs a r s e f = alike
 
 -- The first of checks 1 to 4 that fails, and checks 60, 5 and 6, with the place.
 pub check_size_alike : Alike 0 check_size_kinds.ps check_size_kinds.r check_size.Post

@@ -1,8 +1,11 @@
 -- Each public function's promise determines its answer: any two answers that it permits for the same arguments are the same. Assumes nothing.
--- `Post` is a function's promise as the checker makes it of the `ensures` in the source. No argument is lent, so the answer is all that a call leaves behind.
+-- `Post` is a function's promise as the checker makes it of the `ensures` in the source, or of the trait. No argument is lent but the one of `next`, so elsewhere the answer is all that a call leaves
+-- behind. The other methods of `Iterator`, which `Roots` has without writing them, are the library's.
 --     roots_alike  two answers with one list of roots are the same
 --     NAME-alike   so it is with the promise of the function NAME
-use Rattle.std.proofs.Common.{◌≡◌, List, sym, ◌∙◌}
+--     next_leaves_alike  and with what `next` leaves of the answer that it is asked of
+use Rattle.std.proofs.Common.{◌≡◌, List, [], ◌∷◌, Option, None, Some, sym, ap, ◌∙◌}
+use Rattle.std.specs.Prelude.{MatchOption}
 use lib.Ieee.{Float}
 use Rattle.ground.proofs.Laws.Alike.{Alike, alike}
 use Rattle.numbers.specs.EquationSolver.{roots_of, normal_roots_of, listed}
@@ -32,6 +35,8 @@ use Rattle.numbers.proofs.square_root.sqrt.Kinds as sqrt_kinds
 use Rattle.numbers.proofs.square_root.sqrt.Reads as sqrt
 use Rattle.numbers.proofs.equation_solver.Roots.or_zero.Kinds as or_zero_kinds
 use Rattle.numbers.proofs.equation_solver.Roots.or_zero.Reads as or_zero
+use Rattle.numbers.proofs.equation_solver.RootsIterator.next.Kinds as next_kinds
+use Rattle.numbers.proofs.equation_solver.RootsIterator.next.Reads as next
 use Rattle.numbers.proofs.equation_solver.solve_quadratic.Kinds as solve_quadratic_kinds
 use Rattle.numbers.proofs.equation_solver.solve_quadratic.Reads as solve_quadratic
 use Rattle.numbers.proofs.equation_solver.solve_normal_quadratic.Kinds as solve_normal_quadratic_kinds
@@ -82,3 +87,22 @@ solve_normal_quadratic_alike κs a r s e f = roots_alike (normal_roots_of a.0 a.
 
 pub or_zero_alike : Alike 0 or_zero_kinds.ps or_zero_kinds.r or_zero.Post
 or_zero_alike κs a r s e f = alike
+
+-- `next` of a solver's answer: what it gives, and the answer that is left.
+abbrev first : List Float → Option Float
+first [] = None
+first (x ∷ xs) = Some x
+
+abbrev rest : List Float → List Float
+rest [] = []
+rest (x ∷ xs) = xs
+
+stepped : (xs : List Float) (z : Option Float) (t : Roots) → MatchOption z ((xs ≡ []) × (listed t ≡ [])) (λ (x : Float). xs ≡ x ∷ listed t) → (z ≡ first xs) × (listed t ≡ rest xs)
+stepped xs None t p = (sym (ap first p.0), p.1 ∙ sym (ap rest p.0))
+stepped xs (Some x) t p = (sym (ap first p), sym (ap rest p))
+
+pub next_alike : Alike 1 next_kinds.ps next_kinds.r next.Post
+next_alike κs a r s e f p q = alike (stepped _ r _ p.0).0 (stepped _ s _ q.0).0
+
+pub next_leaves_alike : (κs : _) (a : _) (r s : _) (e f : _) → next.Post κs a r e → next.Post κs a s f → e.0.now ≡ f.0.now
+next_leaves_alike κs a r s e f p q = roots_alike _ _ _ (stepped _ r _ p.0).1 (stepped _ s _ q.0).1

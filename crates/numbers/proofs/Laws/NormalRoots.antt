@@ -9,6 +9,7 @@
 --     answers_agree                         and any answers that the two solvers' promises permit are the same
 --     counts_alike                          how many roots there are does not depend on the root: of any three values both rules give as many
 --     normal_solver_true                    so of three finite values of binary32 the second solver gives the true number too
+--     promise_normal_count                  and so many has any answer that the promise of `solve_normal_quadratic` permits
 --     apart_subnormal, apart_infinite       evaluated: of values of binary64 whose discriminant is subnormal, or overflows, the two do differ
 use Rattle.std.proofs.Common.{◌≡◌, ℕ, ◌+◌, ◌-◌, ◌*◌, ◌/◌, ◌^◌, ◌<◌, ◌≤◌, Bool, true, false, cond, not, T, [], ◌∷◌, length, pos, negsuc, sym, refl, ap, ◌∙◌, subst, le_trans, le_of_eq, le_refl, le_of_lt, mul-le-mul_right, mul_assoc, mul_comm, mul-pos, one-mul, le-div_iff_mul-le, le_of_mul-le-mul_right, arith, lit≤, pow_pos, pow-add}
 use mathlib.Core.Bool.{beq}
@@ -17,6 +18,8 @@ use lib.Ieee.Digits.{size-le, size_reaches}
 use lib.Ieee.Fits.{kept-lt, down_pos, sub-fits}
 use lib.Ieee.Exact.{HasValue}
 use lib.Ieee.Order.{round_mono}
+use contract.Lifetimes.{Lfts}
+use borrow.Fn.Kinds.{Dens}
 use Rattle.ground.proofs.Laws.Bools.{holds}
 use Rattle.numbers.specs.Constants.{zero_of, four}
 use Rattle.numbers.specs.Nearest.{sum_size, sum_sign}
@@ -38,6 +41,8 @@ use Rattle.numbers.proofs.Laws.SquareRoot.{normal_root_is}
 use Rattle.numbers.proofs.Laws.EquationSolver.{by_fewer, by_count}
 use Rattle.numbers.proofs.Laws.RootCount.{square_exact, product_exact, discriminant_positive, count_true}
 use Rattle.numbers.proofs.Laws.Alike.{roots_alike}
+use Rattle.numbers.proofs.equation_solver.solve_normal_quadratic.Kinds.{ps}
+use Rattle.numbers.proofs.equation_solver.solve_normal_quadratic.Reads as solver
 
 -- ---- normal values
 -- the pattern that is written for a number of smallest values with 53 digits or more
@@ -173,6 +178,11 @@ counts_alike a b c = go (is_linear a b)
 pub normal_solver_true : (a b c : Float) (n : ℕ) (x y : Float) → Finite binary32 a → Finite binary32 b → Finite binary32 c → Listed (normal_roots_of a b c) n x y
     → n ≡ true_count (whole_of binary32 a) (whole_of binary32 b) (whole_of binary32 c)
 normal_solver_true a b c n x y p q r l = l.counted ∙ counts_alike a b c ∙ count_true a b c p q r
+
+-- The count of any answer of `solve_normal_quadratic`: it keeps the promise as it is read from the source, of the arguments a, the answer z and the arguments at exit e.
+pub promise_normal_count : (κs : Lfts 0) (a : Dens κs ps) (z : _) (e : _) → solver.Post κs a z e → Finite binary32 a.0 → Finite binary32 a.1.0 → Finite binary32 a.1.1.0
+    → length (listed z) ≡ true_count (whole_of binary32 a.0) (whole_of binary32 a.1.0) (whole_of binary32 a.1.1.0)
+promise_normal_count κs a z e h p q r = ap length h ∙ counts_alike a.0 a.1.0 a.1.1.0 ∙ count_true a.0 a.1.0 a.1.1.0 p q r
 
 -- ---- where the roots are not the same
 -- x² − 1, scaled by 2^-538: D is the smallest subnormal value, 2^-1074, and its pattern taken for a normal number is that of one some 2^51 times as large

@@ -5,7 +5,8 @@
 --     discriminant_positive, discriminant_zero, discriminant_negative  and the rounded discriminant has the sign of the true one
 --     square_true                      so elsewhere there are two, one or no roots as b² − 4ac is positive, zero or negative
 --     count_true, bits_true            together: how many roots there are, from the values and from their patterns
---     solver_true                      what the public solver's promise makes of it
+--     solver_true                      so a count and two values that list the roots count as many
+--     promise_count                    and so many has any answer that the promise of `solve_quadratic` permits
 --     count_scale                      the scale at which the three are whole numbers does not matter
 --     linear_one_way                   where the linear rule applies to an a that is not 0 the quadratic goes one way from 0 to 1, so it has at most one root there
 --     linear_far                       and where it has no root at all, −c/b is beyond 10^11 in size
@@ -17,11 +18,13 @@ use lib.IntN.{neg_ℤ-neg_ℤ}
 use lib.Ieee.{Float, fin, binary32, binary64, unlike, below, level, lt, eq, mul, sub, div, neg, fits, of_bits}
 use lib.Ieee.Fits.{mul-fits}
 use lib.Ieee.Exact.{HasValue}
+use contract.Lifetimes.{Lfts}
+use borrow.Fn.Kinds.{Dens}
 use Rattle.ground.proofs.Laws.Bools.{holds}
 use Rattle.numbers.specs.Constants.{zero_of, dominance, four}
 use Rattle.numbers.specs.Scalar.{abs_of}
 use Rattle.numbers.specs.SquareRoot.{sqrt_of}
-use Rattle.numbers.specs.EquationSolver.{is_linear, linear_roots, discriminant, upper_root, lower_root, square_roots_by, square_roots, roots_of, Listed}
+use Rattle.numbers.specs.EquationSolver.{is_linear, linear_roots, discriminant, upper_root, lower_root, square_roots_by, square_roots, roots_of, listed, Listed}
 use Rattle.numbers.specs.Whole.{Finite, signed, steps, whole_of, FiniteBits, whole_of_bits}
 use Rattle.numbers.specs.RootCount.{true_linear, true_discriminant, square_count, linear_count, true_count}
 use Rattle.numbers.proofs.floats.Compared.{le_or_lt}
@@ -31,6 +34,8 @@ use Rattle.numbers.proofs.Laws.Whole.{value_held, steps_value, whole_of_bits_law
 use Rattle.numbers.proofs.Laws.Exact.{Short, mul_short, single_short}
 use Rattle.numbers.proofs.Laws.Difference.{sub_positive, sub_zero, sub_negative}
 use Rattle.numbers.proofs.Laws.EquationSolver.{by_count}
+use Rattle.numbers.proofs.equation_solver.solve_quadratic.Kinds.{ps}
+use Rattle.numbers.proofs.equation_solver.solve_quadratic.Reads as solver
 
 -- ---- the products, each exact
 false_unlike : (s : Bool) → unlike false s ≡ s
@@ -244,6 +249,11 @@ count_true a b c p q r =
 pub solver_true : (a b c : Float) (n : ℕ) (x y : Float) → Finite binary32 a → Finite binary32 b → Finite binary32 c → Listed (roots_of a b c) n x y
     → n ≡ true_count (whole_of binary32 a) (whole_of binary32 b) (whole_of binary32 c)
 solver_true a b c n x y p q r l = l.counted ∙ count_true a b c p q r
+
+-- The count of any answer of `solve_quadratic`: it keeps the promise as it is read from the source, of the arguments a, the answer z and the arguments at exit e.
+pub promise_count : (κs : Lfts 0) (a : Dens κs ps) (z : _) (e : _) → solver.Post κs a z e → Finite binary32 a.0 → Finite binary32 a.1.0 → Finite binary32 a.1.1.0
+    → length (listed z) ≡ true_count (whole_of binary32 a.0) (whole_of binary32 a.1.0) (whole_of binary32 a.1.1.0)
+promise_count κs a z e h p q r = ap length h ∙ count_true a.0 a.1.0 a.1.1.0 p q r
 
 pub bits_true : (a b c : ℕ) → FiniteBits binary32 a → FiniteBits binary32 b → FiniteBits binary32 c
     → length (roots_of (of_bits binary32 a) (of_bits binary32 b) (of_bits binary32 c)) ≡ true_count (whole_of_bits binary32 a) (whole_of_bits binary32 b) (whole_of_bits binary32 c)

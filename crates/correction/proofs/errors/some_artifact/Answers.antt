@@ -13,7 +13,7 @@ use Rattle.inputs.specs.Window.{cut_samples}
 use Rattle.correction.specs.Bitmap.{texel}
 use Rattle.correction.specs.Errors.{side_artifact, some_side, diagonal_artifact, some_diagonal, some_artifact, side_tests, across_tests, linear_made, diagonal_made, some_made}
 use Rattle.correction.proofs.Laws.Tests.{side_tests_le, side_few, across_tests_le, across_few, linear_made_le}
-use Rattle.correction.proofs.errors.Tried.{up_to, up_to_first, up_to_next, up_to_ended, eight}
+use Rattle.correction.proofs.errors.Tried.{up_to, up_to_first, up_to_then, up_to_ended, eight}
 use Rattle.correction.proofs.errors.some_artifact.Goals as goal
 use Rattle.correction.proofs.errors.some_artifact.Goals.{After-row_artifact-v1, After-then-v2, After-then-v3, After-then-v4, After-then-v5, After-then-v6, After-then-v7, After-then, Start}
 
@@ -68,25 +68,25 @@ after1 : (c : After-row_artifact-v1) → c.row_artifact-v1.result ≡ up_to 1 (o
 after1 c = up_to_first (of (goal.at.After-row_artifact-v1 c).Start) c.row_artifact-v1.ensures
 
 after2 : (c : After-then-v2) → c.then-v2.result ≡ up_to 2 (of (goal.at.After-then-v2 c).Start)
-after2 c = c.then-v2.ensures ∙ up_to_next 1 (of (goal.at.After-then-v2 c).Start) (after1 (goal.at.After-then-v2 c).After-row_artifact-v1) (leb-false _ _ (sym c.is_artifact.ensures ∙ c.if-is_artifact.false)) c.column_artifact.ensures
+after2 c = up_to_then 1 (of (goal.at.After-then-v2 c).Start) c.then-v2.ensures (after1 (goal.at.After-then-v2 c).After-row_artifact-v1) (leb-false _ _ (sym c.is_artifact.ensures ∙ c.if-is_artifact.false)) c.column_artifact.ensures (omega (arith, side_few _ _ _ _ _ _ _ _ _ c.column_artifact.ensures))
 
 after3 : (c : After-then-v3) → c.then-v3.result ≡ up_to 3 (of (goal.at.After-then-v3 c).Start)
-after3 c = c.then-v3.ensures ∙ up_to_next 2 (of (goal.at.After-then-v3 c).Start) (after2 (goal.at.After-then-v3 c).After-then-v2) (leb-false _ _ (sym c.is_artifact-2.ensures ∙ c.if-is_artifact-2.false)) c.row_artifact.ensures
+after3 c = up_to_then 2 (of (goal.at.After-then-v3 c).Start) c.then-v3.ensures (after2 (goal.at.After-then-v3 c).After-then-v2) (leb-false _ _ (sym c.is_artifact-2.ensures ∙ c.if-is_artifact-2.false)) c.row_artifact.ensures (omega (arith, side_few _ _ _ _ _ _ _ _ _ c.row_artifact.ensures))
 
 after4 : (c : After-then-v4) → c.then-v4.result ≡ up_to 4 (of (goal.at.After-then-v4 c).Start)
-after4 c = c.then-v4.ensures ∙ up_to_next 3 (of (goal.at.After-then-v4 c).Start) (after3 (goal.at.After-then-v4 c).After-then-v3) (leb-false _ _ (sym c.is_artifact-3.ensures ∙ c.if-is_artifact-3.false)) c.column_artifact-2.ensures
+after4 c = up_to_then 3 (of (goal.at.After-then-v4 c).Start) c.then-v4.ensures (after3 (goal.at.After-then-v4 c).After-then-v3) (leb-false _ _ (sym c.is_artifact-3.ensures ∙ c.if-is_artifact-3.false)) c.column_artifact-2.ensures (omega (arith, side_few _ _ _ _ _ _ _ _ _ c.column_artifact-2.ensures))
 
 after5 : (c : After-then-v5) → c.then-v5.result ≡ up_to 5 (of (goal.at.After-then-v5 c).Start)
-after5 c = c.then-v5.ensures ∙ up_to_next 4 (of (goal.at.After-then-v5 c).Start) (after4 (goal.at.After-then-v5 c).After-then-v4) (leb-false _ _ (sym c.is_artifact-4.ensures ∙ c.if-is_artifact-4.false)) c.lower_artifact.ensures
+after5 c = up_to_then 4 (of (goal.at.After-then-v5 c).Start) c.then-v5.ensures (after4 (goal.at.After-then-v5 c).After-then-v4) (leb-false _ _ (sym c.is_artifact-4.ensures ∙ c.if-is_artifact-4.false)) c.lower_artifact.ensures (omega (arith, across_few _ _ _ _ _ _ _ _ _ _ _ c.lower_artifact.ensures))
 
 after6 : (c : After-then-v6) → c.then-v6.result ≡ up_to 6 (of (goal.at.After-then-v6 c).Start)
-after6 c = c.then-v6.ensures ∙ up_to_next 5 (of (goal.at.After-then-v6 c).Start) (after5 (goal.at.After-then-v6 c).After-then-v5) (leb-false _ _ (sym c.is_artifact-5.ensures ∙ c.if-is_artifact-5.false)) c.lower_artifact-2.ensures
+after6 c = up_to_then 5 (of (goal.at.After-then-v6 c).Start) c.then-v6.ensures (after5 (goal.at.After-then-v6 c).After-then-v5) (leb-false _ _ (sym c.is_artifact-5.ensures ∙ c.if-is_artifact-5.false)) c.lower_artifact-2.ensures (omega (arith, across_few _ _ _ _ _ _ _ _ _ _ _ c.lower_artifact-2.ensures))
 
 after7 : (c : After-then-v7) → c.then-v7.result ≡ up_to 7 (of (goal.at.After-then-v7 c).Start)
-after7 c = c.then-v7.ensures ∙ up_to_next 6 (of (goal.at.After-then-v7 c).Start) (after6 (goal.at.After-then-v7 c).After-then-v6) (leb-false _ _ (sym c.is_artifact-6.ensures ∙ c.if-is_artifact-6.false)) c.upper_artifact.ensures
+after7 c = up_to_then 6 (of (goal.at.After-then-v7 c).Start) c.then-v7.ensures (after6 (goal.at.After-then-v7 c).After-then-v6) (leb-false _ _ (sym c.is_artifact-6.ensures ∙ c.if-is_artifact-6.false)) c.upper_artifact.ensures (omega (arith, across_few _ _ _ _ _ _ _ _ _ _ _ c.upper_artifact.ensures))
 
 after8 : (c : After-then) → c.then.result ≡ up_to 8 (of (goal.at.After-then c).Start)
-after8 c = c.then.ensures ∙ up_to_next 7 (of (goal.at.After-then c).Start) (after7 (goal.at.After-then c).After-then-v7) (leb-false _ _ (sym c.is_artifact-7.ensures ∙ c.if-is_artifact-7.false)) c.upper_artifact-2.ensures
+after8 c = up_to_then 7 (of (goal.at.After-then c).Start) c.then.ensures (after7 (goal.at.After-then c).After-then-v7) (leb-false _ _ (sym c.is_artifact-7.ensures ∙ c.if-is_artifact-7.false)) c.upper_artifact-2.ensures (omega (arith, across_few _ _ _ _ _ _ _ _ _ _ _ c.upper_artifact-2.ensures))
 
 pub returns-then-is_artifact : goal.returns-then-is_artifact
 returns-then-is_artifact c = let s = goal.at.returns-then-is_artifact c in up_to_ended 1 7 (of s.Start) (after1 s.After-row_artifact-v1) (leb-true _ _ (sym c.is_artifact.ensures ∙ c.if-is_artifact.true)) ∙ whole _ _ _ _ _ _ _ _ _
@@ -111,24 +111,3 @@ returns-then-is_artifact-7 c = let s = goal.at.returns-then-is_artifact-7 c in u
 
 pub returns : goal.returns
 returns c = after8 c ∙ whole _ _ _ _ _ _ _ _ _
-
-pub then-v2-requires : goal.then-v2-requires
-then-v2-requires c = (leb-false _ _ (sym c.is_artifact.ensures ∙ c.if-is_artifact.false), omega (arith, side_few _ _ _ _ _ _ _ _ _ c.column_artifact.ensures))
-
-pub then-v3-requires : goal.then-v3-requires
-then-v3-requires c = (leb-false _ _ (sym c.is_artifact-2.ensures ∙ c.if-is_artifact-2.false), omega (arith, side_few _ _ _ _ _ _ _ _ _ c.row_artifact.ensures))
-
-pub then-v4-requires : goal.then-v4-requires
-then-v4-requires c = (leb-false _ _ (sym c.is_artifact-3.ensures ∙ c.if-is_artifact-3.false), omega (arith, side_few _ _ _ _ _ _ _ _ _ c.column_artifact-2.ensures))
-
-pub then-v5-requires : goal.then-v5-requires
-then-v5-requires c = (leb-false _ _ (sym c.is_artifact-4.ensures ∙ c.if-is_artifact-4.false), omega (arith, across_few _ _ _ _ _ _ _ _ _ _ _ c.lower_artifact.ensures))
-
-pub then-v6-requires : goal.then-v6-requires
-then-v6-requires c = (leb-false _ _ (sym c.is_artifact-5.ensures ∙ c.if-is_artifact-5.false), omega (arith, across_few _ _ _ _ _ _ _ _ _ _ _ c.lower_artifact-2.ensures))
-
-pub then-v7-requires : goal.then-v7-requires
-then-v7-requires c = (leb-false _ _ (sym c.is_artifact-6.ensures ∙ c.if-is_artifact-6.false), omega (arith, across_few _ _ _ _ _ _ _ _ _ _ _ c.upper_artifact.ensures))
-
-pub then-requires : goal.then-requires
-then-requires c = (leb-false _ _ (sym c.is_artifact-7.ensures ∙ c.if-is_artifact-7.false), omega (arith, across_few _ _ _ _ _ _ _ _ _ _ _ c.upper_artifact-2.ensures))

@@ -1,8 +1,8 @@
 -- `detectors::diagonal::diagonal_at` meets its contract. Assumes nothing.
-use Rattle.std.proofs.Common.{◌≡◌, Bool, sym, ap, ◌∙◌}
+use Rattle.std.proofs.Common.{◌≡◌, Bool, sym, ap, ◌∙◌, arith}
 use Rattle.detectors.specs.Verdict.{verdict}
 use Rattle.detectors.specs.Diagonal.{root_tests, diagonal_at, root_test_count, diagonal_tests_at}
-use Rattle.detectors.proofs.Laws.Verdict.{guarded_off, guarded_on}
+use Rattle.detectors.proofs.Laws.Verdict.{artifact_adds, guarded_off, guarded_on}
 use Rattle.detectors.proofs.diagonal.diagonal_at.Goals as goal
 use Rattle.detectors.proofs.diagonal.diagonal_at.Goals.{After-root_tests}
 
@@ -15,7 +15,7 @@ whole c =
     (guarded_on _ _ _ (sym c.inside.ensures ∙ c.if-inside.true))
 
 pub returns-then-root_tests : goal.returns-then-root_tests
-returns-then-root_tests c = c.artifact.ensures ∙ ap (λ (b : Bool). verdict b c.root_test_count-n.result) (sym c.if-root_tests.true) ∙ whole (goal.at.returns-then-root_tests c).After-root_tests
+returns-then-root_tests c = artifact_adds _ _ c.artifact.ensures (omega (arith, c.root_test_count-n.ensures.1)) ∙ ap (λ (b : Bool). verdict b c.root_test_count-n.result) (sym c.if-root_tests.true) ∙ whole (goal.at.returns-then-root_tests c).After-root_tests
 
 pub returns-then-inside : goal.returns-then-inside
 returns-then-inside c = c.clear.ensures ∙ ap (λ (b : Bool). verdict b c.root_test_count-n.result) (sym c.if-root_tests.false) ∙ whole (goal.at.returns-then-inside c).After-root_tests

@@ -14,7 +14,7 @@ use Rattle.detectors.specs.Inner.{Tried}
 use Rattle.detectors.specs.Verdict.{verdict}
 use Rattle.detectors.specs.Diagonal.{diagonal_at, diagonal_tests_at}
 use Rattle.detectors.specs.Orders.{doubted_pair, doubted_tests}
-use Rattle.detectors.proofs.Laws.Verdict.{as_found, as_clear, verdict_le, found, clear}
+use Rattle.detectors.proofs.Laws.Verdict.{as_found, as_clear, verdict_le, then_adds, found, clear}
 use Rattle.detectors.proofs.Laws.Tests.{diagonal_at_le, doubted_le}
 use Rattle.detectors.proofs.diagonal.Searched.{tried_few, tried_some, tried_spent, none_yet, nothing_spent, none_last, some_last, last_spent, ended}
 use Rattle.detectors.proofs.diagonal.some_pair.Goals as goal
@@ -74,20 +74,20 @@ comes c = sym (ap listed c.into_iter-t-iterator.ensures.into_iter_gives) ∙ par
 few : (c : After-diagonal_at) → c.loop-t.all + diagonal_tests_at c.args.m.now c.loop-p.p c.in-Some.t < 128
 few c = room _ _ _ _ _ _ _ _ _ c.roots_tried-t-items.ensures c.loop-p.invariant.1 c.loop-p.invariant.0 c.loop-p-test.true _ _ c.loop-t.invariant.1 _ _ (comes c)
 
-pub then-all-requires : goal.then-all-requires
-then-all-requires c =
-    let v = verdict_le (diagonal_at c.args.k.span c.args.k.protected c.args.am c.args.dm c.args.m.now c.loop-p.p c.in-Some.t) (diagonal_tests_at c.args.m.now c.loop-p.p c.in-Some.t) in
-    (omega (arith, few c), omega (arith, few c, c.diagonal_at.ensures, v))
-
 -- the number of the root's verdict, added to those before
+added : (c : After-is_artifact) → c.then-all.result ≡ c.loop-t.all + c.diagonal_at.result
+added c =
+    let v = verdict_le (diagonal_at c.args.k.span c.args.k.protected c.args.am c.args.dm c.args.m.now c.loop-p.p c.in-Some.t) (diagonal_tests_at c.args.m.now c.loop-p.p c.in-Some.t) in
+    then_adds _ _ _ c.then-all.ensures (omega (arith, few (goal.at.After-is_artifact c).After-diagonal_at, c.diagonal_at.ensures, v))
+
 sum : (c : After-is_artifact) → c.is_artifact.result ≡ leb 128 (c.loop-t.all + c.diagonal_at.result)
-sum c = c.is_artifact.ensures ∙ ap (leb 128) c.then-all.ensures
+sum c = c.is_artifact.ensures ∙ ap (leb 128) (added c)
 
 pub returns-then-is_artifact : goal.returns-then-is_artifact
 returns-then-is_artifact c =
     let d = goal.at.returns-then-is_artifact c in
     let one = found _ _ _ _ c.diagonal_at.ensures (few d.After-diagonal_at) (leb-true _ _ (sym (sum d.After-is_artifact) ∙ c.if-is_artifact.true)) in
-    c.then-all.ensures
+    added d.After-is_artifact
     ∙ ap (λ (n : ℕ). c.loop-t.all + n) one.1
     ∙ last_pair _ _ _ _ _ _ _ _ _ c.roots_tried-t-items.ensures c.loop-p.invariant.1 c.loop-p.invariant.0 c.loop-p-test.true _ _ c.loop-t.invariant.1 _ _ (comes d.After-diagonal_at) c.loop-t.invariant.0 one.0
 
@@ -95,7 +95,7 @@ pub loop-t-preserved : goal.loop-t-preserved
 loop-t-preserved c =
     let d = goal.at.loop-t-preserved c in
     let none = clear _ _ _ _ c.diagonal_at.ensures (leb-false _ _ (sym (sum d.After-is_artifact) ∙ c.if-is_artifact.false)) in
-    (none_last _ _ _ c.loop-t.invariant.0 none.0, c.then-all.ensures ∙ omega (arith, c.loop-t.invariant.1, none.1, last_spent _ (diagonal_tests_at c.args.m.now c.loop-p.p) c.loop-t.yielded c.in-Some.t c.loop-t.invariant.0))
+    (none_last _ _ _ c.loop-t.invariant.0 none.0, added d.After-is_artifact ∙ omega (arith, c.loop-t.invariant.1, none.1, last_spent _ (diagonal_tests_at c.args.m.now c.loop-p.p) c.loop-t.yielded c.in-Some.t c.loop-t.invariant.0))
 
 pub loop-p-preserved : goal.loop-p-preserved
 loop-p-preserved c =
