@@ -96,10 +96,10 @@ fn is_corner(a: u8, b: u8) -> bool
 }
 
 // Segment i of a contour, where it is a corner.
-fn protect_corner(stencil: &mut [u8], b: Window, contours: Contours, c: Contour, i: usize)
+fn protect_corner(stencil: &mut [u8], b: Window, contours: &Contours, c: Contour, i: usize)
     requires stencilled { Stencilled b stencil.old }
-    requires from_le_i { (c.from ≤ i) × (i < c.end) × (c.end ≤ length contours.outline.colours.now) }
-    ensures { CellsPasted b stencil.old stencil.new (painted at_corner (λ k. corner_hits contours.entry.outline.colours.now contours.entry.outline.coords.now c.from c.end i (k % b.width) (k / b.width)) (cut_cells b stencil.old)) }
+    requires from_le_i { (c.from ≤ i) × (i < c.end) × (c.end ≤ length contours.now.outline.colours.now) }
+    ensures { CellsPasted b stencil.old stencil.new (painted at_corner (λ k. corner_hits contours.now.outline.colours.now contours.now.outline.coords.now c.from c.end i (k % b.width) (k / b.width)) (cut_cells b stencil.old)) }
 {
     let o = contours.outline;
     let j = c.previous(i);
@@ -109,10 +109,10 @@ fn protect_corner(stencil: &mut [u8], b: Window, contours: Contours, c: Contour,
 }
 
 // One contour.
-fn protect_contour(stencil: &mut [u8], b: Window, contours: Contours, c: Contour)
+fn protect_contour(stencil: &mut [u8], b: Window, contours: &Contours, c: Contour)
     requires stencilled { Stencilled b stencil.old }
-    requires from_le_end { (c.from ≤ c.end) × (c.end ≤ length contours.outline.colours.now) }
-    ensures { CellsPasted b stencil.old stencil.new (painted at_corner (λ k. contour_hits contours.entry.outline.colours.now contours.entry.outline.coords.now c.from c.end (k % b.width) (k / b.width)) (cut_cells b stencil.old)) }
+    requires from_le_end { (c.from ≤ c.end) × (c.end ≤ length contours.now.outline.colours.now) }
+    ensures { CellsPasted b stencil.old stencil.new (painted at_corner (λ k. contour_hits contours.now.outline.colours.now contours.now.outline.coords.now c.from c.end (k % b.width) (k / b.width)) (cut_cells b stencil.old)) }
 {
     for i in c.from..c.end {
         protect_corner(stencil, b, contours, c, i);
@@ -120,9 +120,9 @@ fn protect_contour(stencil: &mut [u8], b: Window, contours: Contours, c: Contour
 }
 
 // All contours; an empty one is skipped.
-pub fn protect_corners(stencil: &mut [u8], b: Window, contours: Contours)
+pub fn protect_corners(stencil: &mut [u8], b: Window, contours: &Contours)
     requires { Stencilled b stencil.old }
-    ensures { CellsPasted b stencil.old stencil.new (painted at_corner (λ k. Corners.corners_protect (Corners.contours contours.entry.outline.colours.now contours.entry.outline.coords.now contours.entry.outline.ends.now) (k % b.width) (k / b.width)) (cut_cells b stencil.old)) }
+    ensures { CellsPasted b stencil.old stencil.new (painted at_corner (λ k. Corners.corners_protect (Corners.contours contours.now.outline.colours.now contours.now.outline.coords.now contours.now.outline.ends.now) (k % b.width) (k / b.width)) (cut_cells b stencil.old)) }
 {
     let mut from = 0usize;
     for &end in contours.outline.ends {

@@ -19,11 +19,11 @@ fn protect(
     b: Window,
     mode: Mode,
     s: Settings,
-    contours: Contours,
+    contours: &Contours,
 )
     requires sampled { Sampled b xs.now × (2 * b.width ≤ length room.old) }
     requires stencilled { Stencilled b stencil.old × Cleared b stencil.old }
-    ensures { CellsPasted b stencil.old stencil.new (shielded_cells (cut_out b xs.now (mode_number mode) s contours.entry.outline.colours.now contours.entry.outline.coords.now contours.entry.outline.ends.now)) }
+    ensures { CellsPasted b stencil.old stencil.new (shielded_cells (cut_out b xs.now (mode_number mode) s contours.now.outline.colours.now contours.now.outline.coords.now contours.now.outline.ends.now)) }
 {
     match mode {
         Mode::EdgeOnly => window::protect_all(stencil, b),
@@ -43,13 +43,13 @@ pub fn correct(
     b: Window,
     mode: Mode,
     s: Settings,
-    contours: Contours,
+    contours: &Contours,
 ) -> usize
     requires sampled { Sampled b xs.old × (2 * b.width ≤ length room.old) }
     requires stencilled { Stencilled b stencil.old × Cleared b stencil.old }
-    ensures makes { result ≡ Pass.pass_tests (cut_out b xs.old (mode_number mode) s contours.entry.outline.colours.now contours.entry.outline.coords.now contours.entry.outline.ends.now) }
-    ensures leaves { CellsPasted b stencil.old stencil.new (Pass.pass_stencil (cut_out b xs.old (mode_number mode) s contours.entry.outline.colours.now contours.entry.outline.coords.now contours.entry.outline.ends.now)) }
-    ensures writes { SamplesPasted b xs.old xs.new (Pass.pass_samples (cut_out b xs.old (mode_number mode) s contours.entry.outline.colours.now contours.entry.outline.coords.now contours.entry.outline.ends.now)) }
+    ensures makes { result ≡ Pass.pass_tests (cut_out b xs.old (mode_number mode) s contours.now.outline.colours.now contours.now.outline.coords.now contours.now.outline.ends.now) }
+    ensures leaves { CellsPasted b stencil.old stencil.new (Pass.pass_stencil (cut_out b xs.old (mode_number mode) s contours.now.outline.colours.now contours.now.outline.coords.now contours.now.outline.ends.now)) }
+    ensures writes { SamplesPasted b xs.old xs.new (Pass.pass_samples (cut_out b xs.old (mode_number mode) s contours.now.outline.colours.now contours.now.outline.coords.now contours.now.outline.ends.now)) }
 {
     if let Mode::Disabled = mode {
         return 0;

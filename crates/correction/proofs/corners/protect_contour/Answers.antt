@@ -14,7 +14,7 @@ use Rattle.correction.proofs.corners.protect_contour.Invariants.{nth}
 pub loop-i-init : goal.loop-i-init
 loop-i-init c =
     let a = c.args in
-    let o = a.contours.outline in
+    let o = a.contours.now.outline in
     let f : ℕ → ℕ → Bool = nth a.b.width o.colours.now o.coords.now a.c.from a.c.end in
     record { low = omega arith; high = c.requires.from_le_end.0; done = rw (sub_self a.c.from) (stroke_zero at_corner a.b f a.stencil.now) }
 

@@ -12,13 +12,13 @@ use Rattle.correction.proofs.corners.protect_corners.Invariants.{nth}
 pub loop-end-init : goal.loop-end-init
 loop-end-init c =
     let a = c.args in
-    let o = a.contours.outline in
+    let o = a.contours.now.outline in
     record { high = omega arith; start = refl; done = stroke_zero at_corner a.b (nth a.b.width o.colours.now o.coords.now o.ends.now) a.stencil.now }
 
 pub protect_contour-requires : goal.protect_contour-requires
 protect_contour-requires c =
     let l = c.loop-end in
-    let o = c.args.contours.outlined in
+    let o = c.args.contours.now.outlined in
     let s = start_le o l.end-index c.loop-end-test.true in record { stencilled = stroke_still at_corner _ _ c.requires l.invariant.done; from_le_end = (omega (arith, l.invariant.start, s), o.within l.end-index c.loop-end-test.true) }
 
 pub loop-end-preserved : goal.loop-end-preserved
@@ -26,15 +26,15 @@ loop-end-preserved c =
     let l = c.loop-end in
     record {
       high = omega (arith, c.loop-end-test.true);
-      start = start_next c.args.contours.outline.ends.now l.end-index;
+      start = start_next c.args.contours.now.outline.ends.now l.end-index;
       done = stroke_turn at_corner _ both_again _ _ _ l.invariant.done (λ k. rw l.invariant.start) c.protect_contour.ensures;
     }
 
 pub returns : goal.returns
 returns c =
     let v = c.loop-end.invariant in
-    let e : c.loop-end.end-index ≡ length c.args.contours.outline.ends.now = omega (arith, v.high) in
-    stroke_same at_corner _ _ _ (λ k l. corners_at _ _ _ c.args.contours.outlined _ _) (rw e at v.done)
+    let e : c.loop-end.end-index ≡ length c.args.contours.now.outline.ends.now = omega (arith, v.high) in
+    stroke_same at_corner _ _ _ (λ k l. corners_at _ _ _ c.args.contours.now.outlined _ _) (rw e at v.done)
 
 pub shape_of-stencil : goal.shape_of-stencil
 shape_of-stencil c = c.loop-end.invariant.done.long
