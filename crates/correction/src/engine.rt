@@ -56,7 +56,7 @@ pub fn correct(
     }
     protect(stencil, xs, room, b, mode, s, contours);
     orders::write_orders(stencil, xs, b);
-    let tests = errors::find_errors(stencil, xs, b, s);
+    let tests = errors::find_errors(stencil, xs, b, &s);
     collapse::apply(stencil, xs, b);
     tests
 }

@@ -112,16 +112,16 @@ fn alike(stencil: &[u8], b: Window, o: u8, x: usize, y: usize) -> bool
 fn side_artifact(
     xs: &[f32],
     at: usize,
-    s: Settings,
+    s: &Settings,
     upright: bool,
     protected: bool,
     am: f32,
     a: [f32; 3],
 ) -> Verdict
     requires { at + 2 < length xs.now }
-    ensures { result ≡ verdict (has_linear_artifact (side_span s upright) protected am a (samples_at xs.now at)) (linear_tests (side_span s upright) protected am a (samples_at xs.now at)) }
+    ensures { result ≡ verdict (has_linear_artifact (side_span s.now upright) protected am a (samples_at xs.now at)) (linear_tests (side_span s.now upright) protected am a (samples_at xs.now at)) }
 {
-    linear::has_linear_artifact(s, upright, protected, am, a, bitmap::samples_at(xs, at))
+    linear::has_linear_artifact(*s, upright, protected, am, a, bitmap::samples_at(xs, at))
 }
 
 // Texel a of t, of the order o, against its neighbour in the row at column nx, counted from 1.
@@ -129,7 +129,7 @@ fn row_artifact(
     stencil: &[u8],
     xs: &[f32],
     b: Window,
-    s: Settings,
+    s: &Settings,
     o: u8,
     protected: bool,
     t: Centre,
@@ -138,7 +138,7 @@ fn row_artifact(
     requires sampled { Sampled b xs.now }
     requires stencilled { Stencilled b stencil.now × Ordered b xs.now stencil.now }
     requires y_lt_height { (t.y < b.height) × (o ≡ order_code t.texel) }
-    ensures { result ≡ verdict (Errors.side_artifact (texel (cut_samples b xs.now) b.width b.channels) b.width b.height (side_span s false) protected t.median t.texel nx (t.y + 1)) (Errors.side_tests (texel (cut_samples b xs.now) b.width b.channels) b.width b.height (side_span s false) protected t.median t.texel nx (t.y + 1)) }
+    ensures { result ≡ verdict (Errors.side_artifact (texel (cut_samples b xs.now) b.width b.channels) b.width b.height (side_span s.now false) protected t.median t.texel nx (t.y + 1)) (Errors.side_tests (texel (cut_samples b xs.now) b.width b.channels) b.width b.height (side_span s.now false) protected t.median t.texel nx (t.y + 1)) }
 {
     if 0 < nx && nx <= b.width {
         if !alike(stencil, b, o, nx - 1, t.y) {
@@ -155,7 +155,7 @@ fn column_artifact(
     stencil: &[u8],
     xs: &[f32],
     b: Window,
-    s: Settings,
+    s: &Settings,
     o: u8,
     protected: bool,
     t: Centre,
@@ -164,7 +164,7 @@ fn column_artifact(
     requires sampled { Sampled b xs.now }
     requires stencilled { Stencilled b stencil.now × Ordered b xs.now stencil.now }
     requires x_lt_width { (t.x < b.width) × (o ≡ order_code t.texel) }
-    ensures { result ≡ verdict (Errors.side_artifact (texel (cut_samples b xs.now) b.width b.channels) b.width b.height (side_span s true) protected t.median t.texel (t.x + 1) ny) (Errors.side_tests (texel (cut_samples b xs.now) b.width b.channels) b.width b.height (side_span s true) protected t.median t.texel (t.x + 1) ny) }
+    ensures { result ≡ verdict (Errors.side_artifact (texel (cut_samples b xs.now) b.width b.channels) b.width b.height (side_span s.now true) protected t.median t.texel (t.x + 1) ny) (Errors.side_tests (texel (cut_samples b xs.now) b.width b.channels) b.width b.height (side_span s.now true) protected t.median t.texel (t.x + 1) ny) }
 {
     if 0 < ny && ny <= b.height {
         if !alike(stencil, b, o, t.x, ny - 1) {
@@ -197,7 +197,7 @@ fn diagonal_artifact(
     row: usize,
     column: usize,
     across: usize,
-    s: Settings,
+    s: &Settings,
     protected: bool,
     am: f32,
     a: [f32; 3],
@@ -205,7 +205,7 @@ fn diagonal_artifact(
 ) -> Verdict
     requires row_in_bounds { (row + 2 < length xs.now) × (column + 2 < length xs.now) × (across + 2 < length xs.now) }
     requires doubts { Doubts doubt (four_at xs.now a row column across) }
-    ensures { result ≡ verdict (has_diagonal_artifact (diagonal_span s) protected am (four_at xs.now a row column across)) (diagonal_tests (diagonal_span s) protected am (four_at xs.now a row column across)) }
+    ensures { result ≡ verdict (has_diagonal_artifact (diagonal_span s.now) protected am (four_at xs.now a row column across)) (diagonal_tests (diagonal_span s.now) protected am (four_at xs.now a row column across)) }
 {
     let d = bitmap::samples_at(xs, across);
     let far = texel::median(d);
@@ -217,7 +217,7 @@ fn diagonal_artifact(
             bitmap::samples_at(xs, column),
             d,
         ];
-        return diagonal::has_guarded_artifact(s, protected, am, dm, m, doubt);
+        return diagonal::has_guarded_artifact(*s, protected, am, dm, m, doubt);
     }
     Verdict::NONE
 }
@@ -227,7 +227,7 @@ fn lower_artifact(
     stencil: &[u8],
     xs: &[f32],
     b: Window,
-    s: Settings,
+    s: &Settings,
     o: u8,
     protected: bool,
     t: Centre,
@@ -236,7 +236,7 @@ fn lower_artifact(
     requires sampled { Sampled b xs.now }
     requires stencilled { Stencilled b stencil.now × Ordered b xs.now stencil.now }
     requires x_lt_width { (t.x < b.width) × (t.y < b.height) × (o ≡ order_code t.texel) }
-    ensures { result ≡ verdict (Errors.diagonal_artifact (texel (cut_samples b xs.now) b.width b.channels) b.width b.height (diagonal_span s) protected t.median t.texel t.x t.y nx t.y) (Errors.across_tests (texel (cut_samples b xs.now) b.width b.channels) b.width b.height (diagonal_span s) protected t.median t.texel t.x t.y nx t.y) }
+    ensures { result ≡ verdict (Errors.diagonal_artifact (texel (cut_samples b xs.now) b.width b.channels) b.width b.height (diagonal_span s.now) protected t.median t.texel t.x t.y nx t.y) (Errors.across_tests (texel (cut_samples b xs.now) b.width b.channels) b.width b.height (diagonal_span s.now) protected t.median t.texel t.x t.y nx t.y) }
 {
     if 0 < t.y && (0 < nx && nx <= b.width) {
         let q = doubt_towards(stencil, b, o, t, nx - 1, t.y - 1);
@@ -256,7 +256,7 @@ fn upper_artifact(
     stencil: &[u8],
     xs: &[f32],
     b: Window,
-    s: Settings,
+    s: &Settings,
     o: u8,
     protected: bool,
     t: Centre,
@@ -265,7 +265,7 @@ fn upper_artifact(
     requires sampled { Sampled b xs.now }
     requires stencilled { Stencilled b stencil.now × Ordered b xs.now stencil.now }
     requires x_lt_width { (t.x < b.width) × (t.y < b.height) × (o ≡ order_code t.texel) }
-    ensures { result ≡ verdict (Errors.diagonal_artifact (texel (cut_samples b xs.now) b.width b.channels) b.width b.height (diagonal_span s) protected t.median t.texel t.x t.y nx (t.y + 2)) (Errors.across_tests (texel (cut_samples b xs.now) b.width b.channels) b.width b.height (diagonal_span s) protected t.median t.texel t.x t.y nx (t.y + 2)) }
+    ensures { result ≡ verdict (Errors.diagonal_artifact (texel (cut_samples b xs.now) b.width b.channels) b.width b.height (diagonal_span s.now) protected t.median t.texel t.x t.y nx (t.y + 2)) (Errors.across_tests (texel (cut_samples b xs.now) b.width b.channels) b.width b.height (diagonal_span s.now) protected t.median t.texel t.x t.y nx (t.y + 2)) }
 {
     if t.y + 1 < b.height && (0 < nx && nx <= b.width) {
         let q = doubt_towards(stencil, b, o, t, nx - 1, t.y + 1);
@@ -285,7 +285,7 @@ fn some_artifact(
     stencil: &[u8],
     xs: &[f32],
     b: Window,
-    s: Settings,
+    s: &Settings,
     o: u8,
     protected: bool,
     t: Centre,
@@ -293,7 +293,7 @@ fn some_artifact(
     requires sampled { Sampled b xs.now }
     requires stencilled { Stencilled b stencil.now × Ordered b xs.now stencil.now }
     requires x_lt_width { (t.x < b.width) × (t.y < b.height) × (o ≡ order_code t.texel) }
-    ensures { result ≡ verdict (Errors.some_artifact (texel (cut_samples b xs.now) b.width b.channels) b.width b.height s protected t.median t.texel t.x t.y) (Errors.some_made (texel (cut_samples b xs.now) b.width b.channels) b.width b.height s protected t.median t.texel t.x t.y) }
+    ensures { result ≡ verdict (Errors.some_artifact (texel (cut_samples b xs.now) b.width b.channels) b.width b.height s.now protected t.median t.texel t.x t.y) (Errors.some_made (texel (cut_samples b xs.now) b.width b.channels) b.width b.height s.now protected t.median t.texel t.x t.y) }
 {
     let left = t.x;
     let low = t.y;
@@ -335,7 +335,7 @@ fn verdict_at(
     stencil: &[u8],
     xs: &[f32],
     b: Window,
-    s: Settings,
+    s: &Settings,
     v: u8,
     x: usize,
     y: usize,
@@ -343,7 +343,7 @@ fn verdict_at(
     requires sampled { Sampled b xs.now }
     requires stencilled { Stencilled b stencil.now × Ordered b xs.now stencil.now }
     requires x_lt_width { (x < b.width) × (y < b.height) × (v ≡ get_or stencil.now (cell_in b x y) 0) }
-    ensures { result ≡ verdict (Errors.has_artifact (texel (cut_samples b xs.now) b.width b.channels) b.width b.height s (is_protected v) x y) (made_for (cut_samples b xs.now) b.width b.height b.channels s v x y) }
+    ensures { result ≡ verdict (Errors.has_artifact (texel (cut_samples b xs.now) b.width b.channels) b.width b.height s.now (is_protected v) x y) (made_for (cut_samples b xs.now) b.width b.height b.channels s.now v x y) }
 {
     let t = bitmap::centre_at(xs, b, x, y);
     some_artifact(
@@ -369,12 +369,12 @@ fn marked_byte(v: u8, found: Verdict) -> u8
 }
 
 // Sets the error bit of each flagged texel's cell in row y, and answers how many range tests that took. Settled texels are passed over.
-fn find_in_row(stencil: &mut [u8], xs: &[f32], b: Window, s: Settings, y: usize) -> usize
+fn find_in_row(stencil: &mut [u8], xs: &[f32], b: Window, s: &Settings, y: usize) -> usize
     requires sampled { Sampled b xs.now }
     requires stencilled { Stencilled b stencil.old × Ordered b xs.now stencil.old }
     requires y_lt_height { y < b.height }
-    ensures finds { CellsPasted b stencil.old stencil.new (row_found (cut_samples b xs.now) b.width b.height b.channels s y (cut_cells b stencil.old)) }
-    ensures makes { result ≡ row_made (cut_samples b xs.now) b.width b.height b.channels s y (cut_cells b stencil.old) }
+    ensures finds { CellsPasted b stencil.old stencil.new (row_found (cut_samples b xs.now) b.width b.height b.channels s.now y (cut_cells b stencil.old)) }
+    ensures makes { result ≡ row_made (cut_samples b xs.now) b.width b.height b.channels s.now y (cut_cells b stencil.old) }
 {
     let first = column(stencil, b, 0, y);
     let start = Scan {
@@ -397,11 +397,11 @@ fn find_in_row(stencil: &mut [u8], xs: &[f32], b: Window, s: Settings, y: usize)
 }
 
 // Sets the error bit of each flagged texel's cell, and answers how many range tests that took.
-pub fn find_errors(stencil: &mut [u8], xs: &[f32], b: Window, s: Settings) -> usize
+pub fn find_errors(stencil: &mut [u8], xs: &[f32], b: Window, s: &Settings) -> usize
     requires sampled { Sampled b xs.now }
     requires stencilled { Stencilled b stencil.old × Ordered b xs.now stencil.old }
-    ensures finds { CellsPasted b stencil.old stencil.new (found (cut_samples b xs.now) b.width b.height b.channels s (cut_cells b stencil.old)) }
-    ensures makes { result ≡ made_in (cut_samples b xs.now) b.width b.height b.channels s (cut_cells b stencil.old) }
+    ensures finds { CellsPasted b stencil.old stencil.new (found (cut_samples b xs.now) b.width b.height b.channels s.now (cut_cells b stencil.old)) }
+    ensures makes { result ≡ made_in (cut_samples b xs.now) b.width b.height b.channels s.now (cut_cells b stencil.old) }
 {
     let mut tests = 0usize;
     for y in 0..b.height {

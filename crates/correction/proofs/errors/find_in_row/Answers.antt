@@ -27,7 +27,7 @@ loop-at-init c =
     let a = c.args in
     let p = c.requires in
     let q = c.settle-at.ensures in
-    (found_run a.b a.xs.now a.s a.stencil.now a.y p.stencilled.0 p.stencilled.1 p.y_lt_height (found_none a.b a.xs.now a.s a.stencil.now a.y p.stencilled.0 p.stencilled.1 p.y_lt_height) _ q.1 q.0.few q.2, q.0)
+    (found_run a.b a.xs.now a.s.now a.stencil.now a.y p.stencilled.0 p.stencilled.1 p.y_lt_height (found_none a.b a.xs.now a.s.now a.stencil.now a.y p.stencilled.0 p.stencilled.1 p.y_lt_height) _ q.1 q.0.few q.2, q.0)
 
 -- what a turn finds before it stores
 module _ (c : In-loop-at) where
@@ -65,7 +65,7 @@ module _ (c : After-marked_byte) where
   abbrev st : List ℕ
   st = set c.loop-at.stencil k c.marked_byte.result
 
-  found : Found c.args.b c.args.xs.now c.args.s c.args.stencil.now c.args.y (c.loop-at.at.x + 1) st (c.loop-at.tests + c.verdict_at-v.result % 128)
+  found : Found c.args.b c.args.xs.now c.args.s.now c.args.stencil.now c.args.y (c.loop-at.at.x + 1) st (c.loop-at.tests + c.verdict_at-v.result % 128)
   found = found_next _ _ _ _ _ c.requires.stencilled.0 c.requires.stencilled.1 c.requires.y_lt_height c.loop-at.invariant.0 k c.loop-at-test.true c.cell-k.ensures c.verdict_at-v.ensures c.marked_byte.ensures
 
   scanned : Scanned c.args.b st c.args.y c.loop-at.at
@@ -89,8 +89,8 @@ loop-at-preserved c =
     let p = c.requires in
     let q = c.settle-at-in-loop-at.ensures in
     let e : c.step.result.x ≡ c.loop-at.at.x + 1 = c.step.ensures.0 in
-    let i : Found c.args.b c.args.xs.now c.args.s c.args.stencil.now c.args.y c.step.result.x (st (goal.at.loop-at-preserved c).After-marked_byte) (c.loop-at.tests + c.verdict_at-v.result % 128) =
-    subst (λ (x : ℕ). Found c.args.b c.args.xs.now c.args.s c.args.stencil.now c.args.y x (st (goal.at.loop-at-preserved c).After-marked_byte) (c.loop-at.tests + c.verdict_at-v.result % 128)) (sym e) (found (goal.at.loop-at-preserved c).After-marked_byte) in
+    let i : Found c.args.b c.args.xs.now c.args.s.now c.args.stencil.now c.args.y c.step.result.x (st (goal.at.loop-at-preserved c).After-marked_byte) (c.loop-at.tests + c.verdict_at-v.result % 128) =
+    subst (λ (x : ℕ). Found c.args.b c.args.xs.now c.args.s.now c.args.stencil.now c.args.y x (st (goal.at.loop-at-preserved c).After-marked_byte) (c.loop-at.tests + c.verdict_at-v.result % 128)) (sym e) (found (goal.at.loop-at-preserved c).After-marked_byte) in
     (rw c.tests-tests.ensures (found_run _ _ _ _ _ p.stencilled.0 p.stencilled.1 p.y_lt_height i _ q.1 q.0.few q.2), found_kept _ _ _ _ _ p.stencilled.0 p.stencilled.1 p.y_lt_height (found (goal.at.loop-at-preserved c).After-marked_byte) q.0)
 
 pub shape_of-stencil : goal.shape_of-stencil

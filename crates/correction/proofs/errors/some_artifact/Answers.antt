@@ -61,7 +61,7 @@ module _ (tex : ℕ → ℕ → List Float) (w h : ℕ) (s : Settings) (protecte
 
 -- the neighbours of the texel that is given
 abbrev of : Start → ℕ → ℕ
-of c = let a = c.args in towards (texel (cut_samples a.b a.xs.now) a.b.width a.b.channels) a.b.width a.b.height a.s a.protected a.t.median a.t.texel a.t.x a.t.y
+of c = let a = c.args in towards (texel (cut_samples a.b a.xs.now) a.b.width a.b.channels) a.b.width a.b.height a.s.now a.protected a.t.median a.t.texel a.t.x a.t.y
 
 -- the verdict after each of them
 after1 : (c : After-row_artifact-v1) → c.row_artifact-v1.result ≡ up_to 1 (of (goal.at.After-row_artifact-v1 c).Start)
