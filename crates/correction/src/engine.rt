@@ -18,18 +18,18 @@ fn protect(
     room: &mut [f32],
     b: Window,
     mode: Mode,
-    s: Settings,
+    s: &Settings,
     contours: &Contours,
 )
     requires sampled { Sampled b xs.now × (2 * b.width ≤ length room.old) }
     requires stencilled { Stencilled b stencil.old × Cleared b stencil.old }
-    ensures { CellsPasted b stencil.old stencil.new (shielded_cells (cut_out b xs.now (mode_number mode) s contours.now.outline.colours.now contours.now.outline.coords.now contours.now.outline.ends.now)) }
+    ensures { CellsPasted b stencil.old stencil.new (shielded_cells (cut_out b xs.now (mode_number mode) s.now contours.now.outline.colours.now contours.now.outline.coords.now contours.now.outline.ends.now)) }
 {
     match mode {
         Mode::EdgeOnly => window::protect_all(stencil, b),
         Mode::EdgePriority => {
             corners::protect_corners(stencil, b, contours);
-            edges::protect_edges(stencil, xs, room, b, s);
+            edges::protect_edges(stencil, xs, room, b, *s);
         }
         Mode::Disabled | Mode::Indiscriminate => {}
     }
@@ -42,21 +42,21 @@ pub fn correct(
     room: &mut [f32],
     b: Window,
     mode: Mode,
-    s: Settings,
+    s: &Settings,
     contours: &Contours,
 ) -> usize
     requires sampled { Sampled b xs.old × (2 * b.width ≤ length room.old) }
     requires stencilled { Stencilled b stencil.old × Cleared b stencil.old }
-    ensures makes { result ≡ Pass.pass_tests (cut_out b xs.old (mode_number mode) s contours.now.outline.colours.now contours.now.outline.coords.now contours.now.outline.ends.now) }
-    ensures leaves { CellsPasted b stencil.old stencil.new (Pass.pass_stencil (cut_out b xs.old (mode_number mode) s contours.now.outline.colours.now contours.now.outline.coords.now contours.now.outline.ends.now)) }
-    ensures writes { SamplesPasted b xs.old xs.new (Pass.pass_samples (cut_out b xs.old (mode_number mode) s contours.now.outline.colours.now contours.now.outline.coords.now contours.now.outline.ends.now)) }
+    ensures makes { result ≡ Pass.pass_tests (cut_out b xs.old (mode_number mode) s.now contours.now.outline.colours.now contours.now.outline.coords.now contours.now.outline.ends.now) }
+    ensures leaves { CellsPasted b stencil.old stencil.new (Pass.pass_stencil (cut_out b xs.old (mode_number mode) s.now contours.now.outline.colours.now contours.now.outline.coords.now contours.now.outline.ends.now)) }
+    ensures writes { SamplesPasted b xs.old xs.new (Pass.pass_samples (cut_out b xs.old (mode_number mode) s.now contours.now.outline.colours.now contours.now.outline.coords.now contours.now.outline.ends.now)) }
 {
     if let Mode::Disabled = mode {
         return 0;
     }
     protect(stencil, xs, room, b, mode, s, contours);
     orders::write_orders(stencil, xs, b);
-    let tests = errors::find_errors(stencil, xs, b, &s);
+    let tests = errors::find_errors(stencil, xs, b, s);
     collapse::apply(stencil, xs, b);
     tests
 }

@@ -67,7 +67,7 @@ pub fn msdf_error_correction(
     };
     let (mode, contours) = window::check(samples, g, mode, settings, outline)?;
     stencil::fill(stencil, 0);
-    let tests = engine::correct(stencil, samples, room, g, mode, settings, &contours);
+    let tests = engine::correct(stencil, samples, room, g, mode, &settings, &contours);
     room::clear(room);
     Ok(Corrected {
         counts: stencil::count_cells(stencil),

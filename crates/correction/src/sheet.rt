@@ -127,7 +127,7 @@ fn correct_cell(
     let contours = Contours {
         outline: k.outline(outline),
     };
-    let tests = engine::correct(stencil, xs, room, k.window, mode, k.settings, &contours);
+    let tests = engine::correct(stencil, xs, room, k.window, mode, &k.settings, &contours);
     Corrected {
         counts: window::count_cells(stencil, k.window),
         tests,
