@@ -65,7 +65,7 @@ pub fn msdf_error_correction(
         coords,
         ends,
     };
-    let (mode, contours) = window::check(samples, g, mode, settings, outline)?;
+    let (mode, contours) = window::check(samples, g, mode, &settings, &outline)?;
     stencil::fill(stencil, 0);
     let tests = engine::correct(stencil, samples, room, g, mode, &settings, &contours);
     room::clear(room);

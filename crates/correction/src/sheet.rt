@@ -36,7 +36,8 @@ fn check_cell<'a>(
     ensures places { content_place_in result ≡ place_of (Sheet.alone (sheet b.width b.height b.channels xs.now [] [] cells.now modes.now settings.now outline.entry.colours.now outline.entry.coords.now outline.entry.ends.now) c) (content_number_in result) }
 {
     let k = cells::cell_at(b, cells, settings, c);
-    window::check(xs, k.window, modes[c], k.settings, k.outline(outline))
+    let s = k.settings;
+    window::check(xs, k.window, modes[c], &s, &k.outline(outline))
 }
 
 // Those of all cells, first cell first.
@@ -123,11 +124,12 @@ fn correct_cell(
     ensures writes { SamplesPasted (Sheet.window_at (sheet b.width b.height b.channels xs.old stencil.old [] cells.now modes.now settings.now outline.entry.colours.now outline.entry.coords.now outline.entry.ends.now) c) xs.old xs.new (pass_samples (Sheet.alone (sheet b.width b.height b.channels xs.old stencil.old [] cells.now modes.now settings.now outline.entry.colours.now outline.entry.coords.now outline.entry.ends.now) c)) }
 {
     let k = cells::cell_at(b, cells, settings, c);
+    let s = k.settings;
     let mode = Mode::of(modes[c]).unwrap();
     let contours = Contours {
         outline: k.outline(outline),
     };
-    let tests = engine::correct(stencil, xs, room, k.window, mode, &k.settings, &contours);
+    let tests = engine::correct(stencil, xs, room, k.window, mode, &s, &contours);
     Corrected {
         counts: window::count_cells(stencil, k.window),
         tests,

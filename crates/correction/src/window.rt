@@ -95,16 +95,16 @@ pub fn check<'a>(
     xs: &[f32],
     b: Window,
     mode: u8,
-    s: Settings,
-    o: Outline<'a>,
+    s: &Settings,
+    o: &Outline<'a>,
 ) -> Result<(Mode, Contours<'a>), ContentRefusal>
     requires { Sampled b xs.now }
-    ensures numbers { content_number_in result ≡ Checks.content_refusal (input b.width b.height b.channels (cut_samples b xs.now) [] [] mode s o.entry.colours.now o.entry.coords.now o.entry.ends.now) }
-    ensures places { content_place_in result ≡ Checks.place_of (input b.width b.height b.channels (cut_samples b xs.now) [] [] mode s o.entry.colours.now o.entry.coords.now o.entry.ends.now) (content_number_in result) }
+    ensures numbers { content_number_in result ≡ Checks.content_refusal (input b.width b.height b.channels (cut_samples b xs.now) [] [] mode s.now o.now.colours.now o.now.coords.now o.now.ends.now) }
+    ensures places { content_place_in result ≡ Checks.place_of (input b.width b.height b.channels (cut_samples b xs.now) [] [] mode s.now o.now.colours.now o.now.coords.now o.now.ends.now) (content_number_in result) }
     ensures modes { IfOk result (λ c. mode_number c.0 ≡ mode) }
-    ensures same { IfOk result (λ c. c.1.outline ≡ o.entry) }
+    ensures same { IfOk result (λ c. c.1.outline ≡ o.now) }
 {
-    let m = checks::check_settings(mode, s)?;
+    let m = checks::check_settings(mode, *s)?;
     if let Some(p) = first_bad_sample(xs, b) {
         return Err(ContentRefusal::Sample(p));
     }

@@ -15,7 +15,7 @@ use Rattle.correction.proofs.window.check.Goals.{Start, In_default}
 
 -- the window as a bitmap alone
 abbrev given : Start → Input
-given c = let a = c.args in input a.b.width a.b.height a.b.channels (cut_samples a.b a.xs.now) [] [] a.mode a.s a.o.colours.now a.o.coords.now a.o.ends.now
+given c = let a = c.args in input a.b.width a.b.height a.b.channels (cut_samples a.b a.xs.now) [] [] a.mode a.s.now a.o.now.colours.now a.o.now.coords.now a.o.now.ends.now
 
 -- what is cut out has as many samples as the window
 full : (c : Start) {k : ℕ} → let b = c.args.b in k ≡ b.height * b.width * b.channels → k ≡ length (given c).samples
@@ -43,7 +43,7 @@ pub returns-in-Some-clause-places : goal.returns-in-Some-clause-places
 returns-in-Some-clause-places c = (samples_refuse (given (goal.at.returns-in-Some-clause-places c).Start) (settings_pass _ c.in_ok-m.ensures.numbers) (few (goal.at.returns-in-Some-clause-places c).Start c.in-Some.ensures)).1
 
 -- what checks 7 to 9 answer is what all of them do
-outlined : (c : In_default) {r o : ℕ} → let a = c.args in r ≡ outline_refusal a.o.colours.now a.o.coords.now a.o.ends.now → o ≡ outline_place a.o.colours.now a.o.coords.now a.o.ends.now r
+outlined : (c : In_default) {r o : ℕ} → let a = c.args in r ≡ outline_refusal a.o.now.colours.now a.o.now.coords.now a.o.now.ends.now → o ≡ outline_place a.o.now.colours.now a.o.now.coords.now a.o.now.ends.now r
     → (r ≡ content_refusal (given (goal.at.In_default c).Start)) × (o ≡ place_of (given (goal.at.In_default c).Start) r)
 outlined c = outline_refuses (given (goal.at.In_default c).Start) (settings_pass _ c.in_ok-m.ensures.numbers) (full (goal.at.In_default c).Start c.in_default.ensures)
 
