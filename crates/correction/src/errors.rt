@@ -108,7 +108,7 @@ fn alike(stencil: &[u8], b: Window, o: u8, x: usize, y: usize) -> bool
 }
 
 // Texel a, whose median is am, against the side neighbour whose samples stand from a place on, in its column where `upright`, else in its row.
-// The window and the centre are not handed on: either would be copied for every neighbour.
+// The window and the centre are not handed on, and the settings are lent: each would be copied for every neighbour.
 fn side_artifact(
     xs: &[f32],
     at: usize,

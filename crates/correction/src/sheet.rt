@@ -36,6 +36,7 @@ fn check_cell<'a>(
     ensures places { content_place_in result ≡ place_of (Sheet.alone (sheet b.width b.height b.channels xs.now [] [] cells.now modes.now settings.now outline.entry.colours.now outline.entry.coords.now outline.entry.ends.now) c) (content_number_in result) }
 {
     let k = cells::cell_at(b, cells, settings, c);
+    // Taken out of the cell: lent where they stand they would keep all of it on the stack.
     let s = k.settings;
     window::check(xs, k.window, modes[c], &s, &k.outline(outline))
 }
@@ -124,6 +125,7 @@ fn correct_cell(
     ensures writes { SamplesPasted (Sheet.window_at (sheet b.width b.height b.channels xs.old stencil.old [] cells.now modes.now settings.now outline.entry.colours.now outline.entry.coords.now outline.entry.ends.now) c) xs.old xs.new (pass_samples (Sheet.alone (sheet b.width b.height b.channels xs.old stencil.old [] cells.now modes.now settings.now outline.entry.colours.now outline.entry.coords.now outline.entry.ends.now) c)) }
 {
     let k = cells::cell_at(b, cells, settings, c);
+    // Taken out of the cell as for its checks.
     let s = k.settings;
     let mode = Mode::of(modes[c]).unwrap();
     let contours = Contours {
