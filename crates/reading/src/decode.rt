@@ -10,13 +10,14 @@ use crate::page::Page;
 use crate::reader;
 use ground::bytes;
 
-// The n samples of the row at a place.
+// The n samples of the row at a place. Its bytes are taken as one part: within it no sample's bytes have to be looked for.
 fn decode_row(s: &[u8], from: usize, n: usize, page: &mut Page<f32>)
     requires { (from + 3 + 4 * n ≤ length s.now) × (page.old.at + n ≤ length page.old.out.now) }
     ensures { Put page.old (Case.row_samples s.now from n) page.new }
 {
+    let row = &s[from + 3..from + 3 + 4 * n];
     for j in 0..n {
-        page.put(bytes::f32_at(s, from + 3 + 4 * j));
+        page.put(bytes::f32_at(row, 4 * j));
     }
 }
 
