@@ -91,7 +91,7 @@ pub extern "C" fn rungtwine_floor(x: f64) -> i64
     rounding::floor_to_i64(x)
 }
 
-// How many roots an answer has, by its case: the iterator's `count` takes them one by one, and a call with one root half as long again.
+// How many roots an answer has, by its case: the iterator's `count` takes them one by one, which makes a call up to twice as long.
 fn counted(r: Roots) -> usize
     ensures { result ≡ length (listed r) }
 {
